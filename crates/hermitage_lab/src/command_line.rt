@@ -1,12 +1,8 @@
 //! The command line: subcommands and their arguments.
 
-ghost use Rattle.std.specs.Prelude.{◌≡◌};
-ghost use Rattle.std.specs.Str.{bytes_eq};
-ghost use Rattle.hermitage_lab.specs.Arguments.{engine_name, level_named};
-
 use crate::help;
 use clap::{Arg, ArgAction, Command};
-use lab_engine::Level;
+use lab_compare::ENGINES;
 use lab_matrix::CaseName;
 use lab_reports::{Phenomenon, Requirement};
 use std::alloc::{AllocError, Global};
@@ -14,47 +10,15 @@ use std::alloc::{AllocError, Global};
 /// The version, and what the program was proved with.
 const VERSION: &str = "1.0.0, proved with rattle-kit-13, logic dac8208d650f15bf";
 
-/// The levels of the engines.
-const LEVELS: [Level; 3] = [Level::Locking, Level::Committed, Level::Snapshot];
-
-/// The name of the engine of a level.
-fn engine_of(level: Level) -> &'static str
-    ensures { result.now ≡ engine_name level }
-{
-    match level {
-        Level::Locking => "locking",
-        Level::Committed => "committed",
-        Level::Snapshot => "snapshot",
-    }
-}
-
-/// Whether an argument is the name of the engine of a level.
-fn is_engine(argument: &str, level: Level) -> bool
-    ensures { result ≡ bytes_eq argument.now (engine_name level) }
-{
-    argument.as_bytes() == engine_of(level).as_bytes()
-}
-
-/// The level of the engine of this name; None where there is no such engine.
-pub fn level_of(engine: &str) -> Option<Level>
-    ensures { result ≡ level_named engine.now }
-{
-    if is_engine(engine, Level::Locking) {
-        Some(Level::Locking)
-    } else if is_engine(engine, Level::Committed) {
-        Some(Level::Committed)
-    } else if is_engine(engine, Level::Snapshot) {
-        Some(Level::Snapshot)
-    } else {
-        None
-    }
-}
+/// What a run may be written as in place of its log and report.
+pub static TELLINGS: [&str; 4] = ["explain", "picture", "page", "history"];
 
 /// The names that arguments may give.
 #[derive(Drop)]
 pub struct Names {
     pub cases: [&'static str; 10],
     pub engines: [&'static str; 3],
+    pub tellings: [&'static str; 4],
     pub phenomena: [&'static str; 7],
     pub requirements: [&'static str; 5],
 }
@@ -64,7 +28,8 @@ impl Names {
     pub fn all() -> Names {
         Names {
             cases: CaseName::ALL.map(|case| case.name()),
-            engines: LEVELS.map(|level| engine_of(level)),
+            engines: ENGINES,
+            tellings: TELLINGS,
             phenomena: Phenomenon::ALL.map(|phenomenon| phenomenon.name()),
             requirements: Requirement::ALL.map(|requirement| requirement.name()),
         }
@@ -109,13 +74,31 @@ fn plain_command<'a>(alloc: Global, name: &'a str, about: &'a str, whole: &'a st
 /// The subcommand `run`. NoMemory where an allocation was refused.
 fn run_command<'a>(alloc: Global, names: &'a Names) -> Result<Command<'a>, AllocError> {
     let engine = choice(alloc, "engine", help::ENGINE, names.engines.as_slice()).required(true);
-    let json = flag(alloc, "json", help::JSON).conflicts_with("history")?;
+    let telling = choice(alloc, "as", help::AS, names.tellings.as_slice());
+    let rows = flag(alloc, "rows", help::ROWS);
+    let json = flag(alloc, "json", help::JSON);
     plain_command(alloc, "run", help::RUN, help::RUN_WHOLE)
         .arg(engine)?
         .arg(flag(alloc, "free", help::FREE))?
         .arg(flag(alloc, "history", help::HISTORY))?
+        .arg(telling.conflicts_with("history")?)?
+        .arg(rows.conflicts_with("history")?.conflicts_with("as")?)?
         .arg(requirement(alloc, names))?
-        .arg(json)
+        .arg(
+            json.conflicts_with("history")?
+                .conflicts_with("as")?
+                .conflicts_with("rows")?,
+        )
+}
+
+/// The subcommand `compare`. NoMemory where an allocation was refused.
+fn compare_command<'a>(alloc: Global, names: &'a Names) -> Result<Command<'a>, AllocError> {
+    let engines = Arg::new(alloc, "engine")
+        .long("engine")
+        .help(help::COMPARED)
+        .action(ArgAction::Append)
+        .value_parser(names.engines.as_slice());
+    plain_command(alloc, "compare", help::COMPARE, help::COMPARE_WHOLE).arg(engines)
 }
 
 /// The subcommand `judge`. NoMemory where an allocation was refused.
@@ -245,6 +228,7 @@ pub fn command<'a>(alloc: Global, names: &'a Names) -> Result<Command<'a>, Alloc
     let serial = plain_command(alloc, "serial", help::SERIAL, help::SERIAL_WHOLE);
     let command = program(alloc).subcommand(serial)?;
     let command = with(command, run_command(alloc, names))?;
+    let command = with(command, compare_command(alloc, names))?;
     let command = with(command, judge_command(alloc, names))?;
     let command = with(command, batch_command(alloc, names))?;
     let command = with(command, chain_command(alloc, names))?;

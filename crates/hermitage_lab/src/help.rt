@@ -41,11 +41,14 @@ Plays a script's sessions on one of three engines, and judges what its recording
 Reads a script of up to four tables from standard input, as `serial` does. Writes the log to standard
 output, a line for each event, as `T1 begin: begun 1` or `T2 commit: refused WriteConflict row 1 by 1`;
 and then the ten lines of the report, as `judge` writes them. Where the input is no script, or its play
-is refused, writes one line that says so, as `line 3: NoSession` or `play: OverLimit entries`. With
-`--history` it writes a history file, of version 2, in place of log and report; with `--json` the report
-alone, as one line of JSON.
+is refused, writes one line that says so, as `line 3: NoSession` or `play: OverLimit entries`. With `--rows`
+the committed rows stand behind each event that ends a transaction, as `-- rows (1, 11), (2, 20)`. With
+`--history` it writes a history file, of version 2, in place of log and report; with `--as explain`,
+`--as picture` or `--as page` what these subcommands write of that file, and `--as history` is `--history`;
+with `--json` it writes the report alone, as one line of JSON.
 
     hermitage_lab run --engine snapshot < examples/both_doctors_leave.txt
+    hermitage_lab run --engine snapshot --as picture < examples/both_doctors_leave.txt > skew.svg
 
 The engines are `locking` (strict locks of rows and predicates), `committed` (each statement sees what
 has committed) and `snapshot` (each transaction sees what had committed at its begin; the first committer
@@ -56,6 +59,30 @@ pub const ENGINE: &str = "The engine that plays the script";
 pub const FREE: &str = "Plays each session by a thread of its own, in whichever order they come";
 
 pub const HISTORY: &str = "Writes the history file of the play in place of its log and report";
+
+pub const AS: &str =
+    "Writes what this subcommand writes of the play's history in place of log and report";
+
+pub const ROWS: &str = "Writes the committed rows behind each event that ends a transaction";
+
+pub const COMPARE: &str = "Plays a script on the engines, side by side";
+
+pub const COMPARE_WHOLE: &str = "\
+Plays a script on each engine, and writes what each of its lines came to, side by side.
+
+Reads a script from standard input, as `run` does. Writes to standard output for each command, in the
+script's order, what it was answered: once where all engines answer alike, as `T1 begin: begun 1`, else a
+line for each answer, as `  locking committed: waits T1; behind T1 commit: rows (1, 11)`. Behind a commit
+it writes the committed rows where the engines have other ones, as `  snapshot -- rows (1, 11), (2, 21)`,
+and in the end the committed rows. Below stand the level that the history of each engine meets, with `SI`
+where it is a snapshot run, as the matrix has it, and what `explain` says of its lowest phenomenon. Where
+the input is no script, or a play is refused, writes one line that says so.
+
+    hermitage_lab compare < examples/lost_update.txt
+    hermitage_lab compare --engine locking --engine snapshot < examples/both_doctors_leave.txt";
+
+pub const COMPARED: &str =
+    "An engine that is compared, any number of times; all where none is named";
 
 pub const REQUIRE: &str =
     "Asks for a level, or for a snapshot run, and ends with 1 where a report doesn't meet it";

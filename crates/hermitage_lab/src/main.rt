@@ -4,8 +4,10 @@
 mod command_line;
 mod files;
 mod help;
+mod playing;
 mod streams;
 mod told;
+mod told_as;
 mod wanting;
 
 ghost use Rattle.std.specs.Prelude.{◌≡◌, ◌≢◌, Ok, Err};
@@ -14,12 +16,13 @@ ghost use Rattle.clap.specs.declared.error.kind.ErrorKind.TheVariants.{DisplayHe
 
 use crate::command_line::Names;
 use crate::files::{Task, run_files};
+use crate::playing::{run_compare, run_play};
 use crate::streams::Streams;
 use crate::told::told;
 use crate::wanting::wanted;
 use clap::ArgMatches;
 use lab_case_commands::{case, matrix};
-use lab_commands::{judge, run, run_free, serial};
+use lab_commands::{judge, serial};
 use lab_explain::explain;
 use lab_hints::{Choices, note_words};
 use lab_matrix::CaseName;
@@ -73,38 +76,13 @@ fn report(rt: &HostRuntime, error: &clap::Error) -> Result<u8, RunFault>
 }
 
 /// The exit status of how a subcommand ended; a fault stays one.
-fn ended(ending: Result<Ending, RunFault>) -> Result<u8, RunFault> {
+pub fn ended(ending: Result<Ending, RunFault>) -> Result<u8, RunFault> {
     Ok(status(Ok(ending?)))
 }
 
 /// The phenomenon that is asked for, if there is one.
 fn asked(matches: &ArgMatches<'_>) -> Option<Phenomenon> {
     matches.get_str("phenomenon").and_then(Phenomenon::named)
-}
-
-/// Runs `run`, and answers the exit status.
-fn run_play<T: Threads + Wait + Sync, R: Read, W: Write, N: Write>(
-    rt: &T,
-    alloc: Global,
-    streams: Streams<'_, R, W, N>,
-    matches: &ArgMatches<'_>,
-) -> Result<u8, RunFault> {
-    let Some(level) = matches.get_str("engine").and_then(command_line::level_of) else {
-        return Ok(ARGUMENTS_REFUSED);
-    };
-    let Streams {
-        reader,
-        writer,
-        notes,
-        ..
-    } = streams;
-    let history = matches.get_flag("history");
-    let wanted = wanted(matches);
-    if matches.get_flag("free") {
-        ended(run_free(rt, alloc, reader, writer, notes, level, history, wanted))
-    } else {
-        ended(run(alloc, reader, writer, notes, level, history, wanted))
-    }
 }
 
 /// Runs `case`, and answers the exit status.
@@ -183,6 +161,9 @@ fn run_subcommand<T: Files + Threads + Wait + Sync, R: Read, W: Write, N: Write>
     }
     if subcommand == "shrink" {
         return run_shrink(alloc, streams, more);
+    }
+    if subcommand == "compare" {
+        return run_compare(alloc, streams, more);
     }
     let Streams {
         reader,

@@ -3,7 +3,8 @@
 use crate::streams::{Sink, Source};
 use lab_case_commands::{case as case_script, matrix};
 use lab_chain_commands::{Asked, chain, join};
-use lab_commands::{Progress, batch, judge, run, run_free, serial};
+use lab_commands::{Progress, Shown, batch, judge, run, run_free, serial};
+use lab_compare::{Engines, compare};
 use lab_engine::Level;
 use lab_explain::explain;
 use lab_matrix::CaseName;
@@ -25,11 +26,14 @@ pub enum Subcommand {
     Serial,
     Run {
         level: Level,
-        history: bool,
+        shown: Shown,
     },
     RunFree {
         level: Level,
-        history: bool,
+        shown: Shown,
+    },
+    Compare {
+        engines: Engines,
     },
     Judge,
     /// `judge` with its options.
@@ -125,12 +129,13 @@ pub fn given<T: Files + Threads + Wait + Sync, R: Read, W: Write, N: Write>(
 ) -> Result<u8, RunFault> {
     let ending = match subcommand {
         Subcommand::Serial => serial(alloc, reader, writer, notes),
-        Subcommand::Run { level, history } => {
-            run(alloc, reader, writer, notes, level, history, PLAIN)
+        Subcommand::Run { level, shown } => {
+            run(alloc, reader, writer, notes, level, shown, PLAIN)
         }
-        Subcommand::RunFree { level, history } => {
-            run_free(rt, alloc, reader, writer, notes, level, history, PLAIN)
+        Subcommand::RunFree { level, shown } => {
+            run_free(rt, alloc, reader, writer, notes, level, shown, PLAIN)
         }
+        Subcommand::Compare { engines } => compare(alloc, reader, writer, notes, engines),
         Subcommand::Judge => judge(alloc, reader, writer, notes, PLAIN),
         Subcommand::JudgeFor { wanted } => judge(alloc, reader, writer, notes, wanted),
         Subcommand::Picture { asked } => picture(alloc, reader, writer, notes, asked),

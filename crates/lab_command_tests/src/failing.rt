@@ -1,15 +1,16 @@
-//! Streams that fail or never end, and memory that is refused, for one case of each way that a subcommand ends.
+//! Streams that fail, and memory that is refused, for one case of each way that a subcommand ends.
 
 use crate::case::{Case, LINES, Subcommand, Task, given, status_of};
 use crate::chain::REPORTS;
 use crate::files::{Held, HeldFiles};
 use crate::judge::{ABORTED_READ, CUT, CUT_FILE, EMPTY};
 use crate::parts::ANSWER;
-use crate::run::{FREE_HISTORY, FREE_LEFT_OPEN, FREE_NO_SESSION, HISTORY, LEFT_OPEN};
+use crate::run::{FREE_HISTORY, FREE_LEFT_OPEN, FREE_NO_SESSION, HISTORY, LEFT_OPEN, ROWS};
 use crate::serial::{NO_SESSION, TWO_SESSIONS};
-use crate::streams::{Endless, FAULTS, Sink, Source};
+use crate::streams::{FAULTS, Sink, Source};
 use crate::words::{
-    EXPLANATION, LISTING, MATRIX, NO_EXPLANATION, NO_PICTURE, NO_SMALLER, PICTURE, SMALLER,
+    COMPARISON, EXPLANATION, LISTING, MATRIX, NO_COMPARISON, NO_EXPLANATION, NO_PICTURE,
+    NO_SMALLER, PICTURE, SMALLER,
 };
 use lab_refusal_tests::{refuse, was_refused};
 use lab_streams::RunFault;
@@ -21,11 +22,12 @@ use std::test::Fail;
 use std::thread::Threads;
 
 /// Cases that read.
-const READING: [Case; 15] = [
+const READING: [Case; 18] = [
     TWO_SESSIONS,
     NO_SESSION,
     LEFT_OPEN,
     HISTORY,
+    ROWS,
     FREE_LEFT_OPEN,
     FREE_HISTORY,
     FREE_NO_SESSION,
@@ -37,6 +39,8 @@ const READING: [Case; 15] = [
     NO_EXPLANATION,
     SMALLER,
     NO_SMALLER,
+    COMPARISON,
+    NO_COMPARISON,
 ];
 
 #[test]
@@ -124,11 +128,12 @@ const NO_JOIN: Case = Case {
 };
 
 /// Cases that write: all.
-const WRITING: [Case; 21] = [
+const WRITING: [Case; 24] = [
     TWO_SESSIONS,
     NO_SESSION,
     LEFT_OPEN,
     HISTORY,
+    ROWS,
     FREE_LEFT_OPEN,
     FREE_HISTORY,
     FREE_NO_SESSION,
@@ -140,6 +145,8 @@ const WRITING: [Case; 21] = [
     NO_EXPLANATION,
     SMALLER,
     NO_SMALLER,
+    COMPARISON,
+    NO_COMPARISON,
     LISTING,
     MATRIX,
     BATCH,
@@ -219,53 +226,14 @@ fn tells_a_failed_write(rt: HostRuntime) -> Result<(), Fail> {
     Ok(())
 }
 
-/// What is written of an input that never ends.
-const ENDLESS: [(Subcommand, &'static [u8]); 2] = [
-    (Subcommand::Serial, b"line 1: TooLong\n"),
-    (Subcommand::Judge, b"file: OverLimit bytes\n"),
-];
-
-#[test]
-fn reads_within_its_bounds(rt: HostRuntime) -> Result<(), Fail> {
-    for (subcommand, text) in &ENDLESS {
-        let mut reader = Endless { byte: b' ' };
-        let mut writer = Sink::new(rt.alloc(), 9_000, 0);
-        let mut notes = Sink::new(rt.alloc(), 9_000, 0);
-        let run = given(
-            &rt,
-            rt.alloc(),
-            *subcommand,
-            &mut reader,
-            &mut writer,
-            &mut notes,
-        );
-        assert_eq!(rt; status_of(run), 2);
-        assert_eq!(rt; writer.text.as_slice(), *text);
-    }
-    for (interrupted, wanted) in [(19_999_998, 0), (19_999_999, 3)] {
-        let mut reader = Source::new(b"setup ();", 9_000, interrupted, 0);
-        let mut writer = Sink::new(rt.alloc(), 9_000, 0);
-        let mut notes = Sink::new(rt.alloc(), 9_000, 0);
-        let run = given(
-            &rt,
-            rt.alloc(),
-            Subcommand::Serial,
-            &mut reader,
-            &mut writer,
-            &mut notes,
-        );
-        assert_eq!(rt; status_of(run), wanted, "after {interrupted} calls");
-        assert_eq!(rt; reader.calls, 20_000_000);
-    }
-    Ok(())
-}
-
 /// Cases that are played by no thread, where a refused allocation may be one of the system's.
-const ALONE: [Case; 6] = [
+const ALONE: [Case; 8] = [
     TWO_SESSIONS,
     NO_SESSION,
     LEFT_OPEN,
     HISTORY,
+    ROWS,
+    COMPARISON,
     ABORTED_READ,
     CUT_FILE,
 ];

@@ -1,6 +1,7 @@
 //! What `run` writes, also by threads.
 
 use crate::case::{Case, Subcommand, check};
+use lab_commands::Shown;
 use lab_engine::Level;
 use std::test::Fail;
 
@@ -16,10 +17,21 @@ pub const INCREMENTED_FILE: &[u8] =
 pub const HISTORY: Case = Case {
     subcommand: Subcommand::Run {
         level: Level::Snapshot,
-        history: true,
+        shown: Shown::History,
     },
     input: INCREMENTED,
     text: INCREMENTED_FILE,
+    status: 0,
+};
+
+/// The log of such a play with the committed rows, and the report of it.
+pub const ROWS: Case = Case {
+    subcommand: Subcommand::Run {
+        level: Level::Snapshot,
+        shown: Shown::Rows,
+    },
+    input: INCREMENTED,
+    text: b"T1 begin: begun 1\nT1 update test set value = value + 1 where id = 1: rows (1, 10)\nT1 commit: committed\n-- rows (1, 11)\nserializable: yes T1\nsnapshot: yes T1 0-1\nG0: absent\nG1a: absent\nG1b: absent\nG1c: absent\nG-single: absent\nG2-item: absent\nG2: absent\nlevel: PL-3\n",
     status: 0,
 };
 
@@ -35,7 +47,7 @@ pub const OPEN_LOG: &[u8] =
 pub const LEFT_OPEN: Case = Case {
     subcommand: Subcommand::Run {
         level: Level::Snapshot,
-        history: false,
+        shown: Shown::Log,
     },
     input: OPEN,
     text: OPEN_LOG,
@@ -51,7 +63,7 @@ pub const WITHOUT_SESSION_FAULT: &[u8] = b"line 3: NoSession\n";
 const NO_SESSION: Case = Case {
     subcommand: Subcommand::Run {
         level: Level::Locking,
-        history: true,
+        shown: Shown::History,
     },
     input: WITHOUT_SESSION,
     text: WITHOUT_SESSION_FAULT,
@@ -62,7 +74,7 @@ const NO_SESSION: Case = Case {
 const TWO_TABLES: Case = Case {
     subcommand: Subcommand::Run {
         level: Level::Snapshot,
-        history: false,
+        shown: Shown::Log,
     },
     input: b"setup (1, 10), stock (1, 5);\nbegin; -- T1\nbegin; -- T2\nselect * from test where id = 1; -- T1\nselect * from stock where id = 1; -- T2\nupdate stock set value = 6 where id = 1; -- T1\nupdate test set value = 11 where id = 1; -- T2\ncommit; -- T1\ncommit; -- T2\n",
     text: b"T1 begin: begun 1\nT2 begin: begun 2\nT1 select * from test where id = 1: rows (1, 10)\nT2 select * from stock where id = 1: rows (1, 5)\nT1 update stock set value = 6 where id = 1: rows (1, 5)\nT2 update test set value = 11 where id = 1: rows (1, 10)\nT1 commit: committed\nT2 commit: committed\nserializable: no T1 rw(1) T2 rw(stock 1) T1\nsnapshot: yes T1 0-2 T2 1-3\nG0: absent\nG1a: absent\nG1b: absent\nG1c: absent\nG-single: absent\nG2-item: present T1 rw(1) T2 rw(stock 1) T1\nG2: present T1 rw(1) T2 rw(stock 1) T1\nlevel: PL-2\n",
@@ -73,7 +85,7 @@ const TWO_TABLES: Case = Case {
 pub const FREE_HISTORY: Case = Case {
     subcommand: Subcommand::RunFree {
         level: Level::Snapshot,
-        history: true,
+        shown: Shown::History,
     },
     input: INCREMENTED,
     text: INCREMENTED_FILE,
@@ -83,7 +95,7 @@ pub const FREE_HISTORY: Case = Case {
 pub const FREE_LEFT_OPEN: Case = Case {
     subcommand: Subcommand::RunFree {
         level: Level::Snapshot,
-        history: false,
+        shown: Shown::Log,
     },
     input: OPEN,
     text: OPEN_LOG,
@@ -93,15 +105,16 @@ pub const FREE_LEFT_OPEN: Case = Case {
 pub const FREE_NO_SESSION: Case = Case {
     subcommand: Subcommand::RunFree {
         level: Level::Locking,
-        history: true,
+        shown: Shown::History,
     },
     input: WITHOUT_SESSION,
     text: WITHOUT_SESSION_FAULT,
     status: 2,
 };
 
-const CASES: [Case; 7] = [
+const CASES: [Case; 8] = [
     HISTORY,
+    ROWS,
     LEFT_OPEN,
     NO_SESSION,
     TWO_TABLES,

@@ -1,7 +1,9 @@
-//! What `picture`, `explain`, `shrink`, `case` and `matrix` write, and `batch` of one file.
+//! What `picture`, `explain`, `compare`, `shrink`, `case` and `matrix` write, and `batch` of one file.
 
 use crate::case::{Case, Subcommand, Task, check};
 use crate::judge::{CUT, CUT_FAULT, EMPTY, INTERMEDIATE};
+use crate::run::{WITHOUT_SESSION, WITHOUT_SESSION_FAULT};
+use lab_compare::Engines;
 use lab_matrix::CaseName;
 use lab_reports::Phenomenon;
 use std::test::Fail;
@@ -72,6 +74,27 @@ pub const NO_SMALLER: Case = Case {
     status: 2,
 };
 
+const ALL: Engines = Engines {
+    locking: true,
+    committed: true,
+    snapshot: true,
+};
+
+/// Of two transactions that each add 1: one waits, but at snapshot, where the other one is refused.
+pub const COMPARISON: Case = Case {
+    subcommand: Subcommand::Compare { engines: ALL },
+    input: b"setup (1, 10);\nbegin; -- T1\nbegin; -- T2\nupdate test set value = value + 1; -- T1\nupdate test set value = value + 1; -- T2\ncommit; -- T1\ncommit; -- T2\n",
+    text: b"compare: script of 6 lines, 2 sessions\nstart: rows (1, 10)\nT1 begin: begun 1\nT2 begin: begun 2\nT1 update test set value = value + 1: rows (1, 10)\nT2 update test set value = value + 1\n  locking committed: waits T1; behind T1 commit: rows (1, 11)\n  snapshot: rows (1, 10)\nT1 commit: committed\nT2 commit\n  locking committed: committed\n  snapshot: refused WriteConflict row 1 by 1\n  locking committed -- rows (1, 12)\n  snapshot -- rows (1, 11)\nend\n  locking committed: rows (1, 12)\n  snapshot: rows (1, 11)\nengine      locking     committed   snapshot\nlevel       PL-3 SI     PL-3 SI     PL-3 SI\n",
+    status: 0,
+};
+
+pub const NO_COMPARISON: Case = Case {
+    subcommand: Subcommand::Compare { engines: ALL },
+    input: WITHOUT_SESSION,
+    text: WITHOUT_SESSION_FAULT,
+    status: 2,
+};
+
 pub const LISTING: Case = Case {
     subcommand: Subcommand::Case { name: CaseName::P4 },
     input: b"",
@@ -97,11 +120,13 @@ pub const UNREADABLE: Case = Case {
     status: 3,
 };
 
-const CASES: [Case; 10] = [
+const CASES: [Case; 12] = [
     PICTURE,
     NO_PICTURE,
     EXPLANATION,
     NO_EXPLANATION,
+    COMPARISON,
+    NO_COMPARISON,
     SMALLER,
     NOT_SMALLER,
     NO_SMALLER,

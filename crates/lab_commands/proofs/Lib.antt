@@ -1,8 +1,9 @@
 mod GreatestNumbers
 mod BatchParts
 mod PlayRefusals
-mod OneTranscript
-mod OneRun
+pub mod OneTranscript
+pub mod OneRun
 mod OneReport
 mod WrittenRefusals
 mod BatchWindows
+mod PutInTurn

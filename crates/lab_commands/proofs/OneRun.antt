@@ -19,6 +19,8 @@ use Rattle.lab_commands.specs.Playing.{IsScriptedPlay, IsScriptedRefusal, Ends, 
 use Rattle.lab_commands.specs.Refusals.{play_refused_text}
 use Rattle.lab_streams.specs.declared.ending.Ending.{Ending}
 use Rattle.lab_commands.proofs.OneTranscript.{one_refusal}
+use Rattle.lab_commands.specs.declared.shown.Shown.{Shown}
+use Rattle.lab_commands.specs.declared.shown.Shown.TheVariants as shown
 
 -- recordings whose parts are the same are one
 same_recorded : (r s : RecordedLog) → r.level ≡ s.level → r.setup ≡ s.setup → r.log ≡ s.log → r.history ≡ s.history → r ≡ s
@@ -29,7 +31,7 @@ same_recorded r s level setup log history =
     ∙ ap (λ h. record { level = s.level; setup = s.setup; log = s.log; history = h }) history
 
 -- a script has one recording at a level
-one_recorded : (level : Level) (script : Script) (r s : RecordedLog) → IsScriptedPlay level script r → IsScriptedPlay level script s → r ≡ s
+pub one_recorded : (level : Level) (script : Script) (r s : RecordedLog) → IsScriptedPlay level script r → IsScriptedPlay level script s → r ≡ s
 one_recorded level script r s h k =
     let log : r.log ≡ s.log = one_play level script.setup (given_lines script.lines) r.log s.log h.play k.play in
     same_recorded r s (h.at_level ∙ sym k.at_level) (h.on_setup ∙ sym k.on_setup) log
@@ -46,10 +48,10 @@ module _ (requirement : Option Requirement) (history : History) (first again : E
 
 -- of a recording one thing is told
 module _ (wanted : Wanted) (recording : RecordedLog) (one other : List ℕ) (first again : Ending) where
-  one_log : IsLogAnswer wanted recording one first → IsLogAnswer wanted recording other again → (one ≡ other) × (first ≡ again)
-  one_log a b =
+  one_log : (rows : Bool) → IsLogAnswer rows wanted recording one first → IsLogAnswer rows wanted recording other again → (one ≡ other) × (first ≡ again)
+  one_log rows a b =
       let same : a.report ≡ b.report = one_judgement recording.history a.report b.report a.judgement b.judgement in (
-        a.text_is ∙ ap (λ r. log_said wanted.format recording.log ++ said_of wanted.format None r) same ∙ sym b.text_is,
+        a.text_is ∙ ap (λ r. log_said rows wanted.format recording ++ said_of wanted.format None r) same ∙ sym b.text_is,
         a.ends ∙ ap (ending_due wanted.requirement) same ∙ sym b.ends,
       )
 
@@ -59,25 +61,26 @@ module _ (wanted : Wanted) (recording : RecordedLog) (one other : List ℕ) (fir
   one_file (IsHistoryAnswer.too_long long is ends) (IsHistoryAnswer.written short same end) = absurd (omega (arith, short, long))
   one_file (IsHistoryAnswer.too_long long is ends) (IsHistoryAnswer.too_long over same end) = (is ∙ sym same, ends ∙ sym end)
 
-  one_told : (history : Bool) → IsRecordingAnswer history wanted recording one first → IsRecordingAnswer history wanted recording other again → (one ≡ other) × (first ≡ again)
-  one_told false a b = one_log a b
-  one_told true a b = one_file a b
+  one_told : (what : Shown) → IsRecordingAnswer what wanted recording one first → IsRecordingAnswer what wanted recording other again → (one ≡ other) × (first ≡ again)
+  one_told shown.Log a b = one_log false a b
+  one_told shown.Rows a b = one_log true a b
+  one_told shown.History a b = one_file a b
 
 -- what is played and recorded isn't refused
-not_both : (level : Level) (history : Bool) (wanted : Wanted) (input one other : List ℕ) (first again : Ending) → IsPlayed (IsScriptedPlay level) (IsScriptedRefusal level) history wanted input one first
+not_both : (level : Level) (what : Shown) (wanted : Wanted) (input one other : List ℕ) (first again : Ending) → IsPlayed (IsScriptedPlay level) (IsScriptedRefusal level) what wanted input one first
     → IsUnplayed (IsScriptedPlay level) (IsScriptedRefusal level) wanted.format input other again → ⊥
-not_both level history wanted input one other first again p q =
+not_both level what wanted input one other first again p q =
     let script : q.script ≡ p.script = one_script input q.script p.script q.spelled p.spelled in
     no_fault level p.script.setup (given_lines p.script.lines) p.recording.log p.recording.history p.played.play p.played.history p.played.whole q.fault q.told_why
     (subst (λ s. IsScriptedRefusal level s q.fault) script q.faulty)
 
-module _ (level : Level) (history : Bool) (wanted : Wanted) (input one other : List ℕ) (first again : Ending) where
-  one_played : IsPlayed (IsScriptedPlay level) (IsScriptedRefusal level) history wanted input one first → IsPlayed (IsScriptedPlay level) (IsScriptedRefusal level) history wanted input other again
+module _ (level : Level) (what : Shown) (wanted : Wanted) (input one other : List ℕ) (first again : Ending) where
+  one_played : IsPlayed (IsScriptedPlay level) (IsScriptedRefusal level) what wanted input one first → IsPlayed (IsScriptedPlay level) (IsScriptedRefusal level) what wanted input other again
       → (one ≡ other) × (first ≡ again)
   one_played p q =
       let script : q.script ≡ p.script = one_script input q.script p.script q.spelled p.spelled in
       let same : q.recording ≡ p.recording = one_recorded level p.script q.recording p.recording (subst (λ s. IsScriptedPlay level s q.recording) script q.played) p.played in
-      one_told wanted p.recording one other first again history p.tells (subst (λ r. IsRecordingAnswer history wanted r other again) same q.tells)
+      one_told wanted p.recording one other first again what p.tells (subst (λ r. IsRecordingAnswer what wanted r other again) same q.tells)
 
   one_unplayed : IsUnplayed (IsScriptedPlay level) (IsScriptedRefusal level) wanted.format input one first → IsUnplayed (IsScriptedPlay level) (IsScriptedRefusal level) wanted.format input other again
       → (one ≡ other) × (first ≡ again)
@@ -90,14 +93,14 @@ module _ (level : Level) (history : Bool) (wanted : Wanted) (input one other : L
         p.refused ∙ sym q.refused,
       )
 
-  pub one_run : IsRunAnswer (IsScriptedPlay level) (IsScriptedRefusal level) history wanted input one first → IsRunAnswer (IsScriptedPlay level) (IsScriptedRefusal level) history wanted input other again
+  pub one_run : IsRunAnswer (IsScriptedPlay level) (IsScriptedRefusal level) what wanted input one first → IsRunAnswer (IsScriptedPlay level) (IsScriptedRefusal level) what wanted input other again
       → (one ≡ other) × (first ≡ again)
   one_run (inl p) (inl q) = one_played p q
   one_run (inl p) (inr (inl r)) = absurd (fault_spells_nothing input r.line r.kind p.script r.faulty p.spelled)
-  one_run (inl p) (inr (inr u)) = absurd (not_both level history wanted input one other first again p u)
+  one_run (inl p) (inr (inr u)) = absurd (not_both level what wanted input one other first again p u)
   one_run (inr (inl r)) (inl p) = absurd (fault_spells_nothing input r.line r.kind p.script r.faulty p.spelled)
   one_run (inr (inl r)) (inr (inl s)) = one_refusal wanted.format input one other first again r s
   one_run (inr (inl r)) (inr (inr u)) = absurd (fault_spells_nothing input r.line r.kind u.script r.faulty u.spelled)
-  one_run (inr (inr u)) (inl p) = absurd (not_both level history wanted input other one again first p u)
+  one_run (inr (inr u)) (inl p) = absurd (not_both level what wanted input other one again first p u)
   one_run (inr (inr u)) (inr (inl r)) = absurd (fault_spells_nothing input r.line r.kind u.script r.faulty u.spelled)
   one_run (inr (inr u)) (inr (inr w)) = one_unplayed u w

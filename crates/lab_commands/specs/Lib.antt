@@ -1,6 +1,8 @@
 pub mod Refusals
 pub mod Serial
 pub mod Judging
+pub mod Overwriting
+pub mod CommittedRows
 pub mod Playing
 pub mod Batching
 pub mod Untold

@@ -14,7 +14,6 @@ use Rattle.lab_engine.specs.Log.{past_of}
 use Rattle.lab_engine.specs.Recording.{IsRecording}
 use Rattle.lab_engine.specs.RecordedLog.{RecordedLog, IsSoundRecord}
 use Rattle.lab_engine.specs.declared.event.Level.{Level}
-use Rattle.lab_engine.specs.declared.event.LogEvent.{LogEvent}
 use Rattle.lab_history.specs.Limits.{max_file_bytes}
 use Rattle.lab_session.specs.Play.{given_lines, IsLegalPlay, IsScriptedFault}
 use Rattle.lab_session.specs.Free.{AllSessionsPlayed, IsFreeFault}
@@ -32,7 +31,10 @@ use Rattle.lab_streams.specs.declared.ending.Ending.TheVariants.{Done, Refused}
 use Rattle.lab_streams.specs.declared.reporting.Format.{Format}
 use Rattle.lab_streams.specs.declared.reporting.Format.TheVariants.{Lines, Json}
 use Rattle.lab_streams.specs.declared.reporting.Wanted.{Wanted}
+use Rattle.lab_commands.specs.CommittedRows.{remarked_recording}
 use Rattle.lab_commands.specs.Refusals.{play_refused_text, IsRefused}
+use Rattle.lab_commands.specs.declared.shown.Shown.{Shown}
+use Rattle.lab_commands.specs.declared.shown.Shown.TheVariants as shown
 
 -- a recording of a script that is played by one thread, at a level: its log is legal and follows the script to its end,
 -- and its history has no fault
@@ -71,16 +73,17 @@ IsFreeRefusal level script fault = IsFreeFault level script.setup (given_lines s
 abbrev pub file_text : History → List ℕ
 file_text history = compact_text (tree_of history)
 
--- what is written of a log in front of a report
-abbrev pub log_said : Format → List LogEvent → List ℕ
-log_said Lines log = log_text log
-log_said Json log = []
+-- what is written of the log of a recording in front of a report, with the committed rows behind ends of transactions or without
+abbrev pub log_said : Bool → Format → RecordedLog → List ℕ
+log_said false Lines recording = log_text recording.log
+log_said true Lines recording = remarked_recording recording
+log_said rows Json recording = []
 
 -- the text is the log and the report of a judgement of what it recorded, or in JSON that report alone
-pub record IsLogAnswer (wanted : Wanted) (recording : RecordedLog) (text : List ℕ) (ending : Ending) : Type 0 where
+pub record IsLogAnswer (rows : Bool) (wanted : Wanted) (recording : RecordedLog) (text : List ℕ) (ending : Ending) : Type 0 where
   pub report : Report
   pub judgement : IsExactJudgement recording.history report
-  pub text_is : text ≡ log_said wanted.format recording.log ++ said_of wanted.format None report
+  pub text_is : text ≡ log_said rows wanted.format recording ++ said_of wanted.format None report
   pub ends : ending ≡ ending_due wanted.requirement report
 
 -- how it ends where something else is written of a history than its report, by what is required of that
@@ -94,20 +97,21 @@ pub data IsHistoryAnswer (wanted : Wanted) (recording : RecordedLog) (text : Lis
       → IsHistoryAnswer wanted recording text ending
   too_long : max_file_bytes < length (file_text recording.history) → text ≡ file_fault_text (OverLimit Bytes) → ending ≡ Refused → IsHistoryAnswer wanted recording text ending
 
--- what is told of a recording: its history where that is asked for, else its log
-abbrev pub IsRecordingAnswer : Bool → Wanted → RecordedLog → List ℕ → Ending → Type 0
-IsRecordingAnswer false wanted recording text ending = IsLogAnswer wanted recording text ending
-IsRecordingAnswer true wanted recording text ending = IsHistoryAnswer wanted recording text ending
+-- what is told of a recording: its log, the same with the committed rows, or its history
+abbrev pub IsRecordingAnswer : Shown → Wanted → RecordedLog → List ℕ → Ending → Type 0
+IsRecordingAnswer shown.Log wanted recording text ending = IsLogAnswer false wanted recording text ending
+IsRecordingAnswer shown.Rows wanted recording text ending = IsLogAnswer true wanted recording text ending
+IsRecordingAnswer shown.History wanted recording text ending = IsHistoryAnswer wanted recording text ending
 
 -- What is said of a script whose plays give such recordings, or are refused for such a fault.
 module _ (Plays : Script → RecordedLog → Type 0) (Refuses : Script → PlayFault → Type 0) where
   -- the input spells a script, and the text tells of a recording of it
-  pub record IsPlayed (history : Bool) (wanted : Wanted) (input text : List ℕ) (ending : Ending) : Type 0 where
+  pub record IsPlayed (what : Shown) (wanted : Wanted) (input text : List ℕ) (ending : Ending) : Type 0 where
     pub script : Script
     pub spelled : Spells input script
     pub recording : RecordedLog
     pub played : Plays script recording
-    pub tells : IsRecordingAnswer history wanted recording text ending
+    pub tells : IsRecordingAnswer what wanted recording text ending
 
   -- the input spells a script whose play was refused, and the text tells its fault
   pub record IsUnplayed (format : Format) (input text : List ℕ) (ending : Ending) : Type 0 where
@@ -120,6 +124,6 @@ module _ (Plays : Script → RecordedLog → Type 0) (Refuses : Script → PlayF
     pub refused : ending ≡ Refused
 
   -- the text is what is to be said of the input, and the ending is the one due
-  abbrev pub IsRunAnswer : Bool → Wanted → List ℕ → List ℕ → Ending → Type 0
-  IsRunAnswer history wanted input text ending =
-      IsPlayed history wanted input text ending ⊎ (IsRefused wanted.format input text ending ⊎ IsUnplayed wanted.format input text ending)
+  abbrev pub IsRunAnswer : Shown → Wanted → List ℕ → List ℕ → Ending → Type 0
+  IsRunAnswer what wanted input text ending =
+      IsPlayed what wanted input text ending ⊎ (IsRefused wanted.format input text ending ⊎ IsUnplayed wanted.format input text ending)

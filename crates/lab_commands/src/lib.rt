@@ -7,26 +7,37 @@
 #![tactic(auto)]
 
 mod batching;
+mod event_text;
 mod files;
 mod free;
 mod judged_files;
 mod judging;
 mod laws;
 mod listed;
+mod overwriting;
 mod player;
 mod progress;
 mod recording_answer;
 mod refusals;
+mod remarked_log;
 mod running;
 mod scripted;
+mod shown;
+mod standing;
 mod transcribing;
 
 pub use batching::batch;
+pub use event_text::{put_outcome, put_rows, put_session};
 pub use files::{Inputs, note_files, read_files};
 pub use judged_files::{BatchAnswer, batch_answer};
 pub use judging::judge;
 pub use laws::{judge_answer_unique, run_answer_unique, serial_answer_unique};
 pub use listed::listed_names;
+pub use player::Player;
 pub use progress::Progress;
+pub use refusals::{print_play_refusal, print_script_refusal};
 pub use running::{run, run_free};
+pub use scripted::Scripted;
+pub use shown::Shown;
+pub use standing::{Standing, is_over};
 pub use transcribing::serial;

@@ -13,6 +13,7 @@ use crate::player::Player;
 use crate::recording_answer::recording_answer;
 use crate::refusals::{print_play_refusal, print_script_refusal};
 use crate::scripted::Scripted;
+use crate::shown::Shown;
 use lab_engine::Level;
 use lab_hints::note_play;
 use lab_script::{Script, parse_script};
@@ -25,11 +26,11 @@ use std::io::{Read, Write};
 use std::sync::Wait;
 use std::thread::Threads;
 
-/// What tells of a play of a script: with `history` its history file, else its log and the report of a judgement.
+/// What tells of a play of a script: its log and the report of a judgement, or its history file.
 #[derive(Drop)]
 struct TellsPlay<P: Player> {
     player: P,
-    history: bool,
+    shown: Shown,
     wanted: Wanted,
     /// Why the report doesn't meet what is required, if it doesn't.
     shortfall: Vec<u8>,
@@ -43,23 +44,23 @@ fn play_answer<P: Player>(
     alloc: Global,
     player: &P,
     script: &Script,
-    history: bool,
+    shown: Shown,
     wanted: Wanted,
     shortfall: &mut Vec<u8>,
 ) -> Result<Answer, PlayFault>
     requires prints { ScriptPrints script.now }
     requires needs { P.Needs }
-    ensures tells { IfOk result (λ answer. (recording : RecordedLog) × P.Plays player.now script.now recording × IsRecordingAnswer history wanted recording answer.text.items answer.ending) }
+    ensures tells { IfOk result (λ answer. (recording : RecordedLog) × P.Plays player.now script.now recording × IsRecordingAnswer shown wanted recording answer.text.items answer.ending) }
     ensures fault { IfErr result (P.Refuses player.now script.now) }
 {
     let recording = player.play(alloc, script)?;
-    recording_answer(alloc, &recording, history, wanted, shortfall)
+    recording_answer(alloc, &recording, shown, wanted, shortfall)
 }
 
 impl<P: Player> Subcommand for TellsPlay<P> {
     ghost Needs = { P.Needs };
 
-    ghost Says = { λ s. IsRunAnswer (P.Plays s.player) (P.Refuses s.player) s.history s.wanted };
+    ghost Says = { λ s. IsRunAnswer (P.Plays s.player) (P.Refuses s.player) s.shown s.wanted };
 
     fn answer(&mut self, alloc: Global, input: &[u8]) -> Result<Answer, NoMemory> {
         let script = match parse_script(alloc, input) {
@@ -76,7 +77,7 @@ impl<P: Player> Subcommand for TellsPlay<P> {
             alloc,
             &self.player,
             &script,
-            self.history,
+            self.shown,
             self.wanted,
             &mut self.shortfall,
         );
@@ -98,12 +99,13 @@ impl<P: Player> Subcommand for TellsPlay<P> {
         note_text(&self.shortfall, notes);
     }
 
-    ghost whole = { λ s. run_whole (P.Plays s.player) (P.Refuses s.player) s.history s.wanted };
+    ghost whole = { λ s. run_whole (P.Plays s.player) (P.Refuses s.player) s.shown s.wanted };
 }
 
 /// Reads a script, plays it by one thread on an engine of this level, and writes the log and then the report of a
-/// judgement of its recording; in JSON the report alone; with `history` the history file of the recording and a newline
-/// instead. Where the input is no script, or its play is refused, or its history has no file, it tells that fault alone.
+/// judgement of its recording; in JSON the report alone. It may be shown with the committed rows in the log, or as the
+/// history file of the recording and a newline instead. Where the input is no script, or its play is refused, or its history
+/// has no file, it tells that fault alone.
 ///
 /// It reads, writes and ends as [`answer_input`] does, with `Unmet` where the report doesn't meet what is required; `notes`
 /// is told why. It is given a hint where the input or its play is refused, or no transaction begins in it.
@@ -113,19 +115,19 @@ pub fn run<R: Read, W: Write, N: Write>(
     writer: &mut W,
     notes: &mut N,
     level: Level,
-    history: bool,
+    shown: Shown,
     wanted: Wanted,
 ) -> Result<Ending, RunFault>
     ensures written { IfOk result (λ ending. IfSome (R.remaining reader.old) (λ input.
         (text : List ℕ) × Appends (W.contents writer.old) (W.contents writer.new) text
-        × IsRunAnswer (IsScriptedPlay level) (IsScriptedRefusal level) history wanted input text ending)) }
+        × IsRunAnswer (IsScriptedPlay level) (IsScriptedRefusal level) shown wanted input text ending)) }
     ensures read_first { ReadsFirst result (R.remaining reader.old) (R.remaining reader.new) }
     ensures silent { IfErr result (λ fault. (fault ≡ RunFault.Unwritten) ⊎ Keeps (W.contents writer.old) (W.contents writer.new)) }
     ensures hint_last { OnErr result (Keeps (N.contents notes.old) (N.contents notes.new)) }
 {
     let scripted = TellsPlay {
         player: Scripted { level },
-        history,
+        shown,
         wanted,
         shortfall: Vec::new(alloc),
         why: None,
@@ -141,19 +143,19 @@ pub fn run_free<T: Threads + Wait + Sync, R: Read, W: Write, N: Write>(
     writer: &mut W,
     notes: &mut N,
     level: Level,
-    history: bool,
+    shown: Shown,
     wanted: Wanted,
 ) -> Result<Ending, RunFault>
     ensures written { IfOk result (λ ending. IfSome (R.remaining reader.old) (λ input.
         (text : List ℕ) × Appends (W.contents writer.old) (W.contents writer.new) text
-        × IsRunAnswer (IsFreePlay level) (IsFreeRefusal level) history wanted input text ending)) }
+        × IsRunAnswer (IsFreePlay level) (IsFreeRefusal level) shown wanted input text ending)) }
     ensures read_first { ReadsFirst result (R.remaining reader.old) (R.remaining reader.new) }
     ensures silent { IfErr result (λ fault. (fault ≡ RunFault.Unwritten) ⊎ Keeps (W.contents writer.old) (W.contents writer.new)) }
     ensures hint_last { OnErr result (Keeps (N.contents notes.old) (N.contents notes.new)) }
 {
     let free = TellsPlay {
         player: Free { rt, level },
-        history,
+        shown,
         wanted,
         shortfall: Vec::new(alloc),
         why: None,

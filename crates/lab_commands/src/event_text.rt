@@ -1,0 +1,131 @@
+//! The texts of one event of a log, by the definitions that the log's own text goes by. Each function appends; after
+//! NoMemory, part of what was to be appended may stand there.
+
+ghost use Rattle.std.specs.Prelude.{◌≢◌, ◌≡◌, ◌++◌, codes, flat_map, map, Err, OnOk};
+ghost use Rattle.lab_script.specs.Printed.{named_rows_or};
+ghost use Rattle.lab_statement.specs.Limits.{IsDeep, IsLong};
+ghost use Rattle.lab_statement.specs.Printed.{joined, printed_row_name};
+ghost use Rattle.lab_session.specs.LogText.{event_text, next_text, outcome_text, refusal_text, session_text};
+
+use itoa::Buffer;
+use lab_engine::{EngineFault, LogEvent, Outcome};
+use lab_statement::{PrintFault, append_result, put_list, put_printable, put_row_name, spell_all};
+use lab_table::{NoMemory, RowName, Session, Value};
+
+/// Appends the line of an event, as `T1 commit: committed`, if its statement keeps the limits of a text. TooDeep and TooLong
+/// only where it breaks that limit.
+pub fn put_event(out: &mut Vec<u8>, event: &LogEvent) -> Result<(), PrintFault>
+    ensures text { OnOk result (out.new.items ≡ out.old.items ++ event_text event.now) }
+    ensures too_deep { result ≡ Err PrintFault.TooDeep → IsDeep event.now.command }
+    ensures too_long { result ≡ Err PrintFault.TooLong → IsLong event.now.command }
+    ensures few_tables { result ≢ Err PrintFault.TooManyTables }
+{
+    put_session(out, event.session)?;
+    out.extend_from_slice(b" ")?;
+    put_printable(out, &event.command)?;
+    out.extend_from_slice(b": ")?;
+    put_outcome(out, &event.outcome)?;
+    out.extend_from_slice(b"\n")?;
+    Ok(())
+}
+
+/// Appends rows with their values, as `(1, 10), stock (1, 5)`; `none` where there is none.
+pub fn put_rows(out: &mut Vec<u8>, rows: &[(RowName, Value)]) -> Result<(), NoMemory>
+    ensures { OnOk result (out.new.items ≡ out.old.items ++ named_rows_or (codes "none") rows.now) }
+{
+    match rows {
+        [] => out.extend_from_slice(b"none"),
+        rows => append_result(spell_all(out, rows)),
+    }
+}
+
+/// Appends a session, as `T1`.
+pub fn put_session(out: &mut Vec<u8>, session: Session) -> Result<(), NoMemory>
+    ensures { OnOk result (out.new.items ≡ out.old.items ++ session_text session) }
+{
+    out.extend_from_slice(b"T")?;
+    out.extend_from_slice(Buffer::new().format(session.number()).as_bytes())
+}
+
+/// Appends sessions with commas between them.
+fn put_sessions(out: &mut Vec<u8>, sessions: &[Session]) -> Result<(), NoMemory>
+    ensures { OnOk result (out.new.items ≡ out.old.items ++ joined (map session_text sessions.now)) }
+{
+    let Some((first, rest)) = sessions.split_first() else {
+        return Ok(());
+    };
+    put_session(out, *first)?;
+    for session in rest {
+        out.extend_from_slice(b", ")?;
+        put_session(out, *session)?;
+    }
+    Ok(())
+}
+
+/// Appends a cycle of sessions, each behind a space.
+fn put_circle(out: &mut Vec<u8>, circle: &[Session]) -> Result<(), NoMemory>
+    ensures { OnOk result (out.new.items ≡ out.old.items ++ flat_map next_text circle.now) }
+{
+    for session in circle {
+        out.extend_from_slice(b" ")?;
+        put_session(out, *session)?;
+    }
+    Ok(())
+}
+
+/// Appends what an engine answered, as `waits T2`.
+pub fn put_outcome(out: &mut Vec<u8>, outcome: &Outcome) -> Result<(), NoMemory>
+    ensures { OnOk result (out.new.items ≡ out.old.items ++ outcome_text outcome.now) }
+{
+    match outcome {
+        Outcome::Begun(number) => {
+            out.extend_from_slice(b"begun ")?;
+            out.extend_from_slice(Buffer::new().format(number.number()).as_bytes())
+        }
+        Outcome::Rows { rows, .. } => {
+            out.extend_from_slice(b"rows ")?;
+            put_list(out, rows.entries())
+        }
+        Outcome::Committed => out.extend_from_slice(b"committed"),
+        Outcome::Aborted => out.extend_from_slice(b"aborted"),
+        Outcome::Waits { on } => {
+            out.extend_from_slice(b"waits ")?;
+            put_sessions(out, on.as_slice())
+        }
+        Outcome::Refused(fault) => {
+            out.extend_from_slice(b"refused ")?;
+            put_refusal(out, fault)
+        }
+    }
+}
+
+/// Appends why a command was refused, and for which row.
+fn put_reason(out: &mut Vec<u8>, reason: &[u8], id: RowName) -> Result<(), NoMemory>
+    ensures { OnOk result (out.new.items ≡ out.old.items ++ (reason.now ++ printed_row_name id)) }
+{
+    out.extend_from_slice(reason)?;
+    put_row_name(out, id)
+}
+
+fn put_refusal(out: &mut Vec<u8>, fault: &EngineFault) -> Result<(), NoMemory>
+    ensures { OnOk result (out.new.items ≡ out.old.items ++ refusal_text fault.now) }
+{
+    match fault {
+        EngineFault::DuplicateKey { id } => put_reason(out, b"DuplicateKey ", *id)?,
+        EngineFault::OutOfRange { id } => put_reason(out, b"OutOfRange ", *id)?,
+        EngineFault::Deadlock { circle } => {
+            out.extend_from_slice(b"Deadlock")?;
+            put_circle(out, circle.as_slice())?;
+        }
+        EngineFault::WriteConflict { row, by } => {
+            out.extend_from_slice(b"WriteConflict row ")?;
+            put_row_name(out, *row)?;
+            out.extend_from_slice(b" by ")?;
+            out.extend_from_slice(Buffer::new().format(by.number()).as_bytes())?;
+        }
+        EngineFault::NoTransaction => out.extend_from_slice(b"NoTransaction")?,
+        EngineFault::AlreadyBegun => out.extend_from_slice(b"AlreadyBegun")?,
+        EngineFault::Busy => out.extend_from_slice(b"Busy")?,
+    }
+    Ok(())
+}

@@ -1,0 +1,6 @@
+mod Spaces
+mod Left
+mod Telling
+mod FirstRefusals
+mod OneComparison
+mod SameTold

@@ -1,0 +1,7 @@
+pub mod Engines
+pub mod Told
+pub mod Cells
+pub mod Alike
+pub mod Comparison
+pub mod Answer
+pub mod Whole

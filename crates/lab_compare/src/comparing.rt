@@ -1,0 +1,108 @@
+//! The subcommand `compare`: a script on the engines side by side.
+
+ghost use Rattle.std.specs.Prelude.{◌≡◌, ◌≢◌, ◌⊎◌, ⊤, List, ℕ, IfOk, IfErr, IfSome, OnErr};
+ghost use Rattle.std.specs.Io.KnownBytes.{Appends, Keeps};
+ghost use Rattle.lab_streams.specs.Input.{ReadsFirst};
+ghost use Rattle.lab_compare.specs.Answer.{AreSides, IsFirstRefusal, IsCompareAnswer, all_sides};
+ghost use Rattle.lab_compare.specs.Comparison.{comparison_text};
+ghost use Rattle.lab_compare.specs.Whole.{compare_whole};
+ghost use Rattle.lab_compare.specs.declared.side.Sides.{Sides as SidesOf};
+
+use crate::comparison::print_comparison;
+use crate::engines::Engines;
+use crate::playing::{all_sides, sides_of};
+use lab_commands::{print_play_refusal, print_script_refusal};
+use lab_hints::note_play;
+use lab_script::{Script, parse_script};
+use lab_session::PlayFault;
+use lab_statement::ScriptFault;
+use lab_streams::{Answer, Ending, Format, RunFault, Subcommand, answer_input};
+use lab_table::NoMemory;
+use std::alloc::{AllocError, Global};
+use std::io::{Read, Write};
+
+/// The comparison of what a script comes to on these engines, or the first fault that one of them refuses it for.
+fn compared(alloc: Global, engines: Engines, script: &Script) -> Result<Vec<u8>, PlayFault>
+    ensures text { IfOk result (λ text. (sides : SidesOf) × AreSides engines script.now sides × (text.items ≡ comparison_text script.now (all_sides sides))) }
+    ensures fault { IfErr result (λ fault. fault ≢ PlayFault.NoMemory → IsFirstRefusal engines script.now fault) }
+{
+    let sides = sides_of(alloc, engines, script)?;
+    let all = all_sides(alloc, sides)?;
+    Ok(print_comparison(alloc, script, &all)?)
+}
+
+/// What tells a comparison on some engines.
+#[derive(Drop)]
+struct TellsComparison {
+    engines: Engines,
+    /// Why a play was refused.
+    why: Option<PlayFault>,
+}
+
+impl Subcommand for TellsComparison {
+    ghost Needs = { ⊤ };
+
+    ghost Says = { λ s. IsCompareAnswer s.engines };
+
+    fn answer(&mut self, alloc: Global, input: &[u8]) -> Result<Answer, NoMemory> {
+        let script = match parse_script(alloc, input) {
+            Ok(script) => script,
+            Err(ScriptFault::NoMemory) => return Err(AllocError),
+            Err(fault) => {
+                return Ok(Answer {
+                    text: print_script_refusal(alloc, Format::Lines, &fault)?,
+                    ending: Ending::Refused,
+                });
+            }
+        };
+        let compared = compared(alloc, self.engines, &script);
+        match compared {
+            Ok(text) => Ok(Answer {
+                text,
+                ending: Ending::Done,
+            }),
+            Err(PlayFault::NoMemory) => Err(AllocError),
+            Err(fault) => {
+                self.why = Some(fault);
+                Ok(Answer {
+                    text: print_play_refusal(alloc, Format::Lines, &fault)?,
+                    ending: Ending::Refused,
+                })
+            }
+        }
+    }
+
+    fn note<N: Write>(&self, alloc: Global, input: &[u8], ending: Ending, notes: &mut N) {
+        note_play(alloc, input, ending == Ending::Refused, self.why, notes);
+    }
+
+    ghost whole = { λ s. compare_whole s.engines };
+}
+
+/// Reads a script, plays it by one thread on each of these engines, and writes what each of its lines was answered, the
+/// committed rows where they differ, the level that each history meets, and what `explain` says of its lowest phenomenon.
+/// Where the input is no script, or a play is refused, it tells that fault alone.
+///
+/// It reads, writes and ends as [`answer_input`] does. `notes` is given a hint where the input or its play is refused, or no
+/// transaction begins in it.
+pub fn compare<R: Read, W: Write, N: Write>(
+    alloc: Global,
+    reader: &mut R,
+    writer: &mut W,
+    notes: &mut N,
+    engines: Engines,
+) -> Result<Ending, RunFault>
+    ensures written { IfOk result (λ ending. IfSome (R.remaining reader.old) (λ input.
+        (text : List ℕ) × Appends (W.contents writer.old) (W.contents writer.new) text × IsCompareAnswer engines input text ending)) }
+    ensures read_first { ReadsFirst result (R.remaining reader.old) (R.remaining reader.new) }
+    ensures silent { IfErr result (λ fault. (fault ≡ RunFault.Unwritten) ⊎ Keeps (W.contents writer.old) (W.contents writer.new)) }
+    ensures hint_last { OnErr result (Keeps (N.contents notes.old) (N.contents notes.new)) }
+{
+    answer_input(
+        alloc,
+        TellsComparison { engines, why: None },
+        reader,
+        writer,
+        notes,
+    )
+}

@@ -1,0 +1,146 @@
+//! The text of a comparison. Each function that takes bytes appends to them; after NoMemory, part of what was to be appended
+//! may stand there.
+
+ghost use Rattle.std.specs.Prelude.{◌≡◌, ◌++◌, IfOk, OnOk};
+ghost use Rattle.lab_compare.specs.Comparison.{line_text, lines_text, counted, has_line, session_count, opening, start_words, heading, start_text, ends_text, levels_text, front_text, back_text, comparison_text};
+
+use crate::alike::{put_alike, put_columns, put_differing, put_explanations};
+use crate::side::{Column, Side, Topic};
+use crate::told::put_asked;
+use itoa::Buffer;
+use lab_commands::put_rows;
+use lab_script::{Line, Script};
+use lab_table::{NoMemory, Session};
+use std::alloc::Global;
+
+/// Appends a line of the script, what it was answered, and where the committed rows behind it differ.
+fn put_line(out: &mut Vec<u8>, sides: &[Side], place: usize, line: &Line) -> Result<(), NoMemory>
+    ensures { OnOk result (out.new.items ≡ out.old.items ++ line_text sides.now place line.now) }
+{
+    put_asked(out, line.session, &line.command)?;
+    put_alike(out, Topic::Answer { place }, sides)?;
+    put_differing(out, Topic::Rows { place }, b" -- rows ", sides)
+}
+
+/// Appends the lines of a script.
+fn put_lines(out: &mut Vec<u8>, sides: &[Side], lines: &[Line]) -> Result<(), NoMemory>
+    ensures { OnOk result (out.new.items ≡ out.old.items ++ lines_text sides.now 0 lines.now) }
+{
+    for (place, line) in lines.iter().enumerate() {
+        put_line(out, sides, place, line)?;
+    }
+    Ok(())
+}
+
+/// Appends how many things of a name there are.
+fn put_counted(out: &mut Vec<u8>, count: usize, name: &[u8]) -> Result<(), NoMemory>
+    ensures { OnOk result (out.new.items ≡ out.old.items ++ counted count name.now) }
+{
+    out.extend_from_slice(Buffer::new().format(count).as_bytes())?;
+    out.extend_from_slice(name)?;
+    if count == 1 {
+        Ok(())
+    } else {
+        out.extend_from_slice(b"s")
+    }
+}
+
+/// Whether a session has a line.
+fn has_line(lines: &[Line], session: Session) -> bool
+    ensures { result ≡ has_line lines.now session }
+{
+    lines.iter().any(|line| line.session == session)
+}
+
+/// How many sessions have a line.
+fn session_count(lines: &[Line]) -> usize
+    ensures { result ≡ session_count lines.now }
+{
+    let sessions = Session::ALL;
+    sessions
+        .iter()
+        .filter(|session| has_line(lines, **session))
+        .count()
+}
+
+/// What the text begins with.
+#[tactic(auto, unfolding(crate::specs::Comparison::opening))]
+fn opening() -> &'static [u8]
+    ensures { result.now ≡ opening }
+{
+    b"compare: script of "
+}
+
+/// What the line of the rows to begin with does.
+#[tactic(auto, unfolding(crate::specs::Comparison::start_words))]
+fn start_words() -> &'static [u8]
+    ensures { result.now ≡ start_words }
+{
+    b"start: rows "
+}
+
+/// Appends the first line: of how many lines and sessions the script is.
+fn put_heading(out: &mut Vec<u8>, lines: &[Line]) -> Result<(), NoMemory>
+    ensures { OnOk result (out.new.items ≡ out.old.items ++ heading lines.now) }
+{
+    out.extend_from_slice(opening())?;
+    put_counted(out, lines.len(), b" line")?;
+    out.extend_from_slice(b", ")?;
+    put_counted(out, session_count(lines), b" session")?;
+    out.extend_from_slice(b"\n")
+}
+
+/// Appends the rows to begin with.
+fn put_start(out: &mut Vec<u8>, script: &Script) -> Result<(), NoMemory>
+    ensures { OnOk result (out.new.items ≡ out.old.items ++ start_text script.now) }
+{
+    out.extend_from_slice(start_words())?;
+    put_rows(out, script.setup.rows())?;
+    out.extend_from_slice(b"\n")
+}
+
+/// Appends what stands before the lines.
+fn put_front(out: &mut Vec<u8>, script: &Script) -> Result<(), NoMemory>
+    ensures { OnOk result (out.new.items ≡ out.old.items ++ front_text script.now) }
+{
+    put_heading(out, script.lines.as_slice())?;
+    put_start(out, script)
+}
+
+/// Appends the committed rows in the end.
+fn put_ends(out: &mut Vec<u8>, sides: &[Side]) -> Result<(), NoMemory>
+    ensures { OnOk result (out.new.items ≡ out.old.items ++ ends_text sides.now) }
+{
+    out.extend_from_slice(b"end")?;
+    put_alike(out, Topic::End, sides)
+}
+
+/// Appends the engines, and under each the level that its history meets.
+fn put_levels(out: &mut Vec<u8>, sides: &[Side]) -> Result<(), NoMemory>
+    ensures { OnOk result (out.new.items ≡ out.old.items ++ levels_text sides.now) }
+{
+    out.extend_from_slice(b"engine")?;
+    put_columns(out, Column::Engine, 6, sides)?;
+    out.extend_from_slice(b"level")?;
+    put_columns(out, Column::Grade, 5, sides)
+}
+
+/// Appends what stands behind the lines.
+fn put_back(out: &mut Vec<u8>, sides: &[Side]) -> Result<(), NoMemory>
+    ensures { OnOk result (out.new.items ≡ out.old.items ++ back_text sides.now) }
+{
+    put_ends(out, sides)?;
+    put_levels(out, sides)?;
+    put_explanations(out, sides)
+}
+
+/// The comparison of what a script comes to on these sides. NoMemory where an allocation was refused.
+pub fn print_comparison(alloc: Global, script: &Script, sides: &[Side]) -> Result<Vec<u8>, NoMemory>
+    ensures { IfOk result (λ text. text.items ≡ comparison_text script.now sides.now) }
+{
+    let mut text = Vec::new(alloc);
+    put_front(&mut text, script)?;
+    put_lines(&mut text, sides, script.lines.as_slice())?;
+    put_back(&mut text, sides)?;
+    Ok(text)
+}
