@@ -2,7 +2,7 @@ import re,sys,glob
 for f in sorted(glob.glob(sys.argv[1]+"/proofs/**/*.antt",recursive=True)+glob.glob(sys.argv[1]+"/specs/**/*.antt",recursive=True)):
     s=open(f).read()
     body="\n".join(l for l in s.splitlines() if not re.match(r"\s*(pub )?use ",l) and not l.lstrip().startswith("--"))
-    body=re.sub(r"--.*","",body)
+    body=re.sub(r"(?m)(^|\s)--\s.*","",body)
     for m in re.finditer(r"^\s*use ([\w.\-]+)\.\{(.*?)\}",s,re.M|re.S):
         for n in [x.strip() for x in m.group(2).split(",")]:
             n0=n.split(" as ")[-1].strip()
