@@ -23,7 +23,7 @@ pub data IsToken : List ℕ → Token → Type 0 where
   of_digits : {b : ℕ} {bs : List ℕ} → list_all is_ascii_digit (b ∷ bs) ≡ true → IsToken (b ∷ bs) (token.Digits (number_of (b ∷ bs)))
   of_mark : {text : List ℕ} {t : Token} → Contains marks (text, t) → IsToken text t
 
--- the tokens of a text, between spaces and tabs: no longer front of what is left is a token than the one that is taken
+-- the tokens of a text, between spaces and tabs: each is the longest front of what is left that is a token
 pub data AreTokens : List ℕ → List Token → Type 0 where
   none_left : AreTokens [] []
   blank_first : {b : ℕ} {bs : List ℕ} {ts : List Token} → is_blank b ≡ true → AreTokens bs ts → AreTokens (b ∷ bs) ts
