@@ -1,11 +1,15 @@
 -- What an engine decides before it changes anything.
 use Rattle.std.specs.Prelude.{◌≡◌, ◌≢◌, ◌+◌, ◌≤◌, ℕ, Option, Some, None, is_some, List, length, count_by, ◌⊎◌, MatchOption}
+use Rattle.lab_table.specs.Row.{Row}
 use Rattle.lab_table.specs.Table.{Table}
 use Rattle.lab_table.specs.declared.statement.Statement.{Statement}
 use Rattle.lab_table.specs.declared.statement.Command.{Command}
 use Rattle.lab_table.specs.declared.statement.Command.TheVariants.{Run}
 use Rattle.lab_engine.specs.declared.event.Level.{Level}
-use Rattle.lab_engine.specs.declared.event.EngineFault.TheVariants.{Busy}
+use Rattle.lab_engine.specs.declared.event.EngineFault.{EngineFault}
+use Rattle.lab_engine.specs.declared.event.EngineFault.TheVariants.{WriteConflict, Busy, ReadConflict}
+use Rattle.lab_engine.specs.declared.rules.ConflictKind.{ConflictKind}
+use Rattle.lab_engine.specs.declared.rules.ConflictKind.TheVariants.{Write, Read}
 use Rattle.lab_engine.specs.declared.event.Outcome.{Outcome}
 use Rattle.lab_engine.specs.declared.event.Outcome.TheVariants.{Refused}
 use Rattle.lab_engine.specs.Log.{Past, active, waiting}
@@ -25,6 +29,11 @@ MayGive past session command = (waiting past session ≡ None) ⊎ ((s : Stateme
 abbrev pub Answers : Level → Table → Past → ℕ → Command → Outcome → Type 0
 Answers level setup past session command outcome = Permitted level setup past session command outcome × (outcome ≢ Refused Busy)
     × NamesLeastOf level setup past session command outcome
+
+-- the refusal of a commit for a conflict of this kind
+abbrev pub conflict_fault : ConflictKind → Row → ℕ → EngineFault
+conflict_fault Write row by = WriteConflict row by
+conflict_fault Read row by = ReadConflict row by
 
 -- a session is the least retryable one, or there is none
 abbrev pub IsRetryChoice : Level → Table → Past → Option ℕ → Type 0

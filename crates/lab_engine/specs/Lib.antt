@@ -1,4 +1,5 @@
 pub mod Limits
+pub mod RuleTable
 pub mod Log
 pub mod Rules
 pub mod Laws

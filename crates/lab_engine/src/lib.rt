@@ -54,7 +54,7 @@ pub use recording::{RecordFault, Recording};
 pub use recording_laws::{law_of_installers, law_of_views, recording_unique};
 pub use row_state::{Installed, RowState};
 pub use row_states::RowStates;
-pub use rules::{Conflict, Rules};
+pub use rules::{Conflict, ConflictKind, Rules};
 pub use session_set::SessionSet;
 pub use session_state::{RunningTxn, SessionState};
 pub use situation::Situation;

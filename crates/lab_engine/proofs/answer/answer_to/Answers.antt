@@ -20,7 +20,7 @@ returns-in-None-clause-answer g c past d may h = let t = running_txn past c.args
   (
     t.0,
     gives _ _ _ _ t.0 c.in-Commit.is refl may t.1,
-    conflict_none _ _ t.0 _ c.in-None.is (c.conflict.ensures past t.0 (c.of-asker.ensures.is past t.0 d t.1 t.2)),
+    conflict_none _ past t.0 _ c.in-None.is (c.conflict.ensures past t.0 (c.of-asker.ensures.is past t.0 d t.1 t.2)),
   ),
   (λ eq. cc),
   λ s run circle eq. cc,
@@ -28,7 +28,7 @@ returns-in-None-clause-answer g c past d may h = let t = running_txn past c.args
 
 pub returns-in-Some-conflict-clause-answer : goal.returns-in-Some-conflict-clause-answer
 returns-in-Some-conflict-clause-answer g c past d may h = let t = running_txn past c.args.situation.now d c.args.session c.in-Some.running.now (sym c.in-Some.ensures) in
-    let p = conflict_some _ _ t.0 _ c.in-Some-conflict.conflict c.in-Some-conflict.is (c.conflict.ensures past t.0 (c.of-asker.ensures.is past t.0 d t.1 t.2)) in
+    let p = conflict_some _ past t.0 _ c.in-Some-conflict.conflict c.in-Some-conflict.is (c.conflict.ensures past t.0 (c.of-asker.ensures.is past t.0 d t.1 t.2)) in
     ((t.0, gives _ _ _ _ t.0 c.in-Commit.is refl may t.1, p.0, p.1, p.2), (λ eq. cc), λ s run circle eq. cc)
 
 pub returns-in-Run-clause-answer : goal.returns-in-Run-clause-answer
