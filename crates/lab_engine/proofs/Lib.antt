@@ -1,4 +1,5 @@
 pub mod Common
+pub mod RuleTables
 pub mod Locks
 pub mod LockSteps
 pub mod Commits
