@@ -19,7 +19,7 @@ pub use Rattle.lab_history.specs.declared.operation.VersionName.TheVariants.{Ini
 pub use Rattle.lab_engine.specs.declared.event.Level.{Level}
 pub use Rattle.lab_engine.specs.declared.event.Outcome.{Outcome}
 pub use Rattle.lab_engine.specs.declared.event.Outcome.TheVariants.{Aborted, Begun, Committed, Refused, Rows as Listed, Waits}
-pub use Rattle.lab_engine.specs.declared.event.EngineFault.TheVariants.{AlreadyBegun, Busy, Deadlock, DuplicateKey, NoTransaction, OutOfRange, WriteConflict}
+pub use Rattle.lab_engine.specs.declared.event.EngineFault.TheVariants.{AlreadyBegun, Busy, Deadlock, DuplicateKey, NoTransaction, OutOfRange, ReadConflict, WriteConflict}
 pub use Rattle.lab_engine.specs.declared.event.LogEvent.{LogEvent}
 pub use Rattle.lab_engine.specs.Log.{Past, Txn, Version, active, active_after, asked, begun, begun_after, commits, commits_after, committed_version, has_read, initial_version, installers, is_fatal, last_installed, last_version, numbers, ops_after, past_of, seen, sight, version_by, version_or, waiting, waiting_after, writers}
 pub use Rattle.std.proofs.lemmas.Bool.{and_from, and_parts, and_right, both_ways, cases_eq, cases_lt, eq-eqb, eqb-false, eqb-true, false_from_ne_true, false≢true, ne_eqb, not-true, or_cases, or_from, or_left, or_parts, or_right, true≢false}

@@ -1,5 +1,7 @@
 pub mod Common
 pub mod RuleTables
+mod Blockers
+pub mod ReadConflicts
 pub mod Locks
 pub mod LockSteps
 pub mod Commits

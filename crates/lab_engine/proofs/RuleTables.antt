@@ -34,9 +34,9 @@ pub if_holds : (flag : Bool) {A : Type 0} → If flag A → A
 if_holds true h = h
 if_holds false h = absurd h
 
-pub if_set : (flag : Bool) {A : Type 0} → If flag A → flag ≡ true
-if_set true h = refl
-if_set false h = absurd h
+pub if_set : (flag : Bool) (A : Type 0) → If flag A → flag ≡ true
+if_set true A h = refl
+if_set false A h = absurd h
 
 pub if_made : (flag : Bool) {A : Type 0} → flag ≡ true → A → If flag A
 if_made true on h = h
