@@ -59,3 +59,5 @@ mod AfterReads
 mod WaitsAfter
 pub mod Overlaid
 pub mod OneRecording
+mod LeastTaken
+pub mod TakenRows

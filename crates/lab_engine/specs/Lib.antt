@@ -31,3 +31,4 @@ pub mod RecordingLaws
 pub mod RecordedLog
 pub mod Gathered
 pub mod OverLimit
+pub mod Taken

@@ -39,6 +39,7 @@ mod rules;
 mod session_set;
 mod session_state;
 mod situation;
+mod taken;
 mod version;
 mod wait_graph;
 mod waits;

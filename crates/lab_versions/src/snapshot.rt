@@ -2,7 +2,6 @@
 
 ghost use Rattle.lab_engine.specs.declared.event.Level.TheVariants.{Snapshot};
 
-use crate::conflict::first_conflict;
 use lab_engine::{Asker, Conflict, Journal, Level, Rules, SessionSet};
 use lab_table::Statement;
 
@@ -30,11 +29,7 @@ impl Rules for SnapshotRules {
     }
 
     fn conflict(&self, asker: &Asker) -> Option<Conflict> {
-        first_conflict(
-            &asker.running.written,
-            &asker.situation.rows,
-            asker.running.before,
-        )
+        asker.first_taken()
     }
 }
 

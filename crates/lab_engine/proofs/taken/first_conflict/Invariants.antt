@@ -1,7 +1,7 @@
 use Rattle.std.proofs.Common.{take}
 use Rattle.lab_engine.proofs.Common.{first_since, chain_in}
-use Rattle.lab_versions.specs.Conflict.{IsLeastTaken}
-use Rattle.lab_versions.proofs.conflict.first_conflict.Given as goal
+use Rattle.lab_engine.specs.Taken.{IsLeastTaken}
+use Rattle.lab_engine.proofs.taken.first_conflict.Given as goal
 
 -- the least of the rows so far
 abbrev pub invariant-loop-row : goal.invariant-loop-row

@@ -1,9 +1,9 @@
 use Rattle.std.proofs.Common.{ℕ, ◌+◌, ◌∙◌, sym, subst, take, List, Option}
 use Rattle.lab_engine.proofs.Common.{Row, first_since, chain_in}
-use Rattle.lab_versions.specs.Conflict.{IsLeastTaken}
-use Rattle.lab_versions.proofs.LeastTaken.{least_new, least_untaken, least_behind}
-use Rattle.lab_versions.proofs.conflict.first_conflict.Goals as goal
-use Rattle.lab_versions.proofs.conflict.first_conflict.Goals.{then-is_before+in-Some, then-is_before+in_default, else-is_before}
+use Rattle.lab_engine.specs.Taken.{IsLeastTaken}
+use Rattle.lab_engine.proofs.LeastTaken.{least_new, least_untaken, least_behind}
+use Rattle.lab_engine.proofs.taken.first_conflict.Goals as goal
+use Rattle.lab_engine.proofs.taken.first_conflict.Goals.{then-is_before+in-Some, then-is_before+in_default, else-is_before}
 
 pub loop-row-preserved : goal.loop-row-preserved
 loop-row-preserved c =

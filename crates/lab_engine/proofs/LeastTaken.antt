@@ -1,9 +1,10 @@
 -- The least of some rows that somebody has taken, row by row.
-use Rattle.std.proofs.Common.{◌≡◌, ℕ, ◌+◌, ◌<◌, sym, ap, subst, ◌∙◌, true, false, ◌||◌, T, inl, inr, List, length, take, get_or, Option, Some, None, is_lt, is_eq}
+use Rattle.std.proofs.Common.{◌≡◌, ℕ, ◌+◌, ◌<◌, refl, sym, ap, subst, ◌∙◌, true, false, ◌||◌, T, inl, inr, List, length, take, get_or, Option, Some, None, is_lt, is_eq}
 use Rattle.lab_engine.proofs.Common.{list_any, or_cases, or_left, or_right, true≢false, Row, row_cmp, row_eq, rows_total, same_row, row_eq_self, is_less, IsBelow}
 use Rattle.std.proofs.lemmas.List.Folds.{list_any_more}
 use Rattle.lab_engine.specs.declared.rules.Conflict.{Conflict}
-use Rattle.lab_versions.specs.Conflict.{IsAmong, IsLeastTaken, comes_before}
+use Rattle.lab_engine.specs.declared.rules.ConflictKind.TheVariants.{Write}
+use Rattle.lab_engine.specs.Taken.{IsAmong, IsLeastTaken, comes_before}
 
 -- no row is below itself
 not_below : (row other : Row) → IsBelow row other → row_eq row other ≡ true → ⊥
@@ -29,8 +30,9 @@ module _ (taken : Row → Option ℕ) (rows : List Row) (i : ℕ) (row : Row) (l
 
   -- one that comes before what was found, and is taken
   pub least_new : (least : Option Conflict) (by : ℕ) → IsLeastTaken taken (take i rows) least → comes_before row least ≡ true → taken row ≡ Some by
-      → IsLeastTaken taken (take (i + 1) rows) (Some (record { row = row; by = by }))
+      → IsLeastTaken taken (take (i + 1) rows) (Some (record { kind = Write; row = row; by = by }))
   least_new least by h before is_taken = (
+    refl,
     among_more row ∙ or_right (list_any (row_eq row) (take i rows)) (row_eq row row) (row_eq_self row),
     is_taken,
     λ q below there. elim (or_cases (list_any (row_eq q) (take i rows)) (row_eq q row) (sym (among_more q) ∙ there)) [
@@ -41,25 +43,27 @@ module _ (taken : Row → Option ℕ) (rows : List Row) (i : ℕ) (row : Row) (l
     where
       earlier : (least : Option Conflict) (q : Row) → IsLeastTaken taken (take i rows) least → comes_before row least ≡ true → IsBelow q row → IsAmong q (take i rows) → taken q ≡ None
       earlier None q h before below old = h q old
-      earlier (Some found) q h before below old = h.2 q (rows_total.trans q row found.row below (before_less row found.row before)) old
+      earlier (Some found) q h before below old = h.3 q (rows_total.trans q row found.row below (before_less row found.row before)) old
 
   -- one that nobody has taken
   pub least_untaken : (least : Option Conflict) → IsLeastTaken taken (take i rows) least → taken row ≡ None → IsLeastTaken taken (take (i + 1) rows) least
   least_untaken None h none = λ q there. each_among (λ r. taken r ≡ None) q (h q) none there
   least_untaken (Some found) h none = (
-    old_among found.row h.0,
-    h.1,
-    λ q below there. each_among (λ r. taken r ≡ None) q (h.2 q below) none there,
+    h.0,
+    old_among found.row h.1,
+    h.2,
+    λ q below there. each_among (λ r. taken r ≡ None) q (h.3 q below) none there,
   )
 
   -- one that comes behind what was found
   pub least_behind : (least : Option Conflict) → IsLeastTaken taken (take i rows) least → comes_before row least ≡ false → IsLeastTaken taken (take (i + 1) rows) least
   least_behind None h behind = absurd (true≢false behind)
   least_behind (Some found) h behind = (
-    old_among found.row h.0,
-    h.1,
+    h.0,
+    old_among found.row h.1,
+    h.2,
     λ q below there. elim (or_cases (list_any (row_eq q) (take i rows)) (row_eq q row) (sym (among_more q) ∙ there)) [
-      | inl old ↦ h.2 q below old
+      | inl old ↦ h.3 q below old
       | inr same ↦ absurd (true≢false (sym (ap is_lt below) ∙ ap (λ r. is_lt (row_cmp r found.row)) (same_row q row same) ∙ behind))
     ],
   )

@@ -1,0 +1,5 @@
+mod LeastRows
+mod ChangedRows
+mod ReadConflicts
+mod FirstReads
+mod Decided
