@@ -2,6 +2,7 @@
 //! NoMemory, part of what was to be appended may stand there.
 
 ghost use Rattle.std.specs.Prelude.{◌≢◌, ◌≡◌, ◌++◌, codes, flat_map, map, Err, OnOk};
+ghost use Rattle.std.specs.Fmt.{decimal};
 ghost use Rattle.lab_script.specs.Printed.{named_rows_or};
 ghost use Rattle.lab_statement.specs.Limits.{IsDeep, IsLong};
 ghost use Rattle.lab_statement.specs.Printed.{joined, printed_row_name};
@@ -10,7 +11,7 @@ ghost use Rattle.lab_session.specs.LogText.{event_text, next_text, outcome_text,
 use itoa::Buffer;
 use lab_engine::{EngineFault, LogEvent, Outcome};
 use lab_statement::{PrintFault, append_result, put_list, put_printable, put_row_name, spell_all};
-use lab_table::{NoMemory, RowName, Session, Value};
+use lab_table::{NoMemory, RowName, Session, TxnNo, Value};
 
 /// Appends the line of an event, as `T1 commit: committed`, if its statement keeps the limits of a text. TooDeep and TooLong
 /// only where it breaks that limit.
@@ -107,6 +108,15 @@ fn put_reason(out: &mut Vec<u8>, reason: &[u8], id: RowName) -> Result<(), NoMem
     put_row_name(out, id)
 }
 
+/// Appends why a commit was refused, for which row, and whose install of it conflicts.
+fn put_conflict(out: &mut Vec<u8>, reason: &[u8], row: RowName, by: TxnNo) -> Result<(), NoMemory>
+    ensures { OnOk result (out.new.items ≡ out.old.items ++ (reason.now ++ printed_row_name row ++ codes " by " ++ decimal by)) }
+{
+    put_reason(out, reason, row)?;
+    out.extend_from_slice(b" by ")?;
+    out.extend_from_slice(Buffer::new().format(by.number()).as_bytes())
+}
+
 fn put_refusal(out: &mut Vec<u8>, fault: &EngineFault) -> Result<(), NoMemory>
     ensures { OnOk result (out.new.items ≡ out.old.items ++ refusal_text fault.now) }
 {
@@ -118,14 +128,14 @@ fn put_refusal(out: &mut Vec<u8>, fault: &EngineFault) -> Result<(), NoMemory>
             put_circle(out, circle.as_slice())?;
         }
         EngineFault::WriteConflict { row, by } => {
-            out.extend_from_slice(b"WriteConflict row ")?;
-            put_row_name(out, *row)?;
-            out.extend_from_slice(b" by ")?;
-            out.extend_from_slice(Buffer::new().format(by.number()).as_bytes())?;
+            put_conflict(out, b"WriteConflict row ", *row, *by)?;
         }
         EngineFault::NoTransaction => out.extend_from_slice(b"NoTransaction")?,
         EngineFault::AlreadyBegun => out.extend_from_slice(b"AlreadyBegun")?,
         EngineFault::Busy => out.extend_from_slice(b"Busy")?,
+        EngineFault::ReadConflict { row, by } => {
+            put_conflict(out, b"ReadConflict row ", *row, *by)?;
+        }
     }
     Ok(())
 }
