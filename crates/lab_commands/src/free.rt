@@ -7,6 +7,7 @@ ghost use Rattle.lab_commands.specs.Untold.{free_untold};
 use crate::player::Player;
 use lab_engine::{Level, Recording};
 use lab_locking::LockEngine;
+use lab_optimistic::OptimisticEngine;
 use lab_script::Script;
 use lab_session::{Gate, PlayFault, play_free};
 use lab_table::Session;
@@ -59,6 +60,13 @@ impl<'r, T: Threads + Wait + Sync> Player for Free<'r, T> {
                 self.rt,
                 alloc,
                 SnapshotEngine::new(alloc, setup),
+                script,
+                &OpenGate,
+            ),
+            Level::Optimistic => play_free(
+                self.rt,
+                alloc,
+                OptimisticEngine::new(alloc, setup),
                 script,
                 &OpenGate,
             ),

@@ -7,6 +7,7 @@ ghost use Rattle.lab_commands.specs.Untold.{scripted_untold};
 use crate::player::Player;
 use lab_engine::{Level, Recording};
 use lab_locking::LockEngine;
+use lab_optimistic::OptimisticEngine;
 use lab_script::Script;
 use lab_session::{PlayFault, play_script};
 use lab_versions::{CommittedEngine, SnapshotEngine};
@@ -31,6 +32,7 @@ impl Player for Scripted {
             Level::Locking => play_script(alloc, LockEngine::new(alloc, setup), script),
             Level::Committed => play_script(alloc, CommittedEngine::new(alloc, setup), script),
             Level::Snapshot => play_script(alloc, SnapshotEngine::new(alloc, setup), script),
+            Level::Optimistic => play_script(alloc, OptimisticEngine::new(alloc, setup), script),
         }
     }
 

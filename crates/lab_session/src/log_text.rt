@@ -29,7 +29,9 @@ pub fn print_log(alloc: Global, recording: &Recording) -> Result<Vec<u8>, PrintF
     Ok(text)
 }
 
-fn put_event(out: &mut Vec<u8>, event: &LogEvent) -> Result<(), PrintFault>
+/// Appends the line of an event, as `T1 commit: committed`, if its statement keeps the limits of a text. TooDeep and TooLong
+/// only where it breaks that limit.
+pub fn put_event(out: &mut Vec<u8>, event: &LogEvent) -> Result<(), PrintFault>
     ensures text { OnOk result (out.new.items ≡ out.old.items ++ event_text event.now) }
     ensures prints { OnOk result (CommandPrints event.now.command) }
     ensures too_deep { result ≡ Err PrintFault.TooDeep → IsDeep event.now.command }
@@ -45,7 +47,8 @@ fn put_event(out: &mut Vec<u8>, event: &LogEvent) -> Result<(), PrintFault>
     Ok(())
 }
 
-fn put_session(out: &mut Vec<u8>, session: Session) -> Result<(), NoMemory>
+/// Appends a session, as `T1`.
+pub fn put_session(out: &mut Vec<u8>, session: Session) -> Result<(), NoMemory>
     ensures { OnOk result (out.new.items ≡ out.old.items ++ session_text session) }
 {
     out.extend_from_slice(b"T")?;
@@ -78,7 +81,8 @@ fn put_circle(out: &mut Vec<u8>, circle: &[Session]) -> Result<(), NoMemory>
     Ok(())
 }
 
-fn put_outcome(out: &mut Vec<u8>, outcome: &Outcome) -> Result<(), NoMemory>
+/// Appends what an engine answered, as `waits T2`.
+pub fn put_outcome(out: &mut Vec<u8>, outcome: &Outcome) -> Result<(), NoMemory>
     ensures { OnOk result (out.new.items ≡ out.old.items ++ outcome_text outcome.now) }
 {
     match outcome {

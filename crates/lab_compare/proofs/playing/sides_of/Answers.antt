@@ -1,5 +1,5 @@
-use Rattle.std.proofs.Common.{◌≡◌, ◌+◌, ◌∷◌, List, drop, sym, ap, ◌∙◌, subst}
-use Rattle.std.proofs.lemmas.List.{drop_more}
+use Rattle.std.proofs.Common.{◌≡◌, ◌+◌, ◌∷◌, List, drop, sym, ap, ◌∙◌, subst, arith}
+use Rattle.std.proofs.lemmas.List.{drop_more, drop_all}
 use Rattle.std.proofs.lemmas.Result.{err_from_is_err_and}
 use Rattle.lab_compare.proofs.SidesSoFar.{SoFar, none_so_far, next_so_far, all_so_far, refused_next}
 use Rattle.lab_compare.proofs.playing.sides_of.Goals as goal
@@ -16,7 +16,7 @@ loop-level-preserved c =
     next_so_far c.args.script.now c.args.levels.now _ rest level _ _ _ first c.in_ok-push.ensures.items c.in_ok-side.ensures.side c.loop-level.invariant
 
 pub returns-clause-sides : goal.returns-clause-sides
-returns-clause-sides c = all_so_far c.args.script.now c.args.levels.now _ _ (drop_end c.args.levels.now c.loop-level.level-index c.loop-level-test.false) c.loop-level.invariant
+returns-clause-sides c = all_so_far c.args.script.now c.args.levels.now _ _ (drop_all c.loop-level.level-index c.args.levels.now (omega (arith, c.loop-level-test.false))) c.loop-level.invariant
 
 pub returns-in_err-side-clause-fault : goal.returns-in_err-side-clause-fault
 returns-in_err-side-clause-fault c =

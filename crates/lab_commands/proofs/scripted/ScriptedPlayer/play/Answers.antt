@@ -17,3 +17,8 @@ pub returns-in-Snapshot-clause-fault : goal.returns-in-Snapshot-clause-fault
 returns-in-Snapshot-clause-fault c =
     refused_at (λ l s. IsScriptedFault l s (given_lines c.args.script.now.lines)) c.play_script-in-Snapshot.result c.args.self.now.level _ c.args.script.now.setup _
     (sym c.in-Snapshot.is) (c.new-in-Snapshot.ensures.setup ∙ c.in_ok-setup.ensures) c.play_script-in-Snapshot.ensures.fault
+
+pub returns-in-Optimistic-clause-fault : goal.returns-in-Optimistic-clause-fault
+returns-in-Optimistic-clause-fault c =
+    refused_at (λ l s. IsScriptedFault l s (given_lines c.args.script.now.lines)) c.play_script-in-Optimistic.result c.args.self.now.level _ c.args.script.now.setup _
+    (sym c.in-Optimistic.is) (c.new-in-Optimistic.ensures.setup ∙ c.in_ok-setup.ensures) c.play_script-in-Optimistic.ensures.fault
