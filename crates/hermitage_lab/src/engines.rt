@@ -2,7 +2,7 @@
 
 use clap::ArgMatches;
 use lab_engine::Level;
-use lab_session::{LEVELS, level_name};
+use lab_levels::{LEVELS, level_name};
 use std::alloc::{AllocError, Global};
 
 /// Whether a level is asked for: its engine is among these, or there are none.

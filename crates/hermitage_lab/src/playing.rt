@@ -9,7 +9,7 @@ use clap::ArgMatches;
 use lab_commands::{Shown, run, run_free};
 use lab_compare::compare;
 use lab_engine::Level;
-use lab_session::level_named;
+use lab_levels::level_named;
 use lab_streams::{Ending, RunFault};
 use std::alloc::Global;
 use std::io::{Read, Write};

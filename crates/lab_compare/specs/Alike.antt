@@ -7,7 +7,7 @@ use Rattle.std.specs.Str.{bytes_eq}
 use Rattle.lab_table.specs.Row.{Row, row_test}
 use Rattle.lab_statement.specs.Printed.{newline}
 use Rattle.lab_script.specs.Printed.{named_rows_or}
-use Rattle.lab_session.specs.LevelName.{level_name}
+use Rattle.lab_levels.specs.LevelName.{level_name}
 use Rattle.lab_matrix.specs.MatrixText.{spaces}
 use Rattle.lab_compare.specs.Cells.{rows_behind}
 use Rattle.lab_compare.specs.declared.cells.Cell.{Cell}

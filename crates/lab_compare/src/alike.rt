@@ -6,7 +6,7 @@ ghost use Rattle.lab_compare.specs.Alike.{first_alike, is_of, name_if, group_tex
 ghost use Rattle.lab_matrix.specs.MatrixText.{spaces};
 
 use crate::side::{Column, Side, Topic};
-use lab_session::level_name;
+use lab_levels::level_name;
 use lab_table::NoMemory;
 
 /// The width of a column.

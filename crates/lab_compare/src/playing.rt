@@ -1,6 +1,6 @@
 //! Plays of a script at some levels.
 
-ghost use Rattle.std.specs.Prelude.{◌≢◌, IfOk, IfErr};
+ghost use Rattle.std.specs.Prelude.{◌≡◌, ◌≢◌, ◌++◌, ◌∷◌, [], IfOk, IfErr, OnOk};
 ghost use Rattle.lab_commands.specs.Playing.{IsScriptedRefusal};
 ghost use Rattle.lab_compare.specs.Answer.{IsSide, AreSides, IsFirstRefusal};
 
@@ -10,6 +10,7 @@ use lab_engine::Level;
 use lab_judge::judge_recording;
 use lab_script::Script;
 use lab_session::PlayFault;
+use lab_table::NoMemory;
 use std::alloc::Global;
 
 /// Plays a script at a level, and says what there is to say of that.
@@ -22,6 +23,14 @@ fn side(alloc: Global, level: Level, script: &Script) -> Result<Side, PlayFault>
     Ok(side_of(alloc, level, script.lines.as_slice(), &recording, &report)?)
 }
 
+/// Adds a side. NoMemory where an allocation was refused.
+fn add(sides: &mut Vec<Side>, side: Side) -> Result<(), NoMemory>
+    ensures { OnOk result (sides.new.items ≡ sides.old.items ++ side ∷ []) }
+{
+    sides.push(side)?;
+    Ok(())
+}
+
 /// What there is to say of the plays of a script at these levels, or the first fault that one of them is refused for.
 pub fn sides_of(alloc: Global, levels: &[Level], script: &Script) -> Result<Vec<Side>, PlayFault>
     ensures sides { IfOk result (λ sides. AreSides script.now levels.now sides.items) }
@@ -30,7 +39,7 @@ pub fn sides_of(alloc: Global, levels: &[Level], script: &Script) -> Result<Vec<
     let mut sides = Vec::with_capacity(alloc, levels.len())?;
     for level in levels {
         let side = side(alloc, *level, script)?;
-        sides.push(side)?;
+        add(&mut sides, side)?;
     }
     Ok(sides)
 }

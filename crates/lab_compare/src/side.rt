@@ -17,7 +17,7 @@ use lab_history::History;
 use lab_judge::{Finding, Places, Report};
 use lab_reports::Phenomenon;
 use lab_script::Line;
-use lab_session::level_name;
+use lab_levels::level_name;
 use lab_table::{NoMemory, RowName, Sequence, Value};
 use std::alloc::Global;
 

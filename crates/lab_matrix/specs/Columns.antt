@@ -2,7 +2,7 @@
 use Rattle.std.specs.Prelude.{◌≡◌, ◌⊎◌, ◌<◌, ◌-◌, ℕ, ⊤, List, [], ◌∷◌, ◌++◌, length, codes}
 use Rattle.lab_statement.specs.Printed.{newline}
 use Rattle.lab_engine.specs.declared.event.Level.{Level}
-use Rattle.lab_session.specs.LevelName.{level_name}
+use Rattle.lab_levels.specs.LevelName.{level_name}
 use Rattle.lab_judge.specs.declared.report.Report.{Report}
 use Rattle.lab_matrix.specs.EnginePromise.{Says, promise_of, promise_name}
 use Rattle.lab_matrix.specs.Matrix.{IsCell, IsRecorded, IsUnrecorded, case_place}

@@ -1,12 +1,13 @@
 //! The cases at one level after another, played and judged.
 
-ghost use Rattle.std.specs.Prelude.{◌≡◌, ◌≢◌, IfOk, IfErr};
+ghost use Rattle.std.specs.Prelude.{◌≡◌, ◌≢◌, ◌++◌, ◌∷◌, [], IfOk, IfErr, OnOk};
 ghost use Rattle.lab_matrix.specs.Columns.{report_of, AreReports, KeepPromise, IsFirstAt, AreColumns, KeepPromises, IsFirstAmong};
 
 use crate::filling::{MatrixFault, cell_at};
 use crate::name::CaseName;
 use lab_engine::Level;
 use lab_judge::Report;
+use lab_table::NoMemory;
 use std::alloc::Global;
 
 /// The judgements of the ten cases at a level.
@@ -70,6 +71,14 @@ fn reports_at(alloc: Global, level: Level) -> Result<CaseReports, MatrixFault>
     })
 }
 
+/// Adds a column. NoMemory where an allocation was refused.
+fn add(columns: &mut Vec<CaseReports>, column: CaseReports) -> Result<(), NoMemory>
+    ensures { OnOk result (columns.new.items ≡ columns.old.items ++ column ∷ []) }
+{
+    columns.push(column)?;
+    Ok(())
+}
+
 /// The judgements of the cases at each of these levels, in their order. Each says what the engine of its level promises.
 ///
 /// Refused where a play has no recording (2), which is then true of the first such level, and of the first such case of it;
@@ -82,7 +91,7 @@ pub fn columns(alloc: Global, levels: &[Level]) -> Result<Vec<CaseReports>, Matr
     let mut columns = Vec::with_capacity(alloc, levels.len())?;
     for level in levels {
         let reports = reports_at(alloc, *level)?;
-        columns.push(reports)?;
+        add(&mut columns, reports)?;
     }
     Ok(columns)
 }

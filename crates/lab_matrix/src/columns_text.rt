@@ -10,7 +10,7 @@ use crate::matrix_text::{mark, put_spaces};
 use crate::name::CaseName;
 use crate::promised::promise;
 use lab_judge::Report;
-use lab_session::level_name;
+use lab_levels::level_name;
 use lab_table::NoMemory;
 use std::alloc::Global;
 

@@ -13,7 +13,7 @@ loop-level-preserved c =
     let rest = drop (c.loop-level.level-index + 1) c.args.levels.now in
     let first : drop c.loop-level.level-index c.args.levels.now ≡ level ∷ rest =
     drop_more c.args.levels.now c.loop-level.level-index level c.loop-level-test.true ∙ ap (λ e. e ∷ rest) (sym c.level-item.is) in
-    next_so_far c.args.script.now c.args.levels.now _ rest level _ _ _ first c.in_ok-push.ensures.items c.in_ok-side.ensures.side c.loop-level.invariant
+    next_so_far c.args.script.now c.args.levels.now _ rest level _ _ _ first c.in_ok-add.ensures c.in_ok-side.ensures.side c.loop-level.invariant
 
 pub returns-clause-sides : goal.returns-clause-sides
 returns-clause-sides c = all_so_far c.args.script.now c.args.levels.now _ _ (drop_all c.loop-level.level-index c.args.levels.now (omega (arith, c.loop-level-test.false))) c.loop-level.invariant

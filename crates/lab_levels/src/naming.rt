@@ -2,7 +2,7 @@
 
 ghost use Rattle.std.specs.Prelude.{◌≡◌};
 ghost use Rattle.std.specs.Str.{bytes_eq};
-ghost use Rattle.lab_session.specs.LevelName.{first_level, level_name, level_named};
+ghost use Rattle.lab_levels.specs.LevelName.{first_level, level_name, level_named};
 
 use lab_engine::Level;
 
