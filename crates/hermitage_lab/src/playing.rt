@@ -112,5 +112,5 @@ pub fn run_compare<R: Read, W: Write, N: Write>(
         ..
     } = streams;
     let levels = levels_of(alloc, matches)?;
-    ended(compare(alloc, reader, writer, notes, levels))
+    ended(compare(alloc, reader, writer, notes, &levels))
 }

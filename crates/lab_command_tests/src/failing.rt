@@ -9,7 +9,7 @@ use crate::run::{FREE_HISTORY, FREE_LEFT_OPEN, FREE_NO_SESSION, HISTORY, LEFT_OP
 use crate::serial::{NO_SESSION, TWO_SESSIONS};
 use crate::streams::{FAULTS, Sink, Source};
 use crate::words::{
-    COMPARISON, EXPLANATION, LISTING, MATRIX, NO_COMPARISON, NO_EXPLANATION, NO_PICTURE,
+    COMPARISON, EXPLANATION, LISTING, MATRIX, MATRIX_AT, NO_COMPARISON, NO_EXPLANATION, NO_PICTURE,
     NO_SMALLER, PICTURE, SMALLER,
 };
 use lab_refusal_tests::{refuse, was_refused};
@@ -128,7 +128,7 @@ const NO_JOIN: Case = Case {
 };
 
 /// Cases that write: all.
-const WRITING: [Case; 24] = [
+const WRITING: [Case; 25] = [
     TWO_SESSIONS,
     NO_SESSION,
     LEFT_OPEN,
@@ -149,6 +149,7 @@ const WRITING: [Case; 24] = [
     NO_COMPARISON,
     LISTING,
     MATRIX,
+    MATRIX_AT,
     BATCH,
     CHAIN,
     JOIN,

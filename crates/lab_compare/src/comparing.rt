@@ -32,16 +32,16 @@ fn compared(alloc: Global, levels: &[Level], script: &Script) -> Result<Vec<u8>,
 
 /// What tells a comparison of the engines of some levels.
 #[derive(Drop)]
-struct TellsComparison {
-    levels: Vec<Level>,
+struct TellsComparison<'l> {
+    levels: &'l [Level],
     /// Why a play was refused.
     why: Option<PlayFault>,
 }
 
-impl Subcommand for TellsComparison {
+impl<'l> Subcommand for TellsComparison<'l> {
     ghost Needs = { ⊤ };
 
-    ghost Says = { λ s. IsCompareAnswer s.levels.items };
+    ghost Says = { λ s. IsCompareAnswer s.levels.now };
 
     fn answer(&mut self, alloc: Global, input: &[u8]) -> Result<Answer, NoMemory> {
         let script = match parse_script(alloc, input) {
@@ -54,7 +54,7 @@ impl Subcommand for TellsComparison {
                 });
             }
         };
-        let compared = compared(alloc, &self.levels, &script);
+        let compared = compared(alloc, self.levels, &script);
         match compared {
             Ok(text) => Ok(Answer {
                 text,
@@ -75,7 +75,7 @@ impl Subcommand for TellsComparison {
         note_play(alloc, input, ending == Ending::Refused, self.why, notes);
     }
 
-    ghost whole = { λ s. compare_whole s.levels.items };
+    ghost whole = { λ s. compare_whole s.levels.now };
 }
 
 /// Reads a script, plays it by one thread on the engine of each of these levels, and writes what each of its lines was answered, the
@@ -89,10 +89,10 @@ pub fn compare<R: Read, W: Write, N: Write>(
     reader: &mut R,
     writer: &mut W,
     notes: &mut N,
-    levels: Vec<Level>,
+    levels: &[Level],
 ) -> Result<Ending, RunFault>
     ensures written { IfOk result (λ ending. IfSome (R.remaining reader.old) (λ input.
-        (text : List ℕ) × Appends (W.contents writer.old) (W.contents writer.new) text × IsCompareAnswer levels.items input text ending)) }
+        (text : List ℕ) × Appends (W.contents writer.old) (W.contents writer.new) text × IsCompareAnswer levels.now input text ending)) }
     ensures read_first { ReadsFirst result (R.remaining reader.old) (R.remaining reader.new) }
     ensures silent { IfErr result (λ fault. (fault ≡ RunFault.Unwritten) ⊎ Keeps (W.contents writer.old) (W.contents writer.new)) }
     ensures hint_last { OnErr result (Keeps (N.contents notes.old) (N.contents notes.new)) }

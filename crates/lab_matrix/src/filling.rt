@@ -8,8 +8,8 @@ use crate::cells::{Matrix, Row};
 use crate::name::{CaseName, case};
 use lab_engine::{Engine, Level};
 use lab_judge::{Report, judge_recording};
+use lab_levels::on_engine;
 use lab_locking::LockEngine;
-use lab_optimistic::OptimisticEngine;
 use lab_script::Script;
 use lab_session::{PlayFault, play_script};
 use lab_versions::{CommittedEngine, SnapshotEngine};
@@ -94,24 +94,16 @@ fn at_snapshot(alloc: Global, name: CaseName) -> Result<Report, MatrixFault>
     cell!(alloc, name, SnapshotEngine)
 }
 
-fn at_optimistic(alloc: Global, name: CaseName) -> Result<Report, MatrixFault>
-    ensures cell { IfOk result (IsCell name Level.Optimistic) }
-    ensures fault { IfErr result (IsCellFault name Level.Optimistic) }
-{
-    cell!(alloc, name, OptimisticEngine)
-}
-
 /// The judgement of a case at a level: of the recording of a scripted play of its script on the engine of the level.
 pub fn cell_at(alloc: Global, name: CaseName, level: Level) -> Result<Report, MatrixFault>
     ensures cell { IfOk result (IsCell name level) }
     ensures fault { IfErr result (IsCellFault name level) }
 {
-    match level {
-        Level::Locking => at_locking(alloc, name),
-        Level::Committed => at_committed(alloc, name),
-        Level::Snapshot => at_snapshot(alloc, name),
-        Level::Optimistic => at_optimistic(alloc, name),
-    }
+    let script = case(alloc, name)?;
+    let setup = script.setup.copy(alloc)?;
+    on_engine!(level, alloc, setup, |engine| judged(
+        alloc, name, &script, engine,
+    ))
 }
 
 fn row_of_case(alloc: Global, name: CaseName) -> Result<Row, MatrixFault>

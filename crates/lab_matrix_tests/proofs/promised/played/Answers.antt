@@ -10,3 +10,6 @@ play_free-requires-in-Committed-send-E c κs = search (sendable, journal)
 
 pub play_free-requires-in-Snapshot-send-E : goal.play_free-requires-in-Snapshot-send-E
 play_free-requires-in-Snapshot-send-E c κs = search (sendable, journal)
+
+pub play_free-requires-in-Optimistic-send-E : goal.play_free-requires-in-Optimistic-send-E
+play_free-requires-in-Optimistic-send-E c κs = search (sendable, journal)

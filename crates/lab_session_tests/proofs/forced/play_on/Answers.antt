@@ -11,3 +11,6 @@ play_instrumented-requires-in-Committed-send-E g c κs = search (sendable, journ
 
 pub play_instrumented-requires-in-Snapshot-send-E : goal.play_instrumented-requires-in-Snapshot-send-E
 play_instrumented-requires-in-Snapshot-send-E g c κs = search (sendable, journal)
+
+pub play_instrumented-requires-in-Optimistic-send-E : goal.play_instrumented-requires-in-Optimistic-send-E
+play_instrumented-requires-in-Optimistic-send-E g c κs = search (sendable, journal)
