@@ -1,6 +1,6 @@
 -- Who keeps reads stable: rules by which a statement waits for who has read what it would write, and rules by which a commit is refused where one that committed since its
 -- begin changed what the transaction has read.
-use Rattle.std.proofs.Common.{◌≡◌, ℕ, ◌≤◌, refl, sym, ap, subst, ◌∙◌, Bool, true, false, cond, List, [], ◌∷◌, ◌++◌, inl, inr, length, append_assoc, arith}
+use Rattle.std.proofs.Common.{◌≡◌, ℕ, ◌≤◌, sym, ap, subst, ◌∙◌, Bool, true, false, cond, List, [], ◌∷◌, ◌++◌, inl, inr, length, append_assoc, arith}
 use Rattle.std.specs.Prelude.{Some, IsTrue}
 use Rattle.std.proofs.lemmas.Bool.{or_parts, or_cases, false_from_ne_true}
 use Rattle.lab_table.specs.Row.{Row}
@@ -9,12 +9,12 @@ use Rattle.lab_table.specs.Statement.{matches}
 use Rattle.lab_table.specs.declared.statement.Statement.{Statement}
 use Rattle.lab_history.specs.declared.operation.Op.{Op}
 use Rattle.lab_engine.specs.declared.event.Level.{Level}
-use Rattle.lab_engine.specs.RuleTable.{rules_of, Where, keeps_reads}
+use Rattle.lab_engine.specs.RuleTable.{rules_of, keeps_reads}
 use Rattle.lab_engine.specs.Log.{Past, Txn, active, commits, sight, has_read}
 use Rattle.lab_engine.specs.Rules.{IsLegal, ReadsStand, NoneChangesRead, state_after}
 use Rattle.lab_engine.specs.Laws.{Untouched, AllDone, IsDone}
 use Rattle.lab_engine.specs.RecordingLaws.{as_of}
-use Rattle.lab_engine.proofs.RuleTables.{locks_see_now}
+use Rattle.lab_engine.proofs.RuleTables.{locks_see_now, where_holds}
 use Rattle.lab_engine.proofs.Begins.{begins_hold}
 use Rattle.lab_engine.proofs.Commits.{commits_hold}
 use Rattle.lab_engine.proofs.DoneTransactions.{done_at}
@@ -26,8 +26,8 @@ use Rattle.lab_judge.proofs.CommitPlaces.{more_commits, commits-append}
 -- ---- by locks
 pub locks_keep : (level : Level) (setup : Table) (past : Past) → (rules_of level).read_blocks ≡ true → ReadsStable level setup past
 locks_keep level setup past blocks later txn earlier place front op ops ops_are ran =
-    let kept : Untouched setup op.statement ran.since (commits ran.moment) = subst (λ b. Where b (Untouched setup op.statement ran.since (commits ran.moment))) blocks ran.untouched in
-    let stays : StaysTrue setup op.statement earlier (commits ran.moment) = record { since = ran.since; since_is = ran.done_is; untouched = kept } in
+    let stays : StaysTrue setup op.statement earlier (commits ran.moment) =
+    record { since = ran.since; since_is = ran.done_is; untouched = where_holds (rules_of level).read_blocks blocks ran.untouched } in
     subst (λ b. StaysTrue setup op.statement earlier (commits (cond b txn.before ran.moment))) (sym (locks_see_now level blocks)) stays
 
 -- ---- by validation
@@ -70,7 +70,7 @@ sees_begin false past session txn is =
 pub validation_keeps : (level : Level) (setup : Table) (past : Past) → IsLegal level setup past → (rules_of level).read_clashes ≡ true → ReadsStable level setup past
 validation_keeps level setup past legal clashes later txn earlier place front op ops ops_are ran =
     let done : IsDone level setup past earlier txn = done_at level setup past later txn earlier (subst (AllDone level setup past) place (commits_hold level setup past legal).0) in
-    let stood : ReadsStand setup earlier txn = subst (λ b. Where b (ReadsStand setup earlier txn)) clashes done.stood in
+    let stood : ReadsStand setup earlier txn = where_holds (rules_of level).read_clashes clashes done.stood in
     let seen = sight_is level earlier (as_of txn ops) ran.moment ran.since ran.done_is stood.0 stood.1 in
     let short = sees_begin (rules_of level).sees_begin ran.moment ran.ran_by.event.session (as_of txn ops) ran.ran_by.active_is in
     let stays : StaysTrue setup op.statement earlier (commits txn.before) =
