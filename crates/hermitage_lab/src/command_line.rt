@@ -2,9 +2,9 @@
 
 use crate::help;
 use clap::{Arg, ArgAction, Command};
+use lab_levels::{LEVELS, level_name};
 use lab_matrix::CaseName;
 use lab_reports::{Phenomenon, Requirement};
-use lab_levels::{LEVELS, level_name};
 use std::alloc::{AllocError, Global};
 
 /// The version, and what the program was proved with.

@@ -39,9 +39,12 @@ impl<'r, T: Threads + Wait + Sync> Player for Free<'r, T> {
 
     fn play(&self, alloc: Global, script: &Script) -> Result<Recording, PlayFault> {
         let setup = script.setup.copy(alloc)?;
-        on_engine!(self.level, alloc, setup, |engine| play_free(
-            self.rt, alloc, engine, script, &OpenGate,
-        ))
+        on_engine!(
+            self.level,
+            alloc,
+            setup,
+            |engine| play_free(self.rt, alloc, engine, script, &OpenGate,)
+        )
     }
 
     ghost untold = { λ p. free_untold p.level };

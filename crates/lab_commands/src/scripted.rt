@@ -26,9 +26,12 @@ impl Player for Scripted {
 
     fn play(&self, alloc: Global, script: &Script) -> Result<Recording, PlayFault> {
         let setup = script.setup.copy(alloc)?;
-        on_engine!(self.level, alloc, setup, |engine| play_script(
-            alloc, engine, script,
-        ))
+        on_engine!(
+            self.level,
+            alloc,
+            setup,
+            |engine| play_script(alloc, engine, script,)
+        )
     }
 
     ghost untold = { λ p. scripted_untold p.level };

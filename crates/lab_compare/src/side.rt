@@ -15,9 +15,9 @@ use lab_engine::{Level, Recording};
 use lab_explain::explanation;
 use lab_history::History;
 use lab_judge::{Finding, Places, Report};
+use lab_levels::level_name;
 use lab_reports::Phenomenon;
 use lab_script::Line;
-use lab_levels::level_name;
 use lab_table::{NoMemory, RowName, Sequence, Value};
 use std::alloc::Global;
 

@@ -127,9 +127,12 @@ fn edges_of_plays(alloc: Global, script: &Script) -> Result<usize, &'static str>
     let mut edges = 0usize;
     for level in LEVELS {
         let setup = script.setup.copy(alloc).ok().ok_or("memory")?;
-        let played = on_engine!(level, alloc, setup, |engine| edges_of_play(
-            alloc, engine, script,
-        ));
+        let played = on_engine!(
+            level,
+            alloc,
+            setup,
+            |engine| edges_of_play(alloc, engine, script,)
+        );
         edges = edges.wrapping_add(played?);
     }
     Ok(edges)

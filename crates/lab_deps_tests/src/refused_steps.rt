@@ -252,9 +252,12 @@ fn is_refused_at(
     };
     let setup = script.setup.copy(alloc).ok().ok_or("memory")?;
     let lines = script.lines.as_slice();
-    on_engine!(level, alloc, setup, |engine| is_refused(
-        alloc, engine, lines, play, place, growth,
-    ))
+    on_engine!(
+        level,
+        alloc,
+        setup,
+        |engine| is_refused(alloc, engine, lines, play, place, growth,)
+    )
 }
 
 /// Fails where a turn isn't right with one of its allocations refused, or has no last allocation.

@@ -236,16 +236,22 @@ fn script_of(alloc: Global, number: u32) -> Option<Script> {
 /// Whether the engine of a level runs and plays a script as a plain one.
 fn level_alike(alloc: Global, level: Level, script: &Script) -> Option<bool> {
     let setup = script.setup.copy(alloc).ok()?;
-    let alike = on_engine!(level, alloc, setup, |engine| runs_alike(
-        alloc, engine, script,
-    ));
+    let alike = on_engine!(
+        level,
+        alloc,
+        setup,
+        |engine| runs_alike(alloc, engine, script,)
+    );
     if !alike? {
         return Some(false);
     }
     let setup = script.setup.copy(alloc).ok()?;
-    on_engine!(level, alloc, setup, |engine| plays_alike(
-        alloc, engine, script,
-    ))
+    on_engine!(
+        level,
+        alloc,
+        setup,
+        |engine| plays_alike(alloc, engine, script,)
+    )
 }
 
 /// The same of the script of a number.

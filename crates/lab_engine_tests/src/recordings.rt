@@ -87,9 +87,12 @@ fn plays_plain<E: Engine + Drop>(alloc: Global, engine: E, script: &Script) -> O
 fn each_plain(alloc: Global, script: &Script) -> Option<bool> {
     for level in LEVELS {
         let setup = script.setup.copy(alloc).ok()?;
-        let plain = on_engine!(level, alloc, setup, |engine| plays_plain(
-            alloc, engine, script,
-        ));
+        let plain = on_engine!(
+            level,
+            alloc,
+            setup,
+            |engine| plays_plain(alloc, engine, script,)
+        );
         if !plain? {
             return Some(false);
         }

@@ -201,9 +201,12 @@ fn played_at(
 ) -> Option<Play> {
     let setup = script.setup.copy(alloc).ok()?;
     let lines = script.lines.as_slice();
-    on_engine!(level, alloc, setup, |engine| played(
-        alloc, engine, lines, place, growth,
-    ))
+    on_engine!(
+        level,
+        alloc,
+        setup,
+        |engine| played(alloc, engine, lines, place, growth,)
+    )
 }
 
 /// Plays a script with each allocation of the turn at a place refused in turn, until none is. How many there were; None

@@ -92,5 +92,5 @@ module _ (case other : CaseName) (at under : Column) (fault again : PlayFault) (
   pub one_refusal : fault ≡ again
   one_refusal =
       let moved : IsUnrecorded case (level_of at) again =
-          subst (λ c. IsUnrecorded c (level_of at) again) (sym one_case) (subst (λ l. IsUnrecorded other (level_of l) again) (sym one_column) told) in
+      subst (λ c. IsUnrecorded c (level_of at) again) (sym one_case) (subst (λ l. IsUnrecorded other (level_of l) again) (sym one_column) told) in
       one_fault (level_of at) usual_setup (given_lines (listing case)) fault again faulty.0 moved.0 faulty.1 moved.1

@@ -101,9 +101,12 @@ pub fn cell_at(alloc: Global, name: CaseName, level: Level) -> Result<Report, Ma
 {
     let script = case(alloc, name)?;
     let setup = script.setup.copy(alloc)?;
-    on_engine!(level, alloc, setup, |engine| judged(
-        alloc, name, &script, engine,
-    ))
+    on_engine!(
+        level,
+        alloc,
+        setup,
+        |engine| judged(alloc, name, &script, engine,)
+    )
 }
 
 fn row_of_case(alloc: Global, name: CaseName) -> Result<Row, MatrixFault>

@@ -44,9 +44,12 @@ fn played<T: Threads + Wait + Sync>(
     level: Level,
 ) -> Option<Recording> {
     let setup = script.setup.copy(alloc).ok()?;
-    on_engine!(level, alloc, setup, |engine| play_free(
-        rt, alloc, engine, script, &OpenGate,
-    ))
+    on_engine!(
+        level,
+        alloc,
+        setup,
+        |engine| play_free(rt, alloc, engine, script, &OpenGate,)
+    )
     .ok()
 }
 

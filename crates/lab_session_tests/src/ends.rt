@@ -162,9 +162,12 @@ fn ended_at(
     lines: &[Line],
     end: End,
 ) -> Option<(Option<End>, bool)> {
-    on_engine!(level, alloc, setup, |engine| ended_after(
-        alloc, engine, lines, end,
-    ))
+    on_engine!(
+        level,
+        alloc,
+        setup,
+        |engine| ended_after(alloc, engine, lines, end,)
+    )
 }
 
 fn end_made(alloc: Global, level: Level, before: &[u8], end: End) -> Option<(Option<End>, bool)> {

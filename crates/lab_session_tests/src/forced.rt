@@ -141,15 +141,12 @@ fn play_on<R: Threads + Wait + Sync>(
     script: &Script,
     gate: &Forcing,
 ) -> Result<Recording, PlayFault> {
-    on_engine!(level, alloc, setup, |engine| play_instrumented(
-        rt,
+    on_engine!(
+        level,
         alloc,
-        engine,
-        refusals,
-        &gate.counts,
-        script,
-        gate,
-    ))
+        setup,
+        |engine| play_instrumented(rt, alloc, engine, refusals, &gate.counts, script, gate,)
+    )
 }
 
 /// The same of the script above, with so many of the first retries refused.

@@ -299,9 +299,12 @@ fn recorded_at<R: Wait>(
     refused: Refused,
     was: &mut bool,
 ) -> Option<Recording> {
-    on_engine!(level, alloc, setup, |engine| recorded(
-        rt, alloc, engine, lines, refused, was,
-    ))
+    on_engine!(
+        level,
+        alloc,
+        setup,
+        |engine| recorded(rt, alloc, engine, lines, refused, was,)
+    )
 }
 
 /// Whether an allocation was refused in a run of a script; None where its log isn't what is due.
