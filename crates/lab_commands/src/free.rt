@@ -43,7 +43,7 @@ impl<'r, T: Threads + Wait + Sync> Player for Free<'r, T> {
             self.level,
             alloc,
             setup,
-            |engine| play_free(self.rt, alloc, engine, script, &OpenGate,)
+            |engine| play_free(self.rt, alloc, engine, script, &OpenGate)
         )
     }
 

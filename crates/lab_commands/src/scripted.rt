@@ -30,7 +30,7 @@ impl Player for Scripted {
             self.level,
             alloc,
             setup,
-            |engine| play_script(alloc, engine, script,)
+            |engine| play_script(alloc, engine, script)
         )
     }
 

@@ -131,7 +131,7 @@ fn edges_of_plays(alloc: Global, script: &Script) -> Result<usize, &'static str>
             level,
             alloc,
             setup,
-            |engine| edges_of_play(alloc, engine, script,)
+            |engine| edges_of_play(alloc, engine, script)
         );
         edges = edges.wrapping_add(played?);
     }

@@ -256,7 +256,7 @@ fn is_refused_at(
         level,
         alloc,
         setup,
-        |engine| is_refused(alloc, engine, lines, play, place, growth,)
+        |engine| is_refused(alloc, engine, lines, play, place, growth)
     )
 }
 

@@ -240,7 +240,7 @@ fn level_alike(alloc: Global, level: Level, script: &Script) -> Option<bool> {
         level,
         alloc,
         setup,
-        |engine| runs_alike(alloc, engine, script,)
+        |engine| runs_alike(alloc, engine, script)
     );
     if !alike? {
         return Some(false);
@@ -250,7 +250,7 @@ fn level_alike(alloc: Global, level: Level, script: &Script) -> Option<bool> {
         level,
         alloc,
         setup,
-        |engine| plays_alike(alloc, engine, script,)
+        |engine| plays_alike(alloc, engine, script)
     )
 }
 

@@ -91,7 +91,7 @@ fn each_plain(alloc: Global, script: &Script) -> Option<bool> {
             level,
             alloc,
             setup,
-            |engine| plays_plain(alloc, engine, script,)
+            |engine| plays_plain(alloc, engine, script)
         );
         if !plain? {
             return Some(false);

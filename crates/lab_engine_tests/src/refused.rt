@@ -205,7 +205,7 @@ fn played_at(
         level,
         alloc,
         setup,
-        |engine| played(alloc, engine, lines, place, growth,)
+        |engine| played(alloc, engine, lines, place, growth)
     )
 }
 

@@ -105,7 +105,7 @@ pub fn cell_at(alloc: Global, name: CaseName, level: Level) -> Result<Report, Ma
         level,
         alloc,
         setup,
-        |engine| judged(alloc, name, &script, engine,)
+        |engine| judged(alloc, name, &script, engine)
     )
 }
 

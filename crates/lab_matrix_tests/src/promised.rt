@@ -48,7 +48,7 @@ fn played<T: Threads + Wait + Sync>(
         level,
         alloc,
         setup,
-        |engine| play_free(rt, alloc, engine, script, &OpenGate,)
+        |engine| play_free(rt, alloc, engine, script, &OpenGate)
     )
     .ok()
 }

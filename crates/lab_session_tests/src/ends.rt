@@ -166,7 +166,7 @@ fn ended_at(
         level,
         alloc,
         setup,
-        |engine| ended_after(alloc, engine, lines, end,)
+        |engine| ended_after(alloc, engine, lines, end)
     )
 }
 

@@ -145,7 +145,7 @@ fn play_on<R: Threads + Wait + Sync>(
         level,
         alloc,
         setup,
-        |engine| play_instrumented(rt, alloc, engine, refusals, &gate.counts, script, gate,)
+        |engine| play_instrumented(rt, alloc, engine, refusals, &gate.counts, script, gate)
     )
 }
 

@@ -303,7 +303,7 @@ fn recorded_at<R: Wait>(
         level,
         alloc,
         setup,
-        |engine| recorded(rt, alloc, engine, lines, refused, was,)
+        |engine| recorded(rt, alloc, engine, lines, refused, was)
     )
 }
 
