@@ -1,11 +1,7 @@
 -- Whom a commit leaves blocked as before: those whom its transaction didn't block.
-use Rattle.std.proofs.Common.{◌≡◌, ℕ, refl, sym, ap, subst, ◌∙◌, Bool, true, false, cond, ◌||◌, ◌↔◌, ◌⊎◌, inl, inr, List, ◌∷◌, Option, Some, None, option_map, is_some, unwrap_or, IsTrue, IsSome, ℤ}
 use Rattle.lab_table.specs.Statement.{kind_matches, kind_would_write, applied, new_state}
-use Rattle.lab_table.specs.declared.statement.StatementKind.{StatementKind}
 use Rattle.lab_table.specs.declared.statement.StatementKind.TheVariants.{Select, Update, Insert, Delete}
-use Rattle.lab_engine.proofs.Common.{Blocks, Command, Committed, Level, Past, Row, State, Statement, Table, Txn, Version, active, both_ways, commits, commits_after, committed_version, false_from_ne_true, has_read, initial_version, last_installed, matches, option_or, or_parts, seen, version_by, would_write}
-use Rattle.lab_engine.specs.RuleTable.{rules_of}
-use Rattle.lab_engine.specs.Asker.{sees_as_of_begin}
+use Rattle.lab_engine.proofs.Common.{active, ap, Blocks, Bool, both_ways, Command, commits, commits_after, Committed, committed_version, cond, false, false_from_ne_true, has_read, initial_version, inl, inr, is_some, IsSome, IsTrue, last_installed, Level, List, matches, None, Option, option_map, option_or, or_parts, Past, refl, Row, rules_of, seen, sees_as_of_begin, Some, State, Statement, StatementKind, subst, sym, Table, true, Txn, unwrap_or, Version, version_by, would_write, ℕ, ℤ, ◌||◌, ◌↔◌, ◌∙◌, ◌∷◌, ◌≡◌, ◌⊎◌}
 use Rattle.lab_engine.proofs.Blockers.{blocks_by_match, blocks_by_write, blocks_map}
 use Rattle.lab_engine.proofs.RuleTables.{readers_locked}
 
@@ -55,7 +51,7 @@ module _ (level : Level) (setup : Table) (asker : Txn) where
   blocks_over past after s holder matched written read = blocks_map level setup past asker s holder after holder
       (λ on h. (h.0, h.1, h.2, subst (λ b. IsTrue (b || matches s h.0 h.1.state)) (matched on h.0) h.3))
       (λ on h. (h.0, h.1, subst (λ (v : Version). IsTrue (would_write s h.0 v.state)) (written on h.0 h.1) h.2))
-      (λ on h. (h.0, subst (λ (v : Version). IsTrue (would_write s h.0 v.state) × IsTrue (has_read holder.ops h.0 v.state || has_read holder.ops h.0 (new_state s h.0 v.state))) (read on h.0 h.1) h.1))
+      (λ on h. (h.0, subst (λ (v : Version). IsTrue (would_write s h.0 v.state) × IsTrue (has_read holder.ops h.0 v.state || has_read holder.ops h.0 (new_state s h.0 v.state))) (read on h.0 h.1) (h.1, h.2)))
 
   -- so it is where all that is committed is the same
   pub blocks_alike : (past after : Past) (s : Statement) (holder : Txn) → ((row : Row) → committed_version setup past row ≡ committed_version setup after row)

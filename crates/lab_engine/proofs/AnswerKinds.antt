@@ -1,11 +1,5 @@
 -- What an answer may be, by who gives the command, and which.
-use Rattle.std.proofs.Common.{◌≡◌, ◌≢◌, ◌⊎◌, inl, inr, ℕ, ◌+◌, refl, sym, ap, subst, false, List, [], Some, None, ◌↔◌, Contains, IsTrue}
-use Rattle.lab_engine.proofs.Common.{Abort, Aborted, AlreadyBegun, Answers, Begin, Begun, BlockedBy, Busy, Command, Commit, Committed, Deadlock, DuplicateKey, IsBelow, IsCircle, IsEffect, IsFree, IsInsertOf, IsLeastCircle, IsStrictlyIncreasing, IsUpdate, Level, Listed, MayCommit, NoTransaction, OutOfRange, Outcome, Past, ReadConflict, Refused, Row, Rows, Run, Statement, Table, Txn, View, Waits, WriteConflict, Writes, active, begun, fails, seen}
-use Rattle.lab_engine.specs.Answer.{conflict_fault}
-use Rattle.lab_engine.specs.Rules.{IsFirstConflict}
-use Rattle.lab_engine.specs.declared.rules.ConflictKind.{ConflictKind}
-use Rattle.lab_engine.specs.declared.rules.ConflictKind.TheVariants.{Write, Read}
-use Rattle.lab_engine.specs.declared.event.EngineFault.{EngineFault}
+use Rattle.lab_engine.proofs.Common.{Abort, Aborted, active, AlreadyBegun, Answers, ap, Begin, Begun, begun, BlockedBy, Busy, Command, Commit, Committed, conflict_fault, ConflictKind, Contains, Deadlock, DuplicateKey, EngineFault, fails, false, inl, inr, IsBelow, IsCircle, IsEffect, IsFirstConflict, IsFree, IsInsertOf, IsLeastCircle, IsStrictlyIncreasing, IsTrue, IsUpdate, Level, List, Listed, MayCommit, None, NoTransaction, Outcome, OutOfRange, Past, Read, ReadConflict, refl, Refused, Row, Rows, Run, seen, Some, Statement, subst, sym, Table, Txn, View, Waits, Write, WriteConflict, Writes, [], ℕ, ◌+◌, ◌↔◌, ◌≡◌, ◌≢◌, ◌⊎◌}
 
 -- a row is the least at which an update fails
 pub record IsFirstFailing (level : Level) (setup : Table) (past : Past) (txn : Txn) (s : Statement) (row : Row) : Type 0 where

@@ -1,14 +1,7 @@
 -- What a session gives, and what the rules answer to it.
-use Rattle.std.proofs.Common.{◌≡◌, ◌≢◌, ℕ, Bool, true≢false, Option, Some, None, inl, inr, List, [], ◌∷◌, length, sym, ap, subst, ◌∙◌, arith, refl}
 use Rattle.std.specs.Prelude.{MatchOption, Result, IfOk, Contains, is_some, true, false, ◌==◌}
 use Rattle.std.specs.declared.alloc.AllocError.{AllocError}
-use Rattle.lab_engine.proofs.Common.{Aborted, AlreadyBegun, Answers, AreBlockers, Asks, Begun, Busy, Command, Commit, Committed, Deadlock, DuplicateKey, Gives, IfOk-weaker, IsCircle, IsEffect, IsEffectOn, IsFree, IsLeastCircle, IsRefusalOn, IsResultOn, Level, Listed, MayAsk, MayCommit, MayGive, NoTransaction, OutOfRange, Outcome, Past, ReadConflict, Refused, Row, Rows, Run, Statement, Table, Txn, Version, View, Waits, WriteConflict, Writes, active, asked, fails, in_view, listed, seen, waiting, written}
-use Rattle.lab_engine.specs.declared.event.EngineFault.{EngineFault}
-use Rattle.lab_engine.specs.Answer.{conflict_fault}
-use Rattle.lab_engine.specs.Rules.{IsFirstConflict}
-use Rattle.lab_engine.specs.declared.rules.ConflictKind.{ConflictKind}
-use Rattle.lab_engine.specs.declared.rules.ConflictKind.TheVariants.{Write, Read}
-use Rattle.lab_engine.specs.declared.rules.Conflict.{Conflict}
+use Rattle.lab_engine.proofs.Common.{Aborted, active, AlreadyBegun, Answers, ap, AreBlockers, arith, asked, Asks, Begun, Bool, Busy, Command, Commit, Committed, Conflict, conflict_fault, ConflictKind, Deadlock, DuplicateKey, EngineFault, fails, Gives, IfOk-weaker, in_view, inl, inr, IsCircle, IsEffect, IsEffectOn, IsFirstConflict, IsFree, IsLeastCircle, IsRefusalOn, IsResultOn, length, Level, List, Listed, listed, MayAsk, MayCommit, MayGive, None, NoTransaction, Option, Outcome, OutOfRange, Past, Read, ReadConflict, refl, Refused, Row, Rows, Run, seen, Some, Statement, subst, sym, Table, true≢false, Txn, Version, View, waiting, Waits, Write, WriteConflict, Writes, written, [], ℕ, ◌∙◌, ◌∷◌, ◌≡◌, ◌≢◌}
 
 -- a command that runs no statement is given at rest
 at_rest : (past : Past) (session : ℕ) (command : Command) → asked command ≡ None → MayGive past session command → waiting past session ≡ None
@@ -69,20 +62,12 @@ module _ (level : Level) (setup : Table) (past : Past) (session : ℕ) (s : Stat
       (λ eq. cc),
       λ t run circle eq. cc,
     )
-    refusal_answers (Deadlock circle) f = absurd f
-    refusal_answers (WriteConflict row by) f = absurd f
-    refusal_answers NoTransaction f = absurd f
-    refusal_answers AlreadyBegun f = absurd f
-    refusal_answers Busy f = absurd f
-    refusal_answers (ReadConflict row by) f = absurd f
+    refusal_answers other f = absurd f
 
     result_answers : (outcome : Outcome) → IsResultOn shown s outcome → Answers level setup past session (Run s) outcome
-    result_answers (Begun number) f = absurd f
     result_answers (Listed view rows writes) f = ((s, txn, asks, free, effect view rows writes f), (λ eq. cc), λ t run circle eq. cc)
-    result_answers Committed f = absurd f
-    result_answers Aborted f = absurd f
-    result_answers (Waits on) f = absurd f
     result_answers (Refused fault) f = refusal_answers fault f
+    result_answers other f = absurd f
 
     pub unblocked_answers : (r : Result Outcome AllocError) → IfOk r (IsResultOn shown s) → IfOk r (Answers level setup past session (Run s))
     unblocked_answers r f = IfOk-weaker r (IsResultOn shown s) (Answers level setup past session (Run s)) result_answers f

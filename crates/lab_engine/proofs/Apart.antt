@@ -1,8 +1,6 @@
 -- No two active transactions have written the same row, where who would write it waits.
-use Rattle.std.proofs.Common.{◌≡◌, ◌≢◌, ℕ, true, refl, sym, ap, subst, ◌∙◌, [], ◌∷◌, Some, None, Option, option_map, is_some}
 use Rattle.std.specs.FinMap as map
-use Rattle.lab_engine.proofs.Common.{Begun, Command, IsEffect, IsFree, IsLegal, Level, Listed, Op, Outcome, Past, Permitted, Row, Rows, Run, State, Statement, Table, Txn, Version, View, Writes, active, active_after, grown, none_of, none_some, same_Some, version_by, version_or}
-use Rattle.lab_engine.specs.RuleTable.{rules_of}
+use Rattle.lab_engine.proofs.Common.{active, active_after, ap, Begun, Command, grown, is_some, IsEffect, IsFree, IsLegal, Level, Listed, None, none_of, none_some, Op, Option, option_map, Outcome, Past, Permitted, refl, Row, Rows, rules_of, Run, same_Some, Some, State, Statement, subst, sym, Table, true, Txn, Version, version_by, version_or, View, Writes, [], ℕ, ◌∙◌, ◌∷◌, ◌≡◌, ◌≢◌}
 use Rattle.lab_engine.proofs.Blockers.{blocks_by_write}
 use Rattle.lab_engine.proofs.LockSteps.{AllOff, step, was_active, left, begins}
 

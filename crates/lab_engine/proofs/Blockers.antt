@@ -1,8 +1,5 @@
 -- Who blocks a statement, by each flag that says so.
-use Rattle.std.proofs.Common.{◌≡◌, true, inl, inr}
-use Rattle.lab_engine.proofs.Common.{Blocks, HoldsWrite, Level, Past, Statement, Table, Txn}
-use Rattle.lab_engine.specs.RuleTable.{rules_of}
-use Rattle.lab_engine.specs.Rules.{HasRead, HoldsMatch}
+use Rattle.lab_engine.proofs.Common.{Blocks, HasRead, HoldsMatch, HoldsWrite, inl, inr, Level, Past, rules_of, Statement, Table, true, Txn, ◌≡◌}
 use Rattle.lab_engine.proofs.RuleTables.{if_holds, if_made, if_map}
 
 module _ (level : Level) (setup : Table) (past : Past) (asker : Txn) (s : Statement) (one : Txn) where

@@ -1,7 +1,5 @@
 -- What a situation says of sessions, rows and numbers.
-use Rattle.std.proofs.Common.{◌≡◌, ◌≢◌, ℕ, zero, suc, ◌+◌, ◌==◌, cond, List, [], ◌∷◌, map as each, Option, Some, None, refl, sym, ap, subst, ◌∙◌, arith, inl, inr, Contains, IsSome, IsTrue, option_map, is_some}
-use Rattle.std.specs.Option.{is_none}
-use Rattle.lab_engine.proofs.Common.{and_parts, list_all, none_of, LogEvent, RunningTxn, SessionState, Situation, Level, Past, Txn, active, active_after, waiting, waiting_after, begun_after, IsSame, Describes, DescribesAll, DescribesRows, Agree, IsRunning, all_sessions, running_of, waiting_of, eqb_tells, RowStates}
+use Rattle.lab_engine.proofs.Common.{active, active_after, Agree, all_sessions, and_parts, ap, arith, begun_after, cond, Contains, Describes, DescribesAll, DescribesRows, eqb_tells, inl, inr, is_none, is_some, IsRunning, IsSame, IsSome, IsTrue, Level, List, list_all, LogEvent, map as each, None, none_of, Option, option_map, Past, refl, RowStates, running_of, RunningTxn, SessionState, Situation, Some, subst, suc, sym, Txn, waiting, waiting_after, waiting_of, zero, [], ℕ, ◌+◌, ◌==◌, ◌∙◌, ◌∷◌, ◌≡◌, ◌≢◌}
 
 no_txn : (level : Level) (txn : Option Txn) → ¬ IsSome txn → Agree level txn None
 no_txn level None h = tt

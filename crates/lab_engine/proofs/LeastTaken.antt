@@ -1,9 +1,6 @@
 -- The least of some rows that somebody has taken, row by row.
-use Rattle.std.proofs.Common.{◌≡◌, ℕ, ◌+◌, ◌<◌, refl, sym, ap, subst, ◌∙◌, true, false, ◌||◌, T, inl, inr, List, length, take, get_or, Option, Some, None, is_lt, is_eq}
-use Rattle.lab_engine.proofs.Common.{list_any, or_cases, or_left, or_right, true≢false, Row, row_cmp, row_eq, rows_total, same_row, row_eq_self, is_less, IsBelow}
+use Rattle.lab_engine.proofs.Common.{ap, Conflict, false, get_or, inl, inr, is_eq, is_less, is_lt, IsBelow, length, List, list_any, None, Option, or_cases, or_left, or_right, refl, Row, row_cmp, row_eq, row_eq_self, rows_total, same_row, Some, subst, sym, T, take, true, true≢false, Write, ℕ, ◌+◌, ◌<◌, ◌||◌, ◌∙◌, ◌≡◌}
 use Rattle.std.proofs.lemmas.List.Folds.{list_any_more}
-use Rattle.lab_engine.specs.declared.rules.Conflict.{Conflict}
-use Rattle.lab_engine.specs.declared.rules.ConflictKind.TheVariants.{Write}
 use Rattle.lab_engine.specs.Taken.{IsAmong, IsLeastTaken, comes_before}
 
 -- no row is below itself

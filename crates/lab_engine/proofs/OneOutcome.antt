@@ -1,11 +1,5 @@
 -- After a log there is one answer to a command, and one event that a step or a retry appends.
-use Rattle.std.proofs.Common.{◌≡◌, ◌⊎◌, inl, inr, ℕ, ℤ, option_map, Ordering, Less, Equal, Greater, refl, sym, ap, subst, ◌∙◌, arith, List, [], ◌∷◌, IsTrue, ◌≢◌, ◌++◌, Some, None, Option, IsSome, is_some}
-use Rattle.lab_engine.proofs.Common.{Answers, BlockedBy, Busy, Command, Commit, Conflicts, Deadlock, DuplicateKey, IsBelow, IsChain, IsCircle, IsEffect, IsFree, IsInsertOf, IsUpdate, Level, Listed, LogEvent, MayCommit, OutOfRange, Outcome, Past, Permitted, Refused, Row, Rows, Run, Statement, Table, Txn, View, Waits, Writes, both_ways, commits, fails, none_some, past_of, row_cmp, rows_apart, same_Some, same_rows, seen, some_is, turned, update_inserts_none, waiting, writers}
-use Rattle.lab_engine.specs.Answer.{conflict_fault}
-use Rattle.lab_engine.specs.RuleTable.{rules_of}
-use Rattle.lab_engine.specs.Rules.{ComesFirst, ConflictsBy, IsFirstConflict}
-use Rattle.lab_engine.specs.declared.rules.ConflictKind.{ConflictKind}
-use Rattle.lab_engine.specs.declared.rules.ConflictKind.TheVariants.{Write, Read}
+use Rattle.lab_engine.proofs.Common.{Answers, ap, arith, BlockedBy, both_ways, Busy, ComesFirst, Command, Commit, commits, conflict_fault, ConflictKind, Conflicts, ConflictsBy, Deadlock, DuplicateKey, Equal, fails, Greater, inl, inr, is_some, IsBelow, IsChain, IsCircle, IsEffect, IsFirstConflict, IsFree, IsInsertOf, IsSome, IsTrue, IsUpdate, Less, Level, List, Listed, LogEvent, MayCommit, None, none_some, Option, option_map, Ordering, Outcome, OutOfRange, Past, past_of, Permitted, Read, refl, Refused, Row, row_cmp, Rows, rows_apart, rules_of, Run, same_rows, same_Some, seen, Some, some_is, Statement, subst, sym, Table, turned, Txn, update_inserts_none, View, waiting, Waits, Write, writers, Writes, [], ℕ, ℤ, ◌++◌, ◌∙◌, ◌∷◌, ◌≡◌, ◌≢◌, ◌⊎◌}
 use Rattle.lab_engine.proofs.ReadConflicts.{one_read_conflict, stands_or_conflicts}
 use Rattle.lab_engine.proofs.RuleTables.{if_holds, if_set, where_holds}
 use Rattle.std.proofs.lemmas.List.Kept.{AllPairs-from_increasing}

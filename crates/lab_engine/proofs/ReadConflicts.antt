@@ -1,8 +1,6 @@
 -- What a commit has read stands, or was changed, and at a row by one transaction first.
-use Rattle.std.proofs.Common.{◌≡◌, ℕ, sym, ap, subst, ◌∙◌, List, [], ◌∷◌, ◌++◌, append_assoc}
 use Rattle.std.proofs.lemmas.List.{append_cancel_right}
-use Rattle.lab_engine.proofs.Common.{Past, Row, Table, Txn, commits}
-use Rattle.lab_engine.specs.Rules.{ChangesRead, ConflictsRead, NoneChangesRead, ReadsStand}
+use Rattle.lab_engine.proofs.Common.{ap, append_assoc, ChangesRead, commits, ConflictsRead, List, NoneChangesRead, Past, ReadsStand, Row, subst, sym, Table, Txn, [], ℕ, ◌++◌, ◌∙◌, ◌∷◌, ◌≡◌}
 
 module _ (setup : Table) (txn : Txn) (base : List Txn) (row : Row) where
   -- of a list none of which changed it none did

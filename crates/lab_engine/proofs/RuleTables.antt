@@ -1,16 +1,12 @@
 -- The law of the table of rules, and what a flag of it turns on.
-use Rattle.std.proofs.Common.{◌≡◌, Bool, true, false, refl, sym}
-use Rattle.lab_engine.proofs.Common.{Level, true≢false}
-use Rattle.lab_engine.specs.declared.event.Level.TheVariants.{Locking, Snapshot, Optimistic, Committed as ReadCommitted}
-use Rattle.lab_engine.specs.RuleTable.{rules_of, Where, If}
+use Rattle.lab_engine.proofs.Common.{Bool, false, If, Level, refl, rules_of, sym, true, true≢false, Where, ◌≡◌}
+use Rattle.lab_engine.specs.declared.event.Level.TheVariants.{Locking}
 
 -- where readers are waited for so are writers, of what is matched and of what would be written, and what has committed by now is seen
 pub readers_locked : (level : Level) → (rules_of level).read_blocks ≡ true
     → ((rules_of level).match_blocks ≡ true) × ((rules_of level).write_blocks ≡ true) × ((rules_of level).sees_begin ≡ false)
 readers_locked Locking on = (refl, refl, refl)
-readers_locked ReadCommitted on = absurd (true≢false (sym on))
-readers_locked Snapshot on = absurd (true≢false (sym on))
-readers_locked Optimistic on = absurd (true≢false (sym on))
+readers_locked other on = absurd (true≢false (sym on))
 
 pub locks_see_now : (level : Level) → (rules_of level).read_blocks ≡ true → (rules_of level).sees_begin ≡ false
 locks_see_now level on = (readers_locked level on).2

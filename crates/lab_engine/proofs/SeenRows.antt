@@ -1,8 +1,5 @@
 -- What an active transaction sees of a situation.
-use Rattle.std.proofs.Common.{◌≡◌, ◌∙◌, ℕ, Bool, true, false, cond, refl, ap, arith, length, Option, Some, None, unwrap_or}
-use Rattle.lab_engine.proofs.Common.{IsAsker, Level, Past, Row, Statement, Txn, Version, active, chain, chain_in, commits, initial_version, last_before, last_installed, option_or, seen, seen_in, sight, version_by, would_write, written_by}
-use Rattle.lab_engine.specs.Asker.{sees_as_of_begin}
-use Rattle.lab_engine.specs.declared.asker.Asker.{Asker}
+use Rattle.lab_engine.proofs.Common.{active, ap, arith, Asker, Bool, chain, chain_in, commits, cond, false, initial_version, IsAsker, last_before, last_installed, length, Level, None, Option, option_or, Past, refl, Row, seen, seen_in, sees_as_of_begin, sight, Some, Statement, true, Txn, unwrap_or, Version, version_by, would_write, written_by, ℕ, ◌∙◌, ◌≡◌}
 use Rattle.lab_engine.proofs.InstalledChains.{last_in, last_at_begin}
 
 -- the first of two that is there, or else a third

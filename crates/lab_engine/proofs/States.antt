@@ -1,6 +1,5 @@
 -- What is kept of the sessions, as a list.
-use Rattle.std.proofs.Common.{◌≡◌, ◌≢◌, ℕ, zero, suc, ◌+◌, ◌-◌, ◌≤◌, ◌<◌, false, cond, List, [], ◌∷◌, map, length, set, get_or, refl, sym, ap, subst, ◌∙◌, arith, ◌==◌, eq-eqb, ne_eqb}
-use Rattle.lab_engine.proofs.Common.{length-map, length-set, get_or-set_same, Level, LogEvent, SessionState, Past, active, active_after, waiting, waiting_after, DescribesSession, DescribesAll, Agree, HasRoom, all_sessions, running_of, ⊤}
+use Rattle.lab_engine.proofs.Common.{active, active_after, Agree, all_sessions, ap, arith, cond, DescribesAll, DescribesSession, eq-eqb, false, get_or, get_or-set_same, HasRoom, length, length-map, length-set, Level, List, LogEvent, map, ne_eqb, Past, refl, running_of, SessionState, set, subst, suc, sym, waiting, waiting_after, zero, [], ℕ, ⊤, ◌+◌, ◌-◌, ◌<◌, ◌==◌, ◌∙◌, ◌∷◌, ◌≡◌, ◌≢◌, ◌≤◌}
 use Rattle.std.proofs.Math.Seq.{map-set_same}
 use Rattle.lab_engine.proofs.EventBounds.{has_room}
 

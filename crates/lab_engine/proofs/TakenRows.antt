@@ -1,12 +1,5 @@
 -- Which rows of a transaction others have installed since its begin.
-use Rattle.std.proofs.Common.{◌≡◌, ℕ, refl, sym, ap, subst, ◌∙◌, Bool, true, false, inl, inr, List, [], ◌∷◌, ◌++◌, Option, Some, None, IsSome, append_assoc, length, length-append, arith, unwrap_or}
-use Rattle.lab_engine.proofs.Common.{none_some, same_Some, true≢false, Level, Row, Table, IsBelow, Past, Txn, version_by, writers, commits, Conflicts, IsAsker, chain, first_since, chain_in}
-use Rattle.lab_engine.specs.declared.asker.Asker.{Asker}
-use Rattle.lab_engine.specs.declared.rules.Conflict.{Conflict}
-use Rattle.lab_engine.specs.declared.rules.ConflictKind.{ConflictKind}
-use Rattle.lab_engine.specs.declared.rules.ConflictKind.TheVariants.{Write, Read}
-use Rattle.lab_engine.specs.RuleTable.{rules_of, If}
-use Rattle.lab_engine.specs.Rules.{IsFirstCommitter, IsFirstConflict, ConflictsBy, ComesFirst}
+use Rattle.lab_engine.proofs.Common.{ap, append_assoc, arith, Asker, Bool, chain, chain_in, ComesFirst, commits, Conflict, ConflictKind, Conflicts, ConflictsBy, false, first_since, If, inl, inr, IsAsker, IsBelow, IsFirstCommitter, IsFirstConflict, IsSome, length, length-append, Level, List, None, none_some, Option, Past, Read, refl, Row, rules_of, same_Some, Some, subst, sym, Table, true, true≢false, Txn, unwrap_or, version_by, Write, writers, [], ℕ, ◌++◌, ◌∙◌, ◌∷◌, ◌≡◌}
 use Rattle.lab_engine.specs.Taken.{IsFirstTaken, IsLeastTaken}
 use Rattle.lab_engine.proofs.InstalledChains.{SinceThen, since_begin, last_no}
 

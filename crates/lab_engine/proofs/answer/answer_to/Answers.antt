@@ -1,6 +1,4 @@
-use Rattle.std.proofs.Common.{refl, sym, ap, subst, IfOk}
-use Rattle.lab_engine.proofs.Common.{Answers, AreWaits, MayAsk, MayCommit, Refused, Run, Situation, asked}
-use Rattle.lab_engine.specs.Answer.{conflict_fault}
+use Rattle.lab_engine.proofs.Common.{Answers, ap, AreWaits, asked, conflict_fault, IfOk, MayAsk, MayCommit, refl, Refused, Run, Situation, subst, sym}
 use Rattle.lab_engine.proofs.Describing.{running_txn, running_none}
 use Rattle.lab_engine.proofs.Answering.{gives, may_ask, conflict_none, conflict_some, ran}
 use Rattle.lab_engine.proofs.answer.answer_to.Goals as goal

@@ -1,5 +1,4 @@
-use Rattle.std.proofs.Common.{◌∷◌, sym, ◌∙◌, arith}
-use Rattle.lab_engine.proofs.Common.{length-reverse, on_ok_weaker, past_of}
+use Rattle.lab_engine.proofs.Common.{arith, length-reverse, on_ok_weaker, past_of, sym, ◌∙◌, ◌∷◌}
 use Rattle.lab_engine.specs.Sessions.{all_sessions}
 use Rattle.lab_engine.proofs.EndPlaces.{fewer_active, few_active}
 use Rattle.lab_engine.proofs.journal.reserve_place.Goals as goal

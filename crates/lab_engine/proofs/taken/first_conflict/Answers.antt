@@ -1,5 +1,4 @@
-use Rattle.std.proofs.Common.{ℕ, ◌+◌, ◌∙◌, sym, subst, take, List, Option}
-use Rattle.lab_engine.proofs.Common.{Row, first_since, chain_in}
+use Rattle.lab_engine.proofs.Common.{chain_in, first_since, List, Option, Row, subst, sym, take, ℕ, ◌+◌, ◌∙◌}
 use Rattle.lab_engine.specs.Taken.{IsLeastTaken}
 use Rattle.lab_engine.proofs.LeastTaken.{least_new, least_untaken, least_behind}
 use Rattle.lab_engine.proofs.taken.first_conflict.Goals as goal

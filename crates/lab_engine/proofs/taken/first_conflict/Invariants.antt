@@ -1,5 +1,4 @@
-use Rattle.std.proofs.Common.{take}
-use Rattle.lab_engine.proofs.Common.{first_since, chain_in}
+use Rattle.lab_engine.proofs.Common.{chain_in, first_since, take}
 use Rattle.lab_engine.specs.Taken.{IsLeastTaken}
 use Rattle.lab_engine.proofs.taken.first_conflict.Given as goal
 

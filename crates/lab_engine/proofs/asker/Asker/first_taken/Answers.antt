@@ -1,5 +1,4 @@
-use Rattle.std.proofs.Common.{subst}
-use Rattle.lab_engine.proofs.Common.{first_since, chain_in}
+use Rattle.lab_engine.proofs.Common.{chain_in, first_since, subst}
 use Rattle.lab_engine.specs.Taken.{IsLeastTaken}
 use Rattle.lab_engine.proofs.TakenRows.{found_says}
 use Rattle.lab_engine.proofs.asker.Asker.first_taken.Goals as goal

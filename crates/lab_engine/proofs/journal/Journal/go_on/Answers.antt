@@ -1,6 +1,4 @@
-use Rattle.std.proofs.Common.{◌≡◌, ◌<◌, length, List, [], ◌∷◌, refl, sym, ap, subst, ◌∙◌, arith}
-use Rattle.std.specs.Vec.{vec_capacity}
-use Rattle.lab_engine.proofs.Common.{AreWaits, EngineRun, HasPlacesOfEnds, Keeps, LogEvent, Past, Permitted, Situation, kept_of, length-reverse, past_of, reverse-append}
+use Rattle.lab_engine.proofs.Common.{ap, AreWaits, arith, EngineRun, HasPlacesOfEnds, Keeps, kept_of, length, length-reverse, List, LogEvent, Past, past_of, Permitted, refl, reverse-append, Situation, subst, sym, vec_capacity, [], ◌<◌, ◌∙◌, ◌∷◌, ◌≡◌}
 use Rattle.lab_engine.proofs.Describing.{same_log}
 use Rattle.lab_engine.proofs.journal.Journal.go_on.Goals as goal
 

@@ -1,5 +1,4 @@
-use Rattle.std.proofs.Common.{[], rules}
-use Rattle.lab_engine.proofs.Common.{AreWaits, both_ways, none_some}
+use Rattle.lab_engine.proofs.Common.{AreWaits, both_ways, none_some, rules, []}
 use Rattle.lab_engine.proofs.journal.Journal.new.Goals as goal
 
 pub invariant_of-result : goal.invariant_of-result

@@ -1,5 +1,4 @@
-use Rattle.std.proofs.Common.{refl, sym, ap, ◌∙◌}
-use Rattle.lab_engine.proofs.Common.{Row, Outcome, keeps_statements, kept_of}
+use Rattle.lab_engine.proofs.Common.{ap, keeps_statements, kept_of, Outcome, refl, Row, sym, ◌∙◌}
 use Rattle.lab_engine.proofs.SessionStates.{follows, abandons}
 use Rattle.lab_engine.proofs.session_state.SessionState.take_in.Goals as goal
 

@@ -1,6 +1,5 @@
-use Rattle.std.proofs.Common.{refl, sym, subst}
 use Rattle.std.specs.Result.{OnOk}
-use Rattle.lab_engine.proofs.Common.{Outcome, HoldsOutcome, running_of, on_ok_weaker}
+use Rattle.lab_engine.proofs.Common.{HoldsOutcome, on_ok_weaker, Outcome, refl, running_of, subst, sym}
 use Rattle.lab_engine.proofs.Describing.{same_log, same_rows}
 use Rattle.lab_engine.proofs.situation.Situation.reserve_room.Goals as goal
 
