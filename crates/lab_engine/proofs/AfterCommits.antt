@@ -51,7 +51,8 @@ module _ (level : Level) (setup : Table) (asker : Txn) where
   blocks_over past after s holder matched written read = blocks_map level setup past asker s holder after holder
       (λ on h. (h.0, h.1, h.2, subst (λ b. IsTrue (b || matches s h.0 h.1.state)) (matched on h.0) h.3))
       (λ on h. (h.0, h.1, subst (λ (v : Version). IsTrue (would_write s h.0 v.state)) (written on h.0 h.1) h.2))
-      (λ on h. (h.0, subst (λ (v : Version). IsTrue (would_write s h.0 v.state) × IsTrue (has_read holder.ops h.0 v.state || has_read holder.ops h.0 (new_state s h.0 v.state))) (read on h.0 h.1) (h.1, h.2)))
+      (λ on h. let now = subst (λ (v : Version). IsTrue (would_write s h.0 v.state) × IsTrue (has_read holder.ops h.0 v.state || has_read holder.ops h.0 (new_state s h.0 v.state)))
+      (read on h.0 h.1) (h.1, h.2) in (h.0, now.0, now.1))
 
   -- so it is where all that is committed is the same
   pub blocks_alike : (past after : Past) (s : Statement) (holder : Txn) → ((row : Row) → committed_version setup past row ≡ committed_version setup after row)
