@@ -6,7 +6,7 @@ ghost use Rattle.lab_matrix.specs.Columns.{IsFirstAmong};
 ghost use Rattle.lab_case_commands.specs.Tabulating.{IsColumnsAnswer, IsTabulatedAt};
 
 use lab_engine::Level;
-use lab_matrix::{MatrixFault, columns, print_columns};
+use lab_matrix::{MatrixFault, columns_at, print_columns};
 use lab_session::print_play_fault;
 use lab_streams::{Answer, Ending, RunFault, write_text};
 use lab_table::NoMemory;
@@ -18,7 +18,7 @@ fn tabulated_at(alloc: Global, levels: &[Level]) -> Result<Vec<u8>, MatrixFault>
     ensures text { IfOk result (λ text. IsTabulatedAt levels.now text.items Ending.Done) }
     ensures fault { IfErr result (λ fault. fault ≢ MatrixFault.NoMemory → IsFirstAmong levels.now fault) }
 {
-    let columns = columns(alloc, levels)?;
+    let columns = columns_at(alloc, levels)?;
     let text = print_columns(alloc, &columns);
     drop(columns);
     Ok(text?)

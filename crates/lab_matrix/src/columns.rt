@@ -83,7 +83,7 @@ fn add(columns: &mut Vec<CaseReports>, column: CaseReports) -> Result<(), NoMemo
 ///
 /// Refused where a play has no recording (2), which is then true of the first such level, and of the first such case of it;
 /// or where an allocation was refused (1).
-pub fn columns(alloc: Global, levels: &[Level]) -> Result<Vec<CaseReports>, MatrixFault>
+pub fn columns_at(alloc: Global, levels: &[Level]) -> Result<Vec<CaseReports>, MatrixFault>
     ensures columns { IfOk result (λ columns. AreColumns levels.now columns.items) }
     ensures promised { IfOk result (λ columns. KeepPromises columns.items) }
     ensures fault { IfErr result (λ fault. fault ≢ MatrixFault.NoMemory → IsFirstAmong levels.now fault) }

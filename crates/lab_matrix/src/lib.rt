@@ -13,7 +13,7 @@ mod parts;
 mod promised;
 
 pub use cells::{Column, Matrix, Row};
-pub use columns::{CaseReports, columns};
+pub use columns::{CaseReports, columns_at};
 pub use columns_text::print_columns;
 pub use engine_promise::Promise;
 pub use filling::{MatrixFault, matrix};

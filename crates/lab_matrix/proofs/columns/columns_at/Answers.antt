@@ -2,7 +2,7 @@ use Rattle.std.proofs.Common.{◌≡◌, ◌+◌, ◌∷◌, List, drop, sym, ap
 use Rattle.std.proofs.lemmas.List.{drop_more, drop_all}
 use Rattle.std.proofs.lemmas.Result.{err_from_is_err_and}
 use Rattle.lab_matrix.proofs.AtLevels.{SoFar, none_so_far, next_so_far, all_so_far, refused_next, promises_kept_at}
-use Rattle.lab_matrix.proofs.columns.columns.Goals as goal
+use Rattle.lab_matrix.proofs.columns.columns_at.Goals as goal
 
 pub loop-level-init : goal.loop-level-init
 loop-level-init c = subst (SoFar c.args.levels.now c.args.levels.now) (sym c.in_ok-with_capacity.ensures.items) (none_so_far c.args.levels.now)
