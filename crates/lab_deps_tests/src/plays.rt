@@ -1,4 +1,4 @@
-//! Histories of recordings: scripts over two tables made by a rule, each played on the three engines.
+//! Histories of recordings: scripts over two tables made by a rule, each played on the four engines.
 
 ghost use Rattle.std.specs.Prelude.{◌≡◌, []};
 
