@@ -42,8 +42,11 @@ module _ (setup : Table) (txn : Txn) (front : List Op) (op : Op) (ops : List Op)
   -- who changed nothing that a transaction has read changed nothing that one of its statements matches
   unchanged : (since base : List Txn) → ((row : Row) → NoneChangesRead setup txn since base row) → Untouched setup op.statement since base
   unchanged [] base none = tt
-  unchanged (by ∷ since) base none = (unchanged since base (λ row. (none row).0), λ row v wrote.
-    let neither = or_parts _ _ (false_from_ne_true _ (λ reads. (none row).1 (v, wrote, reads))) in (unread row _ neither.0, unread row _ neither.1))
+  unchanged (by ∷ since) base none = (
+    unchanged since base (λ row. (none row).0),
+    λ row v wrote.
+        let neither = or_parts _ _ (false_from_ne_true _ (λ reads. (none row).1 (v, wrote, reads))) in (unread row _ neither.0, unread row _ neither.1),
+  )
 
 upper_part : (setup : Table) (s : Statement) (since more base : List Txn) → Untouched setup s (since ++ more) base → Untouched setup s since (more ++ base)
 upper_part setup s [] more base untouched = tt
