@@ -18,7 +18,18 @@ use Rattle.lab_matrix.proofs.OneMatrix.{one_cell, not_both}
 
 -- reports whose parts are the same are one
 same_reports : (r s : CaseReports) → r.level ≡ s.level → r.g0 ≡ s.g0 → r.g1a ≡ s.g1a → r.g1b ≡ s.g1b → r.g1c ≡ s.g1c → r.otv ≡ s.otv → r.pmp ≡ s.pmp → r.p4 ≡ s.p4 → r.g_single ≡ s.g_single → r.g2_item ≡ s.g2_item → r.g2 ≡ s.g2 → r ≡ s
-same_reports r s level g0 g1a g1b g1c otv pmp p4 g_single g2_item g2 = cc
+same_reports r s level g0 g1a g1b g1c otv pmp p4 g_single g2_item g2 =
+    ap (λ x. record { level = x; g0 = r.g0; g1a = r.g1a; g1b = r.g1b; g1c = r.g1c; otv = r.otv; pmp = r.pmp; p4 = r.p4; g_single = r.g_single; g2_item = r.g2_item; g2 = r.g2 }) level
+    ∙ ap (λ x. record { level = s.level; g0 = x; g1a = r.g1a; g1b = r.g1b; g1c = r.g1c; otv = r.otv; pmp = r.pmp; p4 = r.p4; g_single = r.g_single; g2_item = r.g2_item; g2 = r.g2 }) g0
+    ∙ ap (λ x. record { level = s.level; g0 = s.g0; g1a = x; g1b = r.g1b; g1c = r.g1c; otv = r.otv; pmp = r.pmp; p4 = r.p4; g_single = r.g_single; g2_item = r.g2_item; g2 = r.g2 }) g1a
+    ∙ ap (λ x. record { level = s.level; g0 = s.g0; g1a = s.g1a; g1b = x; g1c = r.g1c; otv = r.otv; pmp = r.pmp; p4 = r.p4; g_single = r.g_single; g2_item = r.g2_item; g2 = r.g2 }) g1b
+    ∙ ap (λ x. record { level = s.level; g0 = s.g0; g1a = s.g1a; g1b = s.g1b; g1c = x; otv = r.otv; pmp = r.pmp; p4 = r.p4; g_single = r.g_single; g2_item = r.g2_item; g2 = r.g2 }) g1c
+    ∙ ap (λ x. record { level = s.level; g0 = s.g0; g1a = s.g1a; g1b = s.g1b; g1c = s.g1c; otv = x; pmp = r.pmp; p4 = r.p4; g_single = r.g_single; g2_item = r.g2_item; g2 = r.g2 }) otv
+    ∙ ap (λ x. record { level = s.level; g0 = s.g0; g1a = s.g1a; g1b = s.g1b; g1c = s.g1c; otv = s.otv; pmp = x; p4 = r.p4; g_single = r.g_single; g2_item = r.g2_item; g2 = r.g2 }) pmp
+    ∙ ap (λ x. record { level = s.level; g0 = s.g0; g1a = s.g1a; g1b = s.g1b; g1c = s.g1c; otv = s.otv; pmp = s.pmp; p4 = x; g_single = r.g_single; g2_item = r.g2_item; g2 = r.g2 }) p4
+    ∙ ap (λ x. record { level = s.level; g0 = s.g0; g1a = s.g1a; g1b = s.g1b; g1c = s.g1c; otv = s.otv; pmp = s.pmp; p4 = s.p4; g_single = x; g2_item = r.g2_item; g2 = r.g2 }) g_single
+    ∙ ap (λ x. record { level = s.level; g0 = s.g0; g1a = s.g1a; g1b = s.g1b; g1c = s.g1c; otv = s.otv; pmp = s.pmp; p4 = s.p4; g_single = s.g_single; g2_item = x; g2 = r.g2 }) g2_item
+    ∙ ap (λ x. record { level = s.level; g0 = s.g0; g1a = s.g1a; g1b = s.g1b; g1c = s.g1c; otv = s.otv; pmp = s.pmp; p4 = s.p4; g_single = s.g_single; g2_item = s.g2_item; g2 = x }) g2
 
 -- a level has one column
 one_column_at : (level : Level) (r s : CaseReports) → AreReports level r → AreReports level s → r ≡ s
