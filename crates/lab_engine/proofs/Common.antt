@@ -27,9 +27,10 @@ pub use Rattle.std.proofs.lemmas.List.{append-nil, drop_all, drop_more, get_or-r
 pub use Rattle.std.specs.FinMap.{FinMap, empty, entries, entries_sorted, find, from_sorted, get, get-empty, get-entries, get-from_sorted, get-insert, insert, is_sorted, put}
 pub use Rattle.std.specs.FinMap.Entries.{below_all, by_order, find-put, is_sorted-put}
 pub use Rattle.lab_engine.specs.Rules.{Asks, BlockedBy, Blocks, ChangesRead, ComesFirst, Conflicts, ConflictsBy, ConflictsRead, Gives, HasRead, HoldsMatch, HoldsWrite, IsBelow, IsChain, IsCircle, IsEffect, IsFirstCommitter, IsFirstConflict, IsFree, IsInsertOf, IsLegal, IsUpdate, MayAsk, MayCommit, NoneChangesRead, Permitted, ReadsStand, in_view, state_after}
-pub use Rattle.lab_engine.specs.Situation.{Agree, Describes, DescribesAll, DescribesRows, DescribesSession, HasPlaces, HasRoom, HoldsOutcome, IsRunning, all_sessions, grown, has_written, kept_of, keeps_statements, kept_statements, running_of, statements_of, waiting_of, written_by}
+pub use Rattle.lab_engine.specs.Situation.{Agree, Describes, DescribesAll, DescribesRows, DescribesSession, HasPlaces, HasRoom, HoldsOutcome, IsRunning, all_sessions, grown, has_written, kept_of, keeps_commits, keeps_statements, kept_statements, running_of, statements_of, waiting_of, written_by}
 pub use Rattle.lab_engine.specs.KeptRows.{IsReadyAt, IsSame, chain_in, chain_kept, entries_in, kept_at, pending_in, pending_kept}
 pub use Rattle.lab_engine.specs.Kept.{IsReady, IsRoomy, Kept, count, pending_of}
+pub use Rattle.lab_engine.specs.KeptCommits.{AreCommits, AreInstalled, AreWritten, commits_by, installs, kept_rows}
 pub use Rattle.lab_engine.specs.Chains.{chain, chain_after, first_since, last_before, longer}
 unfoldable pub use Rattle.lab_engine.specs.SessionBits.{has}
 pub use Rattle.lab_engine.specs.SessionBits.{AreSessions}
@@ -66,7 +67,7 @@ pub use Rattle.std.proofs.Math.Bool.{and_comm, or-false}
 pub use Rattle.std.proofs.lemmas.List.Sorted.{IsPermutation-reverse, answers_always, list_any-IsPermutation, ranks_by, sorted_far}
 pub use Rattle.lab_engine.specs.Overlay.{AreMatching, laid_over, matching_entries, matching_rows, name_over, seen_of, seen_over}
 pub use Rattle.lab_engine.specs.Asker.{AreOthers, IsAsker, seen_in, sees_as_of_begin}
-pub use Rattle.lab_engine.specs.Answer.{Answers, HasPlacesOfEnds, IsRetryChoice, Keeps, MayGive, active_among, conflict_fault}
+pub use Rattle.lab_engine.specs.Answer.{Answers, HasPlacesOfCommits, HasPlacesOfEnds, IsRetryChoice, Keeps, MayGive, active_among, conflict_fault}
 pub use Rattle.lab_engine.specs.EventQuery.{is_ending, is_over}
 pub use Rattle.lab_engine.specs.Engine.{Appends, IsRetry, IsStep}
 pub use Rattle.lab_table.specs.Sessions.{of_session}

@@ -61,3 +61,4 @@ pub mod Overlaid
 pub mod OneRecording
 mod LeastTaken
 pub mod TakenRows
+pub mod KeptCommits

@@ -80,11 +80,15 @@ module _ (states : List SessionState) (n k : ℕ) (state : SessionState) (sessio
   sessions_stay new same = map-set_same (λ state. state.session) states k new state (same ∙ ap (λ s. s.session) is) ∙ sessions
 
   -- it is the session's
-  own_there : (session : ℕ) → n ≡ session → session ≡ state.session
+  pub own_there : (session : ℕ) → n ≡ session → session ≡ state.session
   own_there session own =
       let number : (get_or states k state).session ≡ 1 + k = session_one 1 k states state (all_rise states sessions) there in
       let there_is : n ≡ (get_or states k state).session = omega (arith, number, place, low) in
       sym own ∙ there_is ∙ ap (λ s. s.session) (sym is)
+
+  -- it agrees with the log
+  pub described_there : (level : Level) (past : Past) → DescribesAll level past states → DescribesSession level past state
+  described_there level past all = subst (λ s. DescribesSession level past s) (sym is) (describes_one level past k states state there all)
 
   -- all states go on with an event where the session's own does, and something else with it
   pub states_go_on : {A : Type 0} (level : Level) (past : Past) (event : LogEvent) (new : SessionState) → n ≡ event.session → DescribesAll level past states

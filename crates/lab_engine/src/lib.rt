@@ -20,6 +20,7 @@ mod answer;
 mod answer_laws;
 mod asker;
 mod circle;
+mod committed_rows;
 mod decision;
 mod effect;
 mod engine;
@@ -47,6 +48,7 @@ mod writers;
 
 pub use answer_laws::{least_circle_unique, one_outcome};
 pub use asker::Asker;
+pub use committed_rows::CommittedRows;
 pub use engine::{Engine, MAX_EVENTS};
 pub use event::{EngineFault, Level, LogEvent, Outcome, Sessions};
 pub use journal::Journal;

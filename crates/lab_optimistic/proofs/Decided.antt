@@ -7,14 +7,14 @@ use Rattle.lab_engine.specs.declared.rules.ConflictKind.{ConflictKind}
 use Rattle.lab_engine.specs.declared.rules.ConflictKind.TheVariants.{Write, Read}
 use Rattle.lab_engine.specs.Rules.{IsFirstConflict, ConflictsBy, ComesFirst}
 use Rattle.lab_engine.specs.Taken.{IsFirstTaken}
+use Rattle.lab_engine.proofs.ReadConflicts.{stands_or_conflicts}
 use Rattle.lab_engine.proofs.TakenRows.{none_taken, kinds_apart, first_by_write}
 use Rattle.lab_optimistic.specs.Reads.{IsFirstRead, earlier}
 use Rattle.lab_optimistic.proofs.LeastRows.{before_less, below_other}
-use Rattle.lab_optimistic.proofs.ReadConflicts.{none_read}
 
 module _ (setup : Table) (past : Past) (txn : Txn) where
   -- it is the first, or there is none
-  abbrev IsDecided : Option Conflict → Type 0
+  abbrev pub IsDecided : Option Conflict → Type 0
   IsDecided found = MatchOption found (MayCommit Optimistic setup past txn) (λ first. IsFirstConflict Optimistic setup past txn first.kind first.row first.by)
 
   -- one by what was read, where neither this row nor a lower one has one by what was written
@@ -34,12 +34,12 @@ module _ (setup : Table) (past : Past) (txn : Txn) where
   pub decided : (taken read : Option Conflict) → IsFirstTaken past txn taken → IsFirstRead setup past txn read → IsDecided (earlier taken read)
   decided None None first stand = (first, stand)
   decided None (Some r) first read = by_read r read (λ other number _ clash. none_taken past txn other number first clash)
-  decided (Some t) None taken stand = first_by_write Optimistic setup past txn t refl taken (λ other number _ clash. none_read setup past txn other number stand clash)
+  decided (Some t) None taken stand = first_by_write Optimistic setup past txn t refl taken (λ other number _ clash. stands_or_conflicts setup past txn other number stand clash)
   decided (Some t) (Some r) taken read = at (is_lt (row_cmp r.row t.row)) refl
     where
       untaken : IsBelow r.row t.row → (other : Row) (number : ℕ) → ComesFirst Write other Read r.row → ¬ ConflictsBy Optimistic setup past txn Write other number
       untaken lower other number (inl below) clash = taken.2 other number (rows_total.trans other r.row t.row below lower) clash
-      untaken lower other number (inr (same, _)) clash = taken.2 other number (subst (λ row. IsBelow row t.row) (sym same) lower) clash
+      untaken lower other number (inr (same, _, _)) clash = taken.2 other number (subst (λ row. IsBelow row t.row) (sym same) lower) clash
 
       at : (lower : Bool) → is_lt (row_cmp r.row t.row) ≡ lower → IsDecided (cond lower (Some r) (Some t))
       at true is = by_read r read (untaken (before_less r.row t.row is))

@@ -1,7 +1,8 @@
 -- What is found among the statements of an active transaction says whether what it has read stands.
 use Rattle.std.proofs.Common.{◌≡◌, ◌≢◌, ℕ, refl, sym, ap, subst, ◌∙◌, Bool, true, false, cond, ◌||◌, List, [], ◌∷◌, ◌++◌, length, reverse, map, Option, Some, None, is_some}
-use Rattle.lab_engine.proofs.Common.{none_some, none_of, list_any, nat_lt, option_or, both_ways, get, Row, State, Statement, matches, may_match, no_match, Level, Past, Txn, active, commits, has_read, chain, chain_in, keeps_statements, IsAsker, same_row, row_eq, IsBelow, true≢false, or_parts}
+use Rattle.lab_engine.proofs.Common.{none_some, none_of, list_any, nat_lt, option_or, both_ways, get, Row, State, Statement, matches, may_match, no_match, Past, Txn, active, commits, has_read, chain, chain_in, keeps_statements, IsAsker, same_row, row_eq, IsBelow, true≢false, or_parts}
 use Rattle.lab_engine.specs.declared.asker.Asker.{Asker}
+use Rattle.lab_engine.specs.declared.event.Level.{Level}
 use Rattle.lab_engine.specs.declared.row_state.Installed.{Installed}
 use Rattle.lab_engine.specs.declared.rules.ConflictKind.TheVariants.{Read}
 use Rattle.lab_engine.specs.Rules.{NoneChangesRead, ConflictsRead}

@@ -3,3 +3,4 @@ mod ChangedRows
 mod ReadConflicts
 mod FirstReads
 mod Decided
+mod LastReads

@@ -1,7 +1,8 @@
 -- Who was the first to change what a transaction has read.
-use Rattle.std.proofs.Common.{◌≡◌, ℕ, refl, sym, ap, subst, ◌∙◌, Bool, true, false, cond, ◌||◌, List, [], ◌∷◌, ◌++◌, append_assoc, append_cancel_right, Option, Some, None}
+use Rattle.std.proofs.Common.{◌≡◌, ℕ, refl, sym, ap, subst, ◌∙◌, Bool, true, false, cond, ◌||◌, List, [], ◌∷◌, ◌++◌, append_assoc, Option, Some, None}
+use Rattle.std.proofs.lemmas.List.{append_cancel_right}
 use Rattle.lab_engine.proofs.Common.{none_some, same_Some, option_or, Row, State, Table, Past, Version, Txn, commits, version_by, has_read}
-use Rattle.lab_engine.specs.Rules.{state_after, ChangesRead, NoneChangesRead, ConflictsRead, ReadsStand}
+use Rattle.lab_engine.specs.Rules.{state_after, ChangesRead, NoneChangesRead, ConflictsRead}
 use Rattle.lab_optimistic.proofs.ChangedRows.{changed_by, first_changing}
 
 -- ---- one that installed a row
@@ -44,15 +45,17 @@ module _ (setup : Table) (txn : Txn) (row : Row) where
   first_did : (since base : List Txn) (n : ℕ) → first_changing setup row reads since base ≡ Some n
       → (first : Txn) × (newer older : List Txn) × (first.no ≡ n) × (since ≡ newer ++ first ∷ older) × ChangesRead setup txn (older ++ base) first row × NoneChangesRead setup txn older base row
   first_did [] base n some = none_some _ some
-  first_did (by ∷ earlier) base n some = at (first_changing setup row reads earlier base) refl some
+  first_did (by ∷ earlier) base n some = at (first_did earlier base n) (first_changing setup row reads earlier base) refl some
     where
-      at : (o : Option ℕ) → first_changing setup row reads earlier base ≡ o → option_or o (changed_by setup row reads (earlier ++ base) by.no (version_by by row)) ≡ Some n
+      at : (first_changing setup row reads earlier base ≡ Some n → (first : Txn) × (newer older : List Txn) × (first.no ≡ n) × (earlier ≡ newer ++ first ∷ older)
+          × ChangesRead setup txn (older ++ base) first row × NoneChangesRead setup txn older base row)
+          → (o : Option ℕ) → first_changing setup row reads earlier base ≡ o → option_or o (changed_by setup row reads (earlier ++ base) by.no (version_by by row)) ≡ Some n
           → (first : Txn) × (newer older : List Txn) × (first.no ≡ n) × (by ∷ earlier ≡ newer ++ first ∷ older) × ChangesRead setup txn (older ++ base) first row
           × NoneChangesRead setup txn older base row
-      at (Some m) is same =
-          let f = first_did earlier base n (is ∙ same) in
+      at behind (Some m) is same =
+          let f = behind (is ∙ same) in
           (f.0, by ∷ f.1, f.2, f.3, ap (λ (l : List Txn). by ∷ l) f.4, f.5, f.6)
-      at None is same =
+      at behind None is same =
           let c = changed (earlier ++ base) by n same in
           (by, [], earlier, c.0, refl, c.1, none_did earlier base is)
 
@@ -74,7 +77,3 @@ module _ (setup : Table) (txn : Txn) (row : Row) where
         let same : since ≡ newer ++ first ∷ older =
         append_cancel_right since (newer ++ first ∷ older) (commits txn.before) (sym commits_are ∙ is ∙ sym (append_assoc newer (first ∷ older) (commits txn.before))) in
         stands_at newer first older (commits txn.before) (subst (λ (l : List Txn). NoneChangesRead setup txn l (commits txn.before) row) same none) change
-
--- a commit of a transaction whose reads stand conflicts with nobody by what it has read
-pub none_read : (setup : Table) (past : Past) (txn : Txn) (row : Row) (n : ℕ) → ReadsStand setup (commits past) txn → ¬ ConflictsRead setup past txn row n
-none_read setup past txn row n (since, commits_are, none) = no_conflict setup txn row past since commits_are n (none row)

@@ -45,6 +45,10 @@ impl Rules for OptimisticRules {
         true
     }
 
+    fn keeps_commits(&self) -> bool {
+        true
+    }
+
     fn blockers(&self, asker: &Asker, statement: &Statement) -> SessionSet {
         SessionSet::none()
     }
