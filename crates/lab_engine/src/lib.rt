@@ -11,9 +11,9 @@
 //! statement and whether its commit conflicts. Beside its setup and its log it keeps the [`Situation`] in which the log
 //! leaves sessions and rows, and calls ask that: of each session its active transaction, the statement that it waits
 //! with and those that block this, so who waits for whom; of each row the versions that commits installed and those
-//! that transactions have pending. A call decides on its event, then makes room for it, and then goes on by it, which
-//! takes no memory. The rules of each level, and the engines as journals over them, are in `lab_locking` and
-//! `lab_versions`.
+//! that transactions have pending; and of each commit, where the rules ask for it, the rows that it installed. A call
+//! decides on its event, then makes room for it, and then goes on by it, which takes no memory. The rules of each level,
+//! and the engines as journals over them, are in `lab_locking`, `lab_versions` and `lab_optimistic`.
 #![tactic(auto)]
 
 mod answer;
@@ -30,6 +30,7 @@ mod event_query;
 mod gathering;
 mod installs;
 mod journal;
+mod kept_statement;
 mod laws;
 mod reading;
 mod recording;

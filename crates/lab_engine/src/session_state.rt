@@ -1,6 +1,6 @@
 //! What is kept of a session.
 
-ghost use Rattle.std.specs.Prelude.{◌≡◌, ◌==◌, option_map, ◌<◌, ◌≤◌, ◌+◌, ◌++◌, ◌∷◌, ℕ, [], None, Some, Option, true, false, cond, is_some, length, IfOk, OnOk, OnErr};
+ghost use Rattle.std.specs.Prelude.{◌≡◌, ◌==◌, ◌<◌, ◌≤◌, ◌+◌, ◌++◌, ◌∷◌, ℕ, [], None, Some, Option, option_map, true, cond, is_some, length, OnOk};
 ghost use Rattle.std.specs.Option.{option_or, option_to_list};
 ghost use Rattle.std.specs.Vec.{vec_capacity};
 ghost use Rattle.std.specs.FinMap as map;
@@ -15,13 +15,12 @@ ghost use Rattle.lab_engine.specs.Limits.{max_events};
 ghost use Rattle.lab_engine.specs.Log.{Past, Txn, active, active_after, asked, version_by};
 ghost use Rattle.lab_engine.specs.Chains.{chain_after};
 ghost use Rattle.lab_engine.specs.KeptCommits.{AreInstalled};
-ghost use Rattle.lab_engine.specs.EventQuery.{is_ending};
 ghost use Rattle.lab_engine.specs.KeptRows.{chain_in, pending_in, AreReady};
 ghost use Rattle.lab_engine.specs.Merging.{written_version};
 ghost use Rattle.lab_engine.specs.Situation.{DescribesSession, DescribesRows, Agree, IsRunning, HasRoom, HasPlaces, HoldsOutcome, grown, keeps_statements, kept_of, written_by};
 
 use crate::event::{LogEvent, Outcome};
-use crate::event_query::{asked_statement, is_busy, is_over};
+use crate::event_query::{is_busy, is_over};
 use crate::row_states::RowStates;
 use lab_history::{VersionName, Writes};
 use lab_table::{Command, NoMemory, RowName, Session, Statement, TxnNo};
@@ -50,39 +49,6 @@ pub struct SessionState {
     pub waits: Option<Statement>,
     /// Its active transaction, if it has one.
     pub running: Option<RunningTxn>,
-}
-
-/// A copy of the statement of an event, where it is kept behind it: one that ran, where those are kept, or one that
-/// waits. NoMemory where an allocation was refused; a transaction's end takes no memory.
-pub(crate) fn kept_copy(
-    alloc: Global,
-    event: &LogEvent,
-    keeps: bool,
-) -> Result<Option<Statement>, NoMemory>
-    ensures copy { IfOk result (λ kept. kept ≡ kept_of keeps event.now.command event.now.outcome) }
-    ensures err { OnErr result (is_ending event.now.outcome ≡ false) }
-{
-    match &event.outcome {
-        Outcome::Rows { .. } => {
-            if keeps {
-                copy_asked(alloc, &event.command)
-            } else {
-                Ok(None)
-            }
-        }
-        Outcome::Waits { .. } => copy_asked(alloc, &event.command),
-        _ => Ok(None),
-    }
-}
-
-/// A copy of what a command asks for, if it is a statement. NoMemory where an allocation was refused.
-fn copy_asked(alloc: Global, command: &Command) -> Result<Option<Statement>, NoMemory>
-    ensures { IfOk result (λ copy. copy ≡ asked command.now) }
-{
-    match asked_statement(command) {
-        Some(statement) => Ok(Some(statement.copy(alloc)?)),
-        None => Ok(None),
-    }
 }
 
 impl SessionState {

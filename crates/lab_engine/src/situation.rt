@@ -15,8 +15,9 @@ ghost use Rattle.lab_engine.specs.Situation.{Describes, DescribesAll, DescribesR
 
 use crate::committed_rows::{CommittedRows, keep_commit};
 use crate::event::{LogEvent, Outcome};
+use crate::kept_statement::kept_copy;
 use crate::row_states::RowStates;
-use crate::session_state::{RunningTxn, SessionState, kept_copy};
+use crate::session_state::{RunningTxn, SessionState};
 use crate::wait_graph::WaitGraph;
 use lab_history::Writes;
 use lab_table::{NoMemory, RowName, Session, Statement};

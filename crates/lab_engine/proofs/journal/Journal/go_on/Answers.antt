@@ -23,6 +23,11 @@ invariant_of-self g c =
       places_of_commits = where_made (keeps_commits g.R.Rules.kind) (λ on. c.reserve_place.ensures.commits (c.keeps_commits-keeps_commits.ensures ∙ on));
     })
 
+pub reserve-requires : goal.reserve-requires
+reserve-requires g c =
+    let is = c.self.invariant.situation in
+    (g.R.Rules.kind, past_of c.self.inside.log.items, same_log (past_of c.self.inside.log.items) c.self.inside.situation _ is is.sessions is.states is.rows c.reserve_place.ensures.items refl refl)
+
 pub invariant_of-self-in_err-kept : goal.invariant_of-self-in_err-kept
 invariant_of-self-in_err-kept g c =
     let past : Past = past_of c.self.inside.log.items in
