@@ -1,5 +1,5 @@
 -- The rows of the commits since a begin are all of which a statement may read a change.
-use Rattle.std.proofs.Common.{◌≡◌, ◌∙◌, ℕ, ◌≤◌, refl, sym, ap, subst, Bool, true, false, cond, ◌==◌, ◌&&◌, List, [], ◌∷◌, ◌++◌, append_assoc, length, reverse, arith, Option, Some, None, is_some, ltb-false, eqb-true, eq-eqb}
+use Rattle.std.proofs.Common.{◌≡◌, ◌∙◌, ℕ, ◌≤◌, ◌<◌, refl, sym, ap, subst, Bool, true, false, cond, ◌==◌, ◌&&◌, List, [], ◌∷◌, ◌++◌, append_assoc, length, reverse, arith, Option, Some, None, is_some, ltb-false, le-ltb, lt-ltb, eqb-true, eq-eqb}
 use Rattle.lab_engine.proofs.Common.{Past, Txn, append-nil, map-append, reverse-append, Row, State, Statement, row_eq, same_row, row_eq_self, list_any, nat_lt, option_or, chain_in, kept_rows, keeps_commits, IsAsker, Any-from_list_any, list_any_at, and_from, and_parts, true≢false}
 use Rattle.lab_engine.specs.declared.asker.Asker.{Asker}
 use Rattle.lab_engine.specs.declared.event.Level.{Level}
@@ -81,7 +81,7 @@ module _ (asker : Asker) (s : Statement) where
   pub all_left : IsLeastSoFar asker.situation.now.commits.items None
   all_left = ([], refl, λ row. refl)
 
-  pub next_commit : (left older : List CommittedRows) (commit : CommittedRows) (least found : Option Row) → left ≡ older ++ commit ∷ [] → nat_lt commit.place asker.running.now.before ≡ false
+  pub next_commit : (left older : List CommittedRows) (commit : CommittedRows) (least found : Option Row) → left ≡ older ++ commit ∷ [] → asker.running.now.before ≤ commit.place
       → IsLeastSoFar left least → IsLeast (reads_in asker s (commit.place, commit.rows.items)) found → IsLeastSoFar older (lesser least found)
   next_commit left older commit least found is later (so_far, all, h) k = (so_far ++ entry ∷ [], all ∙ ap (λ l. so_far ++ l) one ∙ sym (append_assoc so_far (entry ∷ []) (back older)), more)
     where
@@ -92,7 +92,7 @@ module _ (asker : Asker) (s : Statement) where
       turned_over = ap (λ l. reverse (kept_rows l)) is ∙ ap reverse (map-append (λ c. (c.place, c.rows.items)) older (commit ∷ [])) ∙ reverse-append (kept_rows older) (entry ∷ [])
 
       one : back left ≡ entry ∷ back older
-      one = ap (commits_since asker.running.now.before) turned_over ∙ ap (λ b. cond b [] (entry ∷ back older)) later
+      one = ap (commits_since asker.running.now.before) turned_over ∙ ap (λ b. cond b [] (entry ∷ back older)) (le-ltb commit.place asker.running.now.before later)
 
       more : IsLeast (λ row. list_any (λ c. reads_in asker s c row) (so_far ++ entry ∷ [])) (lesser least found)
       more = least_next (reads_in asker s) so_far entry least found h k
@@ -102,11 +102,11 @@ module _ (asker : Asker) (s : Statement) where
   none_left left least none (so_far, all, h) = subst (λ l. IsLeast (λ row. list_any (λ c. reads_in asker s c row) l) least) (sym (all ∙ ap (λ l. so_far ++ l) none ∙ append-nil so_far)) h
 
   -- the newest that is left stands before the begin
-  pub before_begin : (left older : List CommittedRows) (commit : CommittedRows) → left ≡ older ++ commit ∷ [] → nat_lt commit.place asker.running.now.before ≡ true → back left ≡ []
+  pub before_begin : (left older : List CommittedRows) (commit : CommittedRows) → left ≡ older ++ commit ∷ [] → commit.place < asker.running.now.before → back left ≡ []
   before_begin left older commit is earlier =
       ap (λ l. back l) is ∙ ap (λ l. commits_since asker.running.now.before (reverse l)) (map-append (λ c. (c.place, c.rows.items)) older (commit ∷ []))
       ∙ ap (commits_since asker.running.now.before) (reverse-append (kept_rows older) ((commit.place, commit.rows.items) ∷ []))
-      ∙ ap (λ b. cond b [] ((commit.place, commit.rows.items) ∷ back older)) earlier
+      ∙ ap (λ b. cond b [] ((commit.place, commit.rows.items) ∷ back older)) (lt-ltb commit.place asker.running.now.before earlier)
 
   -- nothing is left
   pub at_end : (left : List CommittedRows) (least : Option Row) → length left ≡ 0 → IsLeastSoFar left least → IsLeast (reads_since asker s) least
