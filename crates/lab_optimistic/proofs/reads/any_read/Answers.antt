@@ -1,8 +1,11 @@
-use Rattle.std.proofs.Common.{sym, subst}
+use Rattle.std.proofs.Common.{None, sym, subst}
 use Rattle.lab_engine.proofs.Common.{list_any}
 use Rattle.lab_optimistic.specs.Reads.{IsLeast, is_last_read}
-use Rattle.lab_optimistic.proofs.LastReads.{IsLeastSoFar, at_end, before_begin, next_commit, none_left}
+use Rattle.lab_optimistic.proofs.LastReads.{IsLeastSoFar, all_left, at_end, before_begin, next_commit, none_left}
 use Rattle.lab_optimistic.proofs.reads.any_read.Goals as goal
+
+pub loop-commit-init : goal.loop-commit-init
+loop-commit-init c = subst (λ l. IsLeastSoFar c.args.asker.now c.args.statement.now l None) (sym c.as_slice-left.ensures.value) (all_left c.args.asker.now c.args.statement.now)
 
 pub loop-commit-preserved : goal.loop-commit-preserved
 loop-commit-preserved c =
