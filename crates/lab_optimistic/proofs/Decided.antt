@@ -1,6 +1,6 @@
 -- The first of a commit's conflicts, of those by what was written and those by what was read.
-use Rattle.std.proofs.Common.{◌≡◌, ℕ, refl, sym, ap, subst, ◌∙◌, Bool, true, false, cond, inl, inr, Option, Some, None, MatchOption, is_lt}
-use Rattle.lab_engine.proofs.Common.{Row, row_cmp, rows_total, Table, Past, Txn, MayCommit, IsBelow, true≢false}
+use Rattle.std.proofs.Common.{◌≡◌, ℕ, refl, sym, subst, Bool, true, false, cond, inl, inr, Option, Some, None, MatchOption, is_lt}
+use Rattle.lab_engine.proofs.Common.{Row, row_cmp, rows_total, Table, Past, Txn, MayCommit, IsBelow}
 use Rattle.lab_engine.specs.declared.event.Level.TheVariants.{Optimistic}
 use Rattle.lab_engine.specs.declared.rules.Conflict.{Conflict}
 use Rattle.lab_engine.specs.declared.rules.ConflictKind.{ConflictKind}

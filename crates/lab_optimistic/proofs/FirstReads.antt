@@ -1,11 +1,11 @@
 -- What is found among the statements of an active transaction says whether what it has read stands.
-use Rattle.std.proofs.Common.{◌≡◌, ◌≢◌, ℕ, refl, sym, ap, subst, ◌∙◌, Bool, true, false, cond, ◌||◌, List, [], ◌∷◌, ◌++◌, length, reverse, map, Option, Some, None, is_some}
-use Rattle.lab_engine.proofs.Common.{none_some, none_of, list_any, nat_lt, option_or, both_ways, get, Row, State, Statement, matches, may_match, no_match, Past, Txn, active, commits, has_read, chain, chain_in, keeps_statements, IsAsker, same_row, row_eq, IsBelow, true≢false, or_parts}
+use Rattle.std.proofs.Common.{◌≡◌, ◌≢◌, ℕ, refl, sym, ap, ◌∙◌, Bool, true, false, cond, ◌||◌, List, [], ◌∷◌, reverse, map, Option, Some, None, is_some}
+use Rattle.lab_engine.proofs.Common.{none_of, list_any, nat_lt, option_or, both_ways, get, Row, State, Statement, matches, may_match, no_match, Past, Txn, active, commits, has_read, chain_in, keeps_statements, IsAsker, IsBelow, true≢false}
 use Rattle.lab_engine.specs.declared.asker.Asker.{Asker}
 use Rattle.lab_engine.specs.declared.event.Level.{Level}
 use Rattle.lab_engine.specs.declared.row_state.Installed.{Installed}
 use Rattle.lab_engine.specs.declared.rules.ConflictKind.TheVariants.{Read}
-use Rattle.lab_engine.specs.Rules.{NoneChangesRead, ConflictsRead}
+use Rattle.lab_engine.specs.Rules.{NoneChangesRead}
 use Rattle.lab_engine.proofs.Holding.{any_read}
 use Rattle.lab_optimistic.specs.Changes.{any_reads, state_of, first_change}
 use Rattle.lab_optimistic.specs.Reads.{change_at, changes_at, IsLeast, IsFirstRead}

@@ -1,4 +1,4 @@
-use Rattle.lab_engine.proofs.Common.{ap, arith, length, length-reverse, on_ok_weaker, past_of, sym, ◌∙◌, ◌∷◌}
+use Rattle.lab_engine.proofs.Common.{arith, length-reverse, on_ok_weaker, past_of, sym, ◌∙◌, ◌∷◌}
 use Rattle.lab_engine.specs.Sessions.{all_sessions}
 use Rattle.lab_engine.proofs.EndPlaces.{fewer_active, few_active}
 use Rattle.lab_engine.proofs.KeptCommits.{room_after, room_after_end}

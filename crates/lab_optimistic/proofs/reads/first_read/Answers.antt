@@ -1,6 +1,5 @@
-use Rattle.std.proofs.Common.{◌≡◌, sym, ap, subst, ◌∙◌, List, Option, Some, None, true}
-use Rattle.lab_engine.proofs.Common.{IsAsker, Past, Row, Statement, Txn, keeps_commits, list_any}
-use Rattle.lab_engine.specs.declared.event.Level.{Level}
+use Rattle.std.proofs.Common.{sym, ap, subst, ◌∙◌, List}
+use Rattle.lab_engine.proofs.Common.{Statement, list_any}
 use Rattle.lab_optimistic.specs.Reads.{IsLeast, change_at, changes_at}
 use Rattle.lab_optimistic.proofs.FirstReads.{all_stand, first_found, found_by}
 use Rattle.lab_optimistic.proofs.reads.first_read.Goals as goal
