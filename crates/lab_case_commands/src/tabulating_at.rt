@@ -3,7 +3,7 @@
 ghost use Rattle.std.specs.Prelude.{◌≡◌, ◌≢◌, ◌⊎◌, List, ℕ, IfOk, IfErr};
 ghost use Rattle.std.specs.Io.KnownBytes.{Appends, Keeps};
 ghost use Rattle.lab_matrix.specs.Columns.{IsFirstAmong};
-ghost use Rattle.lab_case_commands.specs.Tabulating.{IsColumnsAnswer, IsTabulatedAt};
+ghost use Rattle.lab_case_commands.specs.Tabulating.{IsColumnsAnswer, IsTabulatedAt, IsUntabulatedAt};
 
 use lab_engine::Level;
 use lab_matrix::{MatrixFault, columns_at, print_columns};
@@ -24,6 +24,20 @@ fn tabulated_at(alloc: Global, levels: &[Level]) -> Result<Vec<u8>, MatrixFault>
     Ok(text?)
 }
 
+/// The line of a play that was refused, the first at these levels.
+fn untold_at(alloc: Global, fault: MatrixFault, _levels: &[Level]) -> Result<Answer, NoMemory>
+    requires { fault ≢ MatrixFault.NoMemory → IsFirstAmong _levels.now fault }
+    ensures { IfOk result (λ answer. IsUntabulatedAt _levels.now answer.text.items answer.ending) }
+{
+    match fault {
+        MatrixFault::NoMemory => Err(AllocError),
+        MatrixFault::Play { fault, .. } => Ok(Answer {
+            text: print_play_fault(alloc, &fault)?,
+            ending: Ending::Refused,
+        }),
+    }
+}
+
 /// The text of the cases at these levels, or the line of a play that was refused.
 fn answer_at(alloc: Global, levels: &[Level]) -> Result<Answer, NoMemory>
     ensures { IfOk result (λ answer. IsColumnsAnswer levels.now answer.text.items answer.ending) }
@@ -33,11 +47,7 @@ fn answer_at(alloc: Global, levels: &[Level]) -> Result<Answer, NoMemory>
             text,
             ending: Ending::Done,
         }),
-        Err(MatrixFault::NoMemory) => Err(AllocError),
-        Err(MatrixFault::Play { fault, .. }) => Ok(Answer {
-            text: print_play_fault(alloc, &fault)?,
-            ending: Ending::Refused,
-        }),
+        Err(fault) => untold_at(alloc, fault, levels),
     }
 }
 

@@ -5,7 +5,7 @@ use Rattle.lab_compare.proofs.SidesSoFar.{SoFar, none_so_far, next_so_far, all_s
 use Rattle.lab_compare.proofs.playing.sides_of.Goals as goal
 
 pub loop-level-init : goal.loop-level-init
-loop-level-init c = subst (SoFar c.args.script.now c.args.levels.now c.args.levels.now) (sym c.in_ok-with_capacity.ensures.items) (none_so_far c.args.script.now c.args.levels.now)
+loop-level-init c = subst (SoFar c.args.script.now c.args.levels.now c.args.levels.now) (sym c.in_ok-sides.ensures.items) (none_so_far c.args.script.now c.args.levels.now)
 
 pub loop-level-preserved : goal.loop-level-preserved
 loop-level-preserved c =
