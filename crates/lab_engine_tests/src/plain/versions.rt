@@ -58,6 +58,13 @@ pub fn committed(setup: &Table, log: &[LogEvent], row: RowName) -> Version {
     }
 }
 
+/// The transaction that an event after these commits, if it commits one that wrote a row, with the row's state then.
+fn installed_by(past: &[LogEvent], event: &LogEvent, row: RowName) -> Option<(TxnNo, State)> {
+    let other = committed_by(past, event)?;
+    let version = last_written(&other, row)?;
+    Some((other.number, version.state))
+}
+
 impl PlainEngine {
     /// The version of a row that a transaction sees: its own last one, else the one committed by now, or at its begin.
     pub fn seen(&self, txn: &Txn<'_>, row: RowName) -> Version {
@@ -71,19 +78,16 @@ impl PlainEngine {
         }
     }
 
-    /// The transaction that the event at a place commits, if it commits one that wrote a row, with the row's state then.
-    fn installed_at(&self, place: usize, row: RowName) -> Option<(TxnNo, State)> {
-        let other = committed_by(&self.log[..place], &self.log[place])?;
-        let version = last_written(&other, row)?;
-        Some((other.number, version.state))
-    }
-
     /// The first transaction to install a row, since the begin of one that has run a statement that matches the row as it
     /// was before that, or as it was then.
     pub fn changed_by(&self, txn: &Txn<'_>, row: RowName) -> Option<TxnNo> {
-        for place in txn.before.len()..self.log.len() {
-            if let Some((number, state)) = self.installed_at(place, row) {
-                let before = committed(&self.setup, &self.log[..place], row).state;
+        for (place, event) in self.log.iter().enumerate() {
+            if place < txn.before.len() {
+                continue;
+            }
+            let past = &self.log[..place];
+            if let Some((number, state)) = installed_by(past, event, row) {
+                let before = committed(&self.setup, past, row).state;
                 if was_matched(txn, row, &before) || was_matched(txn, row, &state) {
                     return Some(number);
                 }
