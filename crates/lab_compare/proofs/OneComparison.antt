@@ -1,12 +1,10 @@
 -- Of one input `compare` says one thing.
-use Rattle.std.proofs.Common.{◌≡◌, ◌≢◌, inl, inr, ℕ, List, [], ◌∷◌, refl, sym, ap, subst, ◌∙◌}
+use Rattle.std.proofs.Common.{◌≡◌, inl, inr, ℕ, List, [], ◌∷◌, refl, sym, ap, subst, ◌∙◌}
 use Rattle.lab_script.specs.declared.script.Script.{Script}
 use Rattle.lab_script.proofs.FirstFault.{fault_spells_nothing}
 use Rattle.lab_script.proofs.OneFault.{one_script}
 use Rattle.lab_engine.specs.declared.event.Level.{Level}
 use Rattle.lab_session.specs.PlayFaultText.{play_fault_text}
-use Rattle.lab_session.specs.declared.fault.PlayFault.{PlayFault}
-use Rattle.lab_session.specs.declared.fault.PlayFault.TheVariants.{NoMemory}
 use Rattle.lab_judge.specs.Judgement.{IsExactJudgement}
 use Rattle.lab_judge.proofs.OneJudgement.{one_judgement}
 use Rattle.lab_streams.specs.declared.ending.Ending.{Ending}

@@ -1,5 +1,5 @@
 -- There is one text of the cases at levels, and where there is none one refusal.
-use Rattle.std.proofs.Common.{◌≡◌, ◌≢◌, inl, inr, List, [], ◌∷◌, refl, sym, ap, ◌∙◌, subst, arith}
+use Rattle.std.proofs.Common.{◌≡◌, inl, inr, List, [], ◌∷◌, refl, sym, ap, ◌∙◌, subst, arith}
 use Rattle.std.proofs.lemmas.Bool.{cases_lt}
 use Rattle.lab_engine.specs.declared.event.Level.{Level}
 use Rattle.lab_session.specs.Play.{given_lines}
@@ -7,7 +7,7 @@ use Rattle.lab_session.specs.declared.fault.PlayFault.{PlayFault}
 use Rattle.lab_session.proofs.OnePlay.{one_fault}
 use Rattle.lab_matrix.specs.Listings.{usual_setup, listing}
 use Rattle.lab_matrix.specs.Matrix.{IsUnrecorded, case_place}
-use Rattle.lab_matrix.specs.Columns.{report_of, AreReports, AllRecorded, IsFirstAt, AreColumns, IsFirstAmong}
+use Rattle.lab_matrix.specs.Columns.{AreReports, AllRecorded, IsFirstAt, AreColumns, IsFirstAmong}
 use Rattle.lab_matrix.specs.declared.columns.CaseReports.{CaseReports}
 use Rattle.lab_matrix.specs.declared.filling.MatrixFault.TheVariants.{Play}
 use Rattle.lab_matrix.specs.declared.name.CaseName.{CaseName}
