@@ -15,13 +15,13 @@ module _ (one other : List ℕ) (first again : Ending) where
   one_line : IsUntabulated one first → IsUntabulated other again → one ≡ other
   one_line u w =
       u.text_is
-      ∙ ap play_fault_text (one_refusal u.case w.case u.column w.column u.fault w.fault (u.told_why, u.faulty) (w.told_why, w.faulty) u.first w.first)
+      ∙ ap play_fault_text (one_refusal u.case w.case u.level w.level u.fault w.fault (u.told_why, u.faulty) (w.told_why, w.faulty) u.first w.first)
       ∙ sym w.text_is
 
   pub one_answer : IsMatrixAnswer one first → IsMatrixAnswer other again → (one ≡ other) × (first ≡ again)
   one_answer (inl p) (inl q) = (one_table p q, p.done ∙ sym q.done)
-  one_answer (inl p) (inr u) = absurd (no_refusal p.matrix u.case u.column u.fault p.cells (u.told_why, u.faulty))
-  one_answer (inr u) (inl p) = absurd (no_refusal p.matrix u.case u.column u.fault p.cells (u.told_why, u.faulty))
+  one_answer (inl p) (inr u) = absurd (no_refusal p.matrix u.case u.level u.fault p.cells (u.told_why, u.faulty) u.first)
+  one_answer (inr u) (inl p) = absurd (no_refusal p.matrix u.case u.level u.fault p.cells (u.told_why, u.faulty) u.first)
   one_answer (inr u) (inr w) = (one_line u w, u.refused ∙ sym w.refused)
 
 -- so at levels

@@ -7,9 +7,8 @@ use Rattle.lab_session.specs.declared.fault.PlayFault.{PlayFault}
 use Rattle.lab_session.specs.declared.fault.PlayFault.TheVariants.{NoMemory}
 use Rattle.lab_matrix.specs.Listings.{usual_setup, listing}
 use Rattle.lab_matrix.specs.Columns.{AreColumns, IsFirstAmong, columns_text}
-use Rattle.lab_matrix.specs.Matrix.{AreCells, IsRecorded, Precedes, level_of}
+use Rattle.lab_matrix.specs.Matrix.{AreCells, IsFirstCell}
 use Rattle.lab_matrix.specs.MatrixText.{matrix_text}
-use Rattle.lab_matrix.specs.declared.cells.Column.{Column}
 use Rattle.lab_matrix.specs.declared.cells.Matrix.{Matrix}
 use Rattle.lab_matrix.specs.declared.columns.CaseReports.{CaseReports}
 use Rattle.lab_matrix.specs.declared.filling.MatrixFault.TheVariants.{Play}
@@ -24,14 +23,14 @@ pub record IsTabulated (text : List ℕ) (ending : Ending) : Type 0 where
   pub text_is : text ≡ matrix_text matrix
   pub done : ending ≡ Done
 
--- a case's play in a column was refused, the first of all, and the text is the line of its fault
+-- a case's play at a level was refused, the first of all, and the text is the line of its fault
 pub record IsUntabulated (text : List ℕ) (ending : Ending) : Type 0 where
   pub case : CaseName
-  pub column : Column
+  pub level : Level
   pub fault : PlayFault
   pub told_why : fault ≢ NoMemory
-  pub faulty : IsScriptedFault (level_of column) usual_setup (given_lines (listing case)) fault
-  pub first : (other : CaseName) (at : Column) → Precedes other at case column → IsRecorded other (level_of at)
+  pub faulty : IsScriptedFault level usual_setup (given_lines (listing case)) fault
+  pub first : IsFirstCell case level
   pub text_is : text ≡ play_fault_text fault
   pub refused : ending ≡ Refused
 

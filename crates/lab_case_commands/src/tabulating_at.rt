@@ -2,7 +2,7 @@
 
 ghost use Rattle.std.specs.Prelude.{◌≡◌, ◌≢◌, ◌⊎◌, List, ℕ, IfOk, IfErr};
 ghost use Rattle.std.specs.Io.KnownBytes.{Appends, Keeps};
-ghost use Rattle.lab_matrix.specs.Columns.{IsFirstAmong};
+ghost use Rattle.lab_matrix.specs.Columns.{IsColumnsFault};
 ghost use Rattle.lab_case_commands.specs.Tabulating.{IsColumnsAnswer, IsTabulatedAt, IsUntabulatedAt};
 
 use lab_engine::Level;
@@ -16,7 +16,7 @@ use std::io::Write;
 /// The text of the cases at these levels.
 fn tabulated_at(alloc: Global, levels: &[Level]) -> Result<Vec<u8>, MatrixFault>
     ensures text { IfOk result (λ text. IsTabulatedAt levels.now text.items Ending.Done) }
-    ensures fault { IfErr result (λ fault. fault ≢ MatrixFault.NoMemory → IsFirstAmong levels.now fault) }
+    ensures fault { IfErr result (IsColumnsFault levels.now) }
 {
     let columns = columns_at(alloc, levels)?;
     let text = print_columns(alloc, &columns);
@@ -26,7 +26,7 @@ fn tabulated_at(alloc: Global, levels: &[Level]) -> Result<Vec<u8>, MatrixFault>
 
 /// The line of a play that was refused, the first at these levels.
 fn untold_at(alloc: Global, fault: MatrixFault, _levels: &[Level]) -> Result<Answer, NoMemory>
-    requires { fault ≢ MatrixFault.NoMemory → IsFirstAmong _levels.now fault }
+    requires { IsColumnsFault _levels.now fault }
     ensures { IfOk result (λ answer. IsUntabulatedAt _levels.now answer.text.items answer.ending) }
 {
     match fault {

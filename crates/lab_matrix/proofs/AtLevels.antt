@@ -5,7 +5,7 @@ use Rattle.std.proofs.lemmas.List.{append_assoc, append-nil}
 use Rattle.lab_engine.specs.declared.event.Level.{Level}
 use Rattle.lab_judge.specs.declared.report.Report.{Report}
 use Rattle.lab_matrix.specs.Matrix.{IsCell, IsRecorded, IsCellFault, case_place}
-use Rattle.lab_matrix.specs.Columns.{report_of, AreReports, KeepPromise, AllRecorded, IsFirstAt, AreColumns, KeepPromises, IsFirstAmong}
+use Rattle.lab_matrix.specs.Columns.{report_of, AreReports, KeepPromise, AllRecorded, IsFirstAt, AreColumns, KeepPromises, IsFirstAmong, IsColumnsFault}
 use Rattle.lab_matrix.specs.declared.columns.CaseReports.{CaseReports}
 use Rattle.lab_matrix.specs.declared.filling.MatrixFault.{MatrixFault}
 use Rattle.lab_matrix.specs.declared.filling.MatrixFault.TheVariants.{NoMemory, Play}
@@ -89,6 +89,11 @@ all_so_far levels left columns none so_far =
 pub refused_next : (levels left rest : List Level) (level : Level) (columns : List CaseReports) (fault : MatrixFault) → left ≡ level ∷ rest → SoFar levels left columns
     → IsFirstAt level fault → IsFirstAmong levels fault
 refused_next levels left rest level columns fault first so_far faulty = so_far.first fault (subst (λ l. IsFirstAmong l fault) (sym first) (inl faulty))
+
+-- so it is true of these levels
+pub refusal_at : (levels : List Level) (fault : MatrixFault) → IsFirstAmong levels fault → IsColumnsFault levels fault
+refusal_at levels NoMemory first = tt
+refusal_at levels (Play case level fault) first = first
 
 -- all say what is promised
 pub promises_kept_at : (levels : List Level) (columns : List CaseReports) → AreColumns levels columns → KeepPromises columns

@@ -179,7 +179,8 @@ before_next own row before cells case at low = elim (cases_lt (case_place case) 
 -- a refusal that is the first of a row is the first of the matrix, where the rows before it have their recordings
 pub first_of_all : (own : CaseName) (fault : MatrixFault) → RecordedBefore (case_place own) → IsRowFault own fault → IsMatrixFault fault
 first_of_all own NoMemory before is = tt
-first_of_all own (Play case level fault) before (under, level_is, case_is, faulty, earlier) = (under, level_is, faulty, λ other at precedes. earlier_one other at precedes)
+first_of_all own (Play case level fault) before (under, level_is, case_is, faulty, earlier) =
+    (faulty, record { column = under; level_is = level_is; before = λ other at precedes. earlier_one other at precedes })
   where
     earlier_one : (other : CaseName) (at : Column) → Precedes other at case under → IsRecorded other (level_of at)
     earlier_one other at (inl less) = before other at (subst (λ c. case_place other < case_place c) case_is less)

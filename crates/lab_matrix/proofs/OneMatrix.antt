@@ -12,7 +12,7 @@ use Rattle.lab_judge.specs.Judgement.{IsExactJudgement}
 use Rattle.lab_judge.specs.declared.report.Report.{Report}
 use Rattle.lab_judge.proofs.OneJudgement.{one_judgement}
 use Rattle.lab_matrix.specs.Listings.{usual_setup, listing}
-use Rattle.lab_matrix.specs.Matrix.{IsCell, IsRow, AreCells, IsRecorded, IsUnrecorded, Precedes, case_place, column_place, level_of, cell_of}
+use Rattle.lab_matrix.specs.Matrix.{IsCell, IsRow, AreCells, IsRecorded, IsUnrecorded, IsFirstCell, Precedes, case_place, column_place, level_of, cell_of}
 use Rattle.lab_matrix.specs.MatrixText.{matrix_text}
 use Rattle.lab_matrix.specs.declared.cells.Column.{Column}
 use Rattle.lab_matrix.specs.declared.cells.Column.TheVariants as column
@@ -55,8 +55,10 @@ pub not_both : (case : CaseName) (at : Level) (fault : PlayFault) → IsRecorded
 not_both case at fault r (told, faulty) = no_fault at usual_setup (given_lines (listing case)) r.log r.told r.play r.history r.whole fault told faulty
 
 -- so a matrix excludes a refusal
-pub no_refusal : (m : Matrix) (case : CaseName) (at : Column) (fault : PlayFault) → AreCells m → IsUnrecorded case (level_of at) fault → ⊥
-no_refusal m case at fault cells = not_both case (level_of at) fault (recorded case (level_of at) (cell_of m case at) (cells case at))
+pub no_refusal : (m : Matrix) (case : CaseName) (level : Level) (fault : PlayFault) → AreCells m → IsUnrecorded case level fault → IsFirstCell case level → ⊥
+no_refusal m case level fault cells unrecorded first =
+    let at : Column = first.column in
+    not_both case (level_of at) fault (recorded case (level_of at) (cell_of m case at) (cells case at)) (subst (λ l. IsUnrecorded case l fault) first.level_is unrecorded)
 
 -- A refusal that is the first.
 module _ (case other : CaseName) (at under : Column) (fault again : PlayFault) (faulty : IsUnrecorded case (level_of at) fault) (told : IsUnrecorded other (level_of under) again)
@@ -89,8 +91,14 @@ module _ (case other : CaseName) (at under : Column) (fault again : PlayFault) (
   ]
 
   -- and one fault
-  pub one_refusal : fault ≡ again
-  one_refusal =
+  one_fault_there : fault ≡ again
+  one_fault_there =
       let moved : IsUnrecorded case (level_of at) again =
       subst (λ c. IsUnrecorded c (level_of at) again) (sym one_case) (subst (λ l. IsUnrecorded other (level_of l) again) (sym one_column) told) in
       one_fault (level_of at) usual_setup (given_lines (listing case)) fault again faulty.0 moved.0 faulty.1 moved.1
+
+pub one_refusal : (case other : CaseName) (level below : Level) (fault again : PlayFault) → IsUnrecorded case level fault → IsUnrecorded other below again
+    → IsFirstCell case level → IsFirstCell other below → fault ≡ again
+one_refusal case other level below fault again faulty told first earlier =
+    one_fault_there case other first.column earlier.column fault again (subst (λ l. IsUnrecorded case l fault) first.level_is faulty)
+    (subst (λ l. IsUnrecorded other l again) earlier.level_is told) first.before earlier.before

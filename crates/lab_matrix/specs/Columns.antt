@@ -63,6 +63,11 @@ abbrev pub IsFirstAmong : List Level → MatrixFault → Type 0
 IsFirstAmong [] fault = ⊥
 IsFirstAmong (level ∷ levels) fault = IsFirstAt level fault ⊎ (AllRecorded level × IsFirstAmong levels fault)
 
+-- a refusal at levels is true
+abbrev pub IsColumnsFault : List Level → MatrixFault → Type 0
+IsColumnsFault levels NoMemory = ⊤
+IsColumnsFault levels (Play case level fault) = IsFirstAmong levels (Play case level fault)
+
 -- ---- the text
 
 -- what stands first in a line

@@ -123,8 +123,13 @@ IsRowFault own NoMemory = Unit {0}
 IsRowFault own (Play case level fault) = (under : Column) × (level ≡ level_of under) × (case ≡ own) × IsUnrecorded case level fault
     × ((at : Column) → column_place at < column_place under → IsRecorded own (level_of at))
 
--- a refusal is true: the play of that case in that column has no recording, and that of each cell before it has
+-- the matrix has a column of a level, and the play of each cell before a case's cell in it has a recording
+pub record IsFirstCell (case : CaseName) (level : Level) : Type 0 where
+  pub column : Column
+  pub level_is : level ≡ level_of column
+  pub before : (other : CaseName) (at : Column) → Precedes other at case column → IsRecorded other (level_of at)
+
+-- a refusal is true: the play of that case at that level has no recording, and that of each cell before it has
 abbrev pub IsMatrixFault : MatrixFault → Type 0
 IsMatrixFault NoMemory = Unit {0}
-IsMatrixFault (Play case level fault) = (under : Column) × (level ≡ level_of under) × IsUnrecorded case level fault
-    × ((other : CaseName) (at : Column) → Precedes other at case under → IsRecorded other (level_of at))
+IsMatrixFault (Play case level fault) = IsUnrecorded case level fault × IsFirstCell case level

@@ -1,7 +1,7 @@
 //! The cases at one level after another, played and judged.
 
-ghost use Rattle.std.specs.Prelude.{◌≡◌, ◌≢◌, ◌++◌, ◌∷◌, [], IfOk, IfErr, OnOk};
-ghost use Rattle.lab_matrix.specs.Columns.{report_of, AreReports, KeepPromise, IsFirstAt, AreColumns, KeepPromises, IsFirstAmong};
+ghost use Rattle.std.specs.Prelude.{◌≡◌, ◌++◌, ◌∷◌, [], IfOk, IfErr, OnOk};
+ghost use Rattle.lab_matrix.specs.Columns.{report_of, AreReports, KeepPromise, IsFirstAt, AreColumns, KeepPromises, IsColumnsFault};
 
 use crate::filling::{MatrixFault, cell_at};
 use crate::name::CaseName;
@@ -86,7 +86,7 @@ fn add(columns: &mut Vec<CaseReports>, column: CaseReports) -> Result<(), NoMemo
 pub fn columns_at(alloc: Global, levels: &[Level]) -> Result<Vec<CaseReports>, MatrixFault>
     ensures columns { IfOk result (λ columns. AreColumns levels.now columns.items) }
     ensures promised { IfOk result (λ columns. KeepPromises columns.items) }
-    ensures fault { IfErr result (λ fault. fault ≢ MatrixFault.NoMemory → IsFirstAmong levels.now fault) }
+    ensures fault { IfErr result (IsColumnsFault levels.now) }
 {
     let mut columns = Vec::with_capacity(alloc, levels.len())?;
     for level in levels {

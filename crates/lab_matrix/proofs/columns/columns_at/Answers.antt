@@ -1,7 +1,7 @@
 use Rattle.std.proofs.Common.{◌≡◌, ◌+◌, ◌∷◌, drop, sym, ap, ◌∙◌, subst, arith}
 use Rattle.std.proofs.lemmas.List.{drop_more, drop_all}
 use Rattle.std.proofs.lemmas.Result.{err_from_is_err_and}
-use Rattle.lab_matrix.proofs.AtLevels.{SoFar, none_so_far, next_so_far, all_so_far, refused_next, promises_kept_at}
+use Rattle.lab_matrix.proofs.AtLevels.{SoFar, none_so_far, next_so_far, all_so_far, refused_next, refusal_at, promises_kept_at}
 use Rattle.lab_matrix.proofs.columns.columns_at.Goals as goal
 
 pub loop-level-init : goal.loop-level-init
@@ -28,4 +28,4 @@ returns-in_err-reports-clause-fault c =
     let rest = drop (c.loop-level.level-index + 1) c.args.levels.now in
     let first : drop c.loop-level.level-index c.args.levels.now ≡ level ∷ rest =
     drop_more c.args.levels.now c.loop-level.level-index level c.loop-level-test.true ∙ ap (λ e. e ∷ rest) (sym c.level-item.is) in
-    rw (p.1, p.2) (λ told. refused_next c.args.levels.now _ rest level _ _ first c.loop-level.invariant c.in_err-reports.ensures.fault)
+    rw (p.1, p.2) (refusal_at c.args.levels.now _ (refused_next c.args.levels.now _ rest level _ _ first c.loop-level.invariant c.in_err-reports.ensures.fault))
