@@ -21,7 +21,6 @@ use std::thread::Threads;
 struct Asked {
     level: Level,
     shown: Shown,
-    telling: Option<Telling>,
 }
 
 /// What the arguments show of a run.
@@ -55,7 +54,7 @@ fn play<T: Threads + Wait + Sync, R: Read, W: Write, N: Write>(
     matches: &ArgMatches<'_>,
     asked: Asked,
 ) -> Result<Ending, RunFault> {
-    let Asked { level, shown, .. } = asked;
+    let Asked { level, shown } = asked;
     let wanted = wanted(matches);
     if matches.get_flag("free") {
         run_free(rt, alloc, reader, writer, notes, level, shown, wanted)
@@ -77,7 +76,6 @@ pub fn run_play<T: Threads + Wait + Sync, R: Read, W: Write, N: Write>(
     let asked = Asked {
         level,
         shown: shown(matches),
-        telling: telling_of(matches),
     };
     let Streams {
         reader,
@@ -85,7 +83,7 @@ pub fn run_play<T: Threads + Wait + Sync, R: Read, W: Write, N: Write>(
         notes,
         ..
     } = streams;
-    let Some(telling) = asked.telling else {
+    let Some(telling) = telling_of(matches) else {
         return ended(play(rt, alloc, reader, writer, notes, matches, asked));
     };
     let mut file = Vec::new(alloc);

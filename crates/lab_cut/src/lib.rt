@@ -5,8 +5,6 @@
 //! other one: its transactions, statements and lists are some of the other's, in their order, and its tables begin and end
 //! with states that the other has.
 //!
-//! [`with_states`] gives a table with rows in new states.
-//!
 //! Whether a part shows what the whole shows isn't looked at here.
 #![tactic(auto)]
 
@@ -25,4 +23,3 @@ pub use entries::without_entries;
 pub use laws::{part_of_a_part_is_a_part, whole_is_a_part};
 pub use operations::without_operations;
 pub use rows::with_rows;
-pub use tables::with_states;

@@ -200,7 +200,7 @@ fn put_present(rows: &mut ByRow<Value>, states: &[(RowName, State)]) -> Result<(
 }
 
 /// A table with rows in new states. NoMemory where an allocation was refused.
-pub fn with_states(alloc: Global, table: &Table, states: &Writes) -> Result<Table, NoMemory>
+fn with_states(alloc: Global, table: &Table, states: &Writes) -> Result<Table, NoMemory>
     ensures { IfOk result (λ made. made ≡ overwritten states.now table.now) }
 {
     let kept = kept_rows(alloc, table.rows(), states)?;

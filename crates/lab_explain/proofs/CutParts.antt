@@ -1,5 +1,5 @@
 -- An explanation's parts are cut between their sentences.
-use Rattle.std.proofs.Common.{◌≡◌, ℕ, ◌<◌, inl, inr, Bool, true, false, cond, Some, None, List, [], ◌∷◌, ◌++◌, refl, arith}
+use Rattle.std.proofs.Common.{◌≡◌, ℕ, inl, inr, Bool, true, false, cond, Some, None, List, [], ◌∷◌, ◌++◌, refl, arith}
 use Rattle.std.specs.Prelude.{nat_le}
 use Rattle.std.specs.Str.{bytes_eq}
 use Rattle.std.proofs.lemmas.Bool.Decides.{nat_tests}
@@ -13,8 +13,7 @@ use Rattle.lab_reports.specs.Phenomena.{finding_of}
 use Rattle.lab_reports.specs.declared.phenomenon.Phenomenon.{Phenomenon}
 use Rattle.lab_explain.specs.Lines.{lines, paragraph, cut, capped}
 use Rattle.lab_explain.specs.Explanation.{serial_sentences, findings_lines, verdict_lines, whole_text, one_text, explanation_of}
-use Rattle.lab_explain.specs.Findings.{alone_sentences, beside, by_walk, pointer, cut_walk, cut_beside, few_beside, finding_lines}
-use Rattle.lab_explain.specs.Phrases.{last_line}
+use Rattle.lab_explain.specs.Findings.{alone_sentences, beside, by_walk, pointer, cut_beside, few_beside, finding_lines}
 use Rattle.lab_explain.specs.Places.{places_lines}
 use Rattle.lab_explain.specs.PrintedParts.{IsCutWalk, IsCutFinding, IsBeside, IsPart, AreParts, IsPartAlone}
 use Rattle.lab_explain.specs.Told.{serial_walk, told_of, is_told}

@@ -1,5 +1,5 @@
 -- Where what is said of another cycle is cut, how to have it explained stands in the explanation.
-use Rattle.std.proofs.Common.{◌≡◌, ◌<◌, ℕ, Bool, true, false, cond, None, List, [], ◌∷◌, ◌++◌, ap, ◌∙◌, append_assoc, arith}
+use Rattle.std.proofs.Common.{◌≡◌, ◌<◌, ℕ, false, cond, None, List, [], ◌∷◌, ◌++◌, ap, ◌∙◌, append_assoc, arith}
 use Rattle.std.specs.Prelude.{nat_le}
 use Rattle.std.specs.Str.{bytes_eq}
 use Rattle.std.proofs.lemmas.Bool.Decides.{nat_tests}
@@ -18,7 +18,7 @@ use Rattle.lab_explain.specs.Names.{level_line}
 use Rattle.lab_explain.specs.Phrases.{last_line}
 use Rattle.lab_explain.specs.Places.{places_lines}
 use Rattle.lab_explain.specs.PrintedParts.{StandsIn, IsCutOther}
-use Rattle.lab_explain.specs.Told.{serial_walk, told_of, is_told}
+use Rattle.lab_explain.specs.Told.{serial_walk, told_of}
 
 -- each of seven parts stands among them
 module _ (s t f0 f1 f2 f3 f4 f5 f6 y z : List ℕ) where

@@ -2,7 +2,7 @@
 use Rattle.std.proofs.Common.{◌≡◌, ℕ, ◌+◌, ◌-◌, ◌<◌, ◌≤◌, ◌⊎◌, inl, inr, Bool, true, false, cond, Option, Some, None, List, [], ◌∷◌, ◌++◌, refl, sym, ap, ◌∙◌, arith, append_assoc, append-nil}
 use Rattle.std.specs.Prelude.{nat_le, is_none}
 use Rattle.std.proofs.lemmas.Bool.Decides.{nat_tests}
-use Rattle.lab_explain.specs.Lines.{lines, first_lines, left_out, joined, begun, placed, room_behind, standing, front, with_left_out, cut, capped}
+use Rattle.lab_explain.specs.Lines.{lines, first_lines, joined, begun, standing, front, with_left_out, cut, capped}
 use Rattle.lab_explain.specs.Cuts.{MayBegin, IsStanding, IsCutOff, IsCut}
 use Rattle.lab_explain.proofs.Capped.{lines_append}
 

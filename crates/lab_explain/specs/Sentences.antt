@@ -13,7 +13,7 @@ use Rattle.lab_picture.specs.declared.drawing.Arrow.{Arrow}
 use Rattle.lab_reports.specs.Phenomena.{finding_of}
 use Rattle.lab_reports.specs.declared.phenomenon.Phenomenon.{Phenomenon}
 use Rattle.lab_explain.specs.Explanation.{order_sentence}
-use Rattle.lab_explain.specs.Faults.{recorded_text, due_text, most_often, mistake}
+use Rattle.lab_explain.specs.Faults.{most_often, mistake}
 use Rattle.lab_explain.specs.Findings.{head_of, found_beside, said_alone}
 use Rattle.lab_explain.specs.Phrases.{no_order, unsound_text}
 use Rattle.lab_explain.specs.Steps.{edge_text}

@@ -1,5 +1,5 @@
 -- How many operations of a column are drawn at most, and how high a picture is.
-use Rattle.std.proofs.Common.{◌≡◌, ◌≤◌, ◌<◌, ℕ, ◌+◌, ◌*◌, ◌/◌, Bool, true, false, cond, nat_lt, Option, List, [], ◌∷◌, length, take, refl, subst, inl, inr, ltb-false, mul-le-mul, length-take, arith}
+use Rattle.std.proofs.Common.{◌≡◌, ◌≤◌, ℕ, ◌+◌, ◌*◌, ◌/◌, Bool, true, false, cond, nat_lt, Option, List, [], ◌∷◌, length, refl, subst, inl, inr, ltb-false, mul-le-mul, length-take, arith}
 use Rattle.std.specs.Prelude.{Contains, max, min}
 use Rattle.std.proofs.lemmas.List.Elements.{Contains-append_cases}
 use Rattle.lab_table.proofs.Members.{no_member, only_member, first_member, later_member}

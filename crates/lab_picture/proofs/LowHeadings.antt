@@ -3,7 +3,7 @@ use Rattle.std.proofs.Common.{◌≤◌, ℕ, ◌==◌, Bool, true, false, cond,
 use Rattle.lab_picture.specs.Heading.{title_bytes, line_bytes, far_lines, marked_lines, has_thin, head_y}
 use Rattle.lab_picture.specs.Keys.{has_key}
 use Rattle.lab_picture.specs.Sketch.{Sketch}
-use Rattle.lab_picture.specs.Text.{back, in_one, in_two, in_three, in_four}
+use Rattle.lab_picture.specs.Text.{back, in_one, in_two, in_four}
 use Rattle.lab_picture.specs.declared.drawing.Arrow.{Arrow}
 use Rattle.lab_picture.specs.declared.drawing.Spot.{Spot}
 use Rattle.lab_picture.specs.declared.keys.Key.TheVariants.{Solid, Dashed, Sees}
