@@ -3,8 +3,9 @@ pub mod Counts
 pub mod MemberKeys
 pub mod Members
 pub mod KeyParts
-pub mod PlainWrites
 pub mod JsonShapes
+pub mod FileKeys
+pub mod PlainWrites
 pub mod ItemsRead
 pub mod ListsRead
 pub mod EntriesRead
