@@ -1,7 +1,7 @@
 -- What a session gives, and what the rules answer to it.
 use Rattle.std.specs.Prelude.{MatchOption, Result, IfOk, Contains, is_some, true, false, ◌==◌}
 use Rattle.std.specs.declared.alloc.AllocError.{AllocError}
-use Rattle.lab_engine.proofs.Common.{Aborted, active, AlreadyBegun, Answers, ap, AreBlockers, arith, asked, Asks, Begun, Bool, Busy, Command, Commit, Committed, Conflict, conflict_fault, ConflictKind, Deadlock, DuplicateKey, EngineFault, fails, Gives, IfOk-weaker, in_view, inl, inr, IsCircle, IsEffect, IsEffectOn, IsFirstConflict, IsFree, IsLeastCircle, IsRefusalOn, IsResultOn, length, Level, List, Listed, listed, MayAsk, MayCommit, MayGive, None, NoTransaction, Option, Outcome, OutOfRange, Past, Read, ReadConflict, refl, Refused, Row, Rows, Run, seen, Some, Statement, subst, sym, Table, true≢false, Txn, Version, View, waiting, Waits, Write, WriteConflict, Writes, written, [], ℕ, ◌∙◌, ◌∷◌, ◌≡◌, ◌≢◌}
+use Rattle.lab_engine.proofs.Common.{active, Answers, ap, AreBlockers, arith, asked, Asks, Bool, Command, Commit, Conflict, conflict_fault, ConflictKind, Deadlock, DuplicateKey, EngineFault, fails, Gives, IfOk-weaker, in_view, inl, inr, IsCircle, IsEffect, IsEffectOn, IsFirstConflict, IsFree, IsLeastCircle, IsRefusalOn, IsResultOn, length, Level, List, Listed, listed, MayAsk, MayCommit, MayGive, None, Option, Outcome, OutOfRange, Past, Read, refl, Refused, Row, Rows, Run, seen, Some, Statement, subst, sym, Table, true≢false, Txn, Version, View, waiting, Waits, Write, Writes, written, [], ℕ, ◌∙◌, ◌∷◌, ◌≡◌, ◌≢◌}
 
 -- a command that runs no statement is given at rest
 at_rest : (past : Past) (session : ℕ) (command : Command) → asked command ≡ None → MayGive past session command → waiting past session ≡ None

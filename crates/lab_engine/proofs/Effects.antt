@@ -3,7 +3,7 @@ use Rattle.lab_engine.proofs.Common.{ap, AreMatching, below_all, both, change_is
 use Rattle.lab_history.proofs.FirstValues.{or_none}
 use Rattle.lab_table.specs.Statement as statement
 use Rattle.lab_table.specs.Statement.{matched, kind_inserted, kind_listed, kind_matched}
-use Rattle.lab_table.specs.declared.statement.StatementKind.TheVariants.{Select, Update, Insert, Delete}
+use Rattle.lab_table.specs.declared.statement.StatementKind.TheVariants.{Insert}
 
 -- before others a row is found with what is made of it
 pub find_made : {B : Type 0} (q row : Row) (rest : List (Row × B)) (o : Option B) → find row_cmp q (cons_option (with_row row o) rest) ≡ cond (row_eq q row) (option_or o (find row_cmp q rest)) (find row_cmp q rest)

@@ -1,5 +1,5 @@
 -- A session with an active transaction, in a situation.
-use Rattle.std.specs.Prelude.{◌≡◌, ◌↔◌, ℕ, Bool, true, false, Some, unwrap_or, length, IsTrue}
+use Rattle.std.specs.Prelude.{◌≡◌, ◌↔◌, ℕ, Some, unwrap_or, length, IsTrue}
 use Rattle.lab_table.specs.Row.{Row}
 use Rattle.lab_engine.specs.declared.event.Level.{Level}
 use Rattle.lab_engine.specs.declared.asker.Asker.{Asker}

@@ -1,7 +1,7 @@
 -- What a transaction sees, as a map of versions has it.
 use Rattle.std.specs.Prelude.{Option, Some, None}
 use Rattle.std.specs.FinMap.{FinMap}
-use Rattle.lab_table.specs.Row.{Row, row_cmp}
+use Rattle.lab_table.specs.Row.{row_cmp}
 use Rattle.lab_table.specs.Table.{State}
 pub use Rattle.lab_table.specs.Running.{comes_after}
 use Rattle.lab_history.specs.declared.operation.VersionName.TheVariants.{Initial}

@@ -1,6 +1,6 @@
 -- What is found among the statements of an active transaction says whether what it has read stands.
 use Rattle.std.proofs.Common.{◌≡◌, ◌≢◌, ℕ, refl, sym, ap, ◌∙◌, Bool, true, false, cond, ◌||◌, List, [], ◌∷◌, reverse, map, Option, Some, None, is_some}
-use Rattle.lab_engine.proofs.Common.{none_of, list_any, nat_lt, option_or, both_ways, get, Row, State, Statement, matches, may_match, no_match, Past, Txn, active, commits, has_read, chain_in, keeps_statements, IsAsker, IsBelow, true≢false}
+use Rattle.lab_engine.proofs.Common.{none_of, list_any, nat_lt, option_or, both_ways, get, Row, State, Statement, matches, may_match, no_match, Past, Txn, commits, has_read, chain_in, keeps_statements, IsAsker, IsBelow, true≢false}
 use Rattle.lab_engine.specs.declared.asker.Asker.{Asker}
 use Rattle.lab_engine.specs.declared.event.Level.{Level}
 use Rattle.lab_engine.specs.declared.row_state.Installed.{Installed}

@@ -1,4 +1,4 @@
-use Rattle.lab_engine.proofs.Common.{ap, arith, cond, installs, keeps_commits, kept_rows, length, length-append, length-map, List, option_map, refl, Row, [], ℕ, ◌++◌, ◌+◌, ◌∙◌}
+use Rattle.lab_engine.proofs.Common.{ap, arith, cond, installs, keeps_commits, kept_rows, length, length-append, length-map, List, option_map, refl, Row, [], ℕ, ◌++◌, ◌∙◌}
 use Rattle.lab_engine.proofs.Describing.{goes_on, some_made}
 use Rattle.lab_engine.proofs.EventBounds.{begun_at_most}
 use Rattle.lab_engine.proofs.KeptCommits.{commits_go_on, count_after, one_commit}
