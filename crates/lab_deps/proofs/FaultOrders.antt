@@ -183,7 +183,7 @@ module _ (h : History) where
       let a = op_told kind n k row in
       let b = op_told same m j other in
       let w = one_place n k row m j other (op_committed h kind n k row stands) (op_committed h same m j other also)
-          (λ c. not_before (placed _ _ (n, k, row) (m, j, other) a.1 b.1 c)) (λ c. not_after (placed _ _ (m, j, other) (n, k, row) b.1 a.1 c)) in
+      (λ c. not_before (placed _ _ (n, k, row) (m, j, other) a.1 b.1 c)) (λ c. not_after (placed _ _ (m, j, other) (n, k, row) b.1 a.1 c)) in
       let is : kind ≡ same = sym (op_kind_again kind) ∙ ap op_kind_at (sym a.0 ∙ kinds ∙ b.0) ∙ op_kind_again same in
       ap (λ x. op_fault x n k row) is ∙ ap (λ x. op_fault same x k row) w.0 ∙ ap (λ x. op_fault same m x row) w.1 ∙ ap (op_fault same m j) w.2
   one_made (parts.Row kind row) (parts.Row same other) kinds stands also not_before not_after =

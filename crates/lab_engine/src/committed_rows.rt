@@ -16,10 +16,7 @@ pub struct CommittedRows {
 }
 
 /// Makes room for a commit of each session's transaction, if `keeps`. NoMemory where an allocation was refused.
-pub(crate) fn reserve_commits(
-    commits: &mut Vec<CommittedRows>,
-    keeps: bool,
-) -> Result<(), NoMemory>
+pub(crate) fn reserve_commits(commits: &mut Vec<CommittedRows>, keeps: bool) -> Result<(), NoMemory>
     ensures items { commits.new.items ≡ commits.old.items }
     ensures more { vec_capacity commits.old ≤ vec_capacity commits.new }
     ensures room { OnOk result (keeps ≡ true → length commits.new.items + 9 ≤ vec_capacity commits.new) }

@@ -48,9 +48,12 @@ invariant_of-self-in_err-kept g c =
 pub take_in-requires-clause-few : goal.take_in-requires-clause-few
 take_in-requires-clause-few g c =
     let few : length c.self.inside.log.items < 100000 = subst (λ (k : EngineRun). length k.log < 100000) (sym c.self.view_is) c.requires.few in
-    let is = c.self.invariant.situation in
-    (_, _, c.reserve.ensures.same _ _ (same_log (past_of c.self.inside.log.items) c.self.inside.situation _ is is.sessions is.states is.rows c.reserve_place.ensures.items refl refl),
-    omega (arith, length-reverse c.self.inside.log.items, few))
+    let is = c.self.invariant.situation in (
+      _,
+      _,
+      c.reserve.ensures.same _ _ (same_log (past_of c.self.inside.log.items) c.self.inside.situation _ is is.sessions is.states is.rows c.reserve_place.ensures.items refl refl),
+      omega (arith, length-reverse c.self.inside.log.items, few),
+    )
 
 pub take_in-requires-clause-commits : goal.take_in-requires-clause-commits
 take_in-requires-clause-commits g c keeps =
