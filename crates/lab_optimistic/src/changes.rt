@@ -18,12 +18,7 @@ fn last_state(asker: &Asker, row: RowName, installed: &[Installed]) -> Option<Va
 }
 
 /// Whether one of some statements matches a row in one of two states.
-fn any_reads(
-    statements: &[Statement],
-    row: RowName,
-    old: Option<Value>,
-    new: Option<Value>,
-) -> bool
+fn any_reads(statements: &[Statement], row: RowName, old: Option<Value>, new: Option<Value>) -> bool
     ensures { result ≡ spec.any_reads statements.now row old new }
 {
     statements.iter().any(|statement| statement.matches(row, old) || statement.matches(row, new))

@@ -96,12 +96,7 @@ fn last_read(asker: &Asker, statement: &Statement, place: usize, row: RowName) -
 
 /// The least of these rows that a commit with so many events before it was the last to install and of which the asker's
 /// statement reads a change.
-fn read_of(
-    asker: &Asker,
-    statement: &Statement,
-    place: usize,
-    rows: &[RowName],
-) -> Option<RowName>
+fn read_of(asker: &Asker, statement: &Statement, place: usize, rows: &[RowName]) -> Option<RowName>
     ensures { IsLeast (λ row. list_any (λ r. spec.is_last_read asker.now statement.now place r row) rows.now) result }
 {
     let mut least = None;
@@ -122,10 +117,7 @@ fn any_read(asker: &Asker, statement: &Statement) -> Option<RowName>
         if commit.place < asker.running.before {
             return least;
         }
-        least = lesser(
-            least,
-            read_of(asker, statement, commit.place, &commit.rows),
-        );
+        least = lesser(least, read_of(asker, statement, commit.place, &commit.rows));
         left = older;
     }
     least
