@@ -166,13 +166,13 @@ an interleaving that shows one anomaly, where an engine lets it happen.
 
 pub const NAME: &str = "The name of the case";
 
-pub const MATRIX: &str = "Plays and judges each case on each engine";
+pub const MATRIX: &str = "Plays and judges each case on several engines";
 
 pub const MATRIX_WHOLE: &str = "\
-Plays each of the ten cases on each engine, judges the recordings, and writes a line for each case: the
-level that its history meets on the engine, and `SI` where it is a snapshot run. The last line,
-`promised  PL-3  PL-2  SI`, is what each engine promises of every run. Its columns are `locking`,
-`committed` and `snapshot`; with `--engine` they are the engines that are named, each once.
+Plays each of the ten cases on `locking`, `committed` and `snapshot`, or with `--engine` on the engines
+that are named, each once. It judges the recordings, and writes a line for each case with a column for
+each of these engines: the level that the case's history meets there, and `SI` where it is a snapshot
+run. The last line, as `promised  PL-3  PL-2  SI`, is what each of them promises of every run.
 
     hermitage_lab matrix
     hermitage_lab matrix --engine snapshot --engine optimistic";
