@@ -28,6 +28,7 @@ pub mod Lifted
 pub mod ListedPlaces
 pub mod WrittenLists
 pub mod WrittenMembers
+pub mod WrittenOperations
 pub mod CodeBytes
 pub mod WritableTree
 pub mod Keys
