@@ -1,11 +1,11 @@
 -- The keys of the format are those that are read, and so are the states.
-use Rattle.std.proofs.Common.{◌≡◌, Bool, true, List, [], ◌∷◌, ◌++◌, Option, Some, None, option_and_then, option_map, if◌then◌else◌, refl, sym, ap, subst, ◌∙◌}
+use Rattle.std.proofs.Common.{◌≡◌, Bool, true, List, [], ◌∷◌, ◌++◌, Option, Some, None, option_map, if◌then◌else◌, refl, sym, ap, subst, ◌∙◌}
 use Rattle.std.specs.Prelude.{ℕ, ℤ}
 use Rattle.serde_json.specs.Data.{Data, null, boolean, number, string, array, object, Items}
 use Rattle.serde_json.specs.Find.{as_str}
 use Rattle.serde_json.specs.View.{items_of}
 use Rattle.lab_table.specs.Row.{Row, in_test, numbered}
-use Rattle.lab_table.specs.TableName.{is_table_name, test_name}
+use Rattle.lab_table.specs.TableName.{is_table_name}
 use Rattle.lab_table.proofs.Tests.{mapped_some}
 use Rattle.lab_history.proofs.Steps.{both_some, when_found}
 use Rattle.lab_history.specs.VersionName.{state_value}

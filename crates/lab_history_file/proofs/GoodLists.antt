@@ -1,5 +1,5 @@
 -- The lists of a file are right: each member has its parts, and the rows rise.
-use Rattle.std.proofs.Common.{◌≡◌, ℕ, zero, suc, ◌+◌, true, T, List, [], ◌∷◌, Option, Some, is_some, slice_get, is_lt, refl, sym, ap, subst, ◌∙◌, arith, eq-eqb}
+use Rattle.std.proofs.Common.{◌≡◌, ℕ, zero, suc, ◌+◌, true, T, List, [], ◌∷◌, Some, is_some, slice_get, is_lt, refl, sym, ap, subst, ◌∙◌, arith, eq-eqb}
 use Rattle.std.specs.FinMap as finite
 use Rattle.std.specs.FinMap.{FinMap}
 use Rattle.serde_json.specs.Data.{Data, array, Items, no_items, item}
