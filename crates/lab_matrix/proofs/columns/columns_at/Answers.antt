@@ -9,11 +9,9 @@ loop-level-init c = subst (SoFar c.args.levels.now c.args.levels.now) (sym c.in_
 
 pub loop-level-preserved : goal.loop-level-preserved
 loop-level-preserved c =
-    let level = c.level-item.result in
     let rest = drop (c.loop-level.level-index + 1) c.args.levels.now in
-    let first : drop c.loop-level.level-index c.args.levels.now ≡ level ∷ rest =
-    drop_more c.args.levels.now c.loop-level.level-index level c.loop-level-test.true ∙ ap (λ e. e ∷ rest) (sym c.level-item.is) in
-    next_so_far c.args.levels.now _ rest level _ _ _ first c.in_ok-add.ensures c.in_ok-reports.ensures.reports c.loop-level.invariant
+    next_so_far c.args.levels.now _ rest _ _ _ _ (drop_more c.args.levels.now c.loop-level.level-index _ c.loop-level-test.true ∙ ap (λ e. e ∷ rest) (sym c.reports_at-arg-1.given))
+    c.in_ok-add.ensures c.in_ok-reports.ensures.reports c.loop-level.invariant
 
 pub returns-clause-columns : goal.returns-clause-columns
 returns-clause-columns c = all_so_far c.args.levels.now _ _ (drop_all c.loop-level.level-index c.args.levels.now (omega (arith, c.loop-level-test.false))) c.loop-level.invariant
@@ -24,8 +22,8 @@ returns-clause-promised c = promises_kept_at c.args.levels.now _ (returns-clause
 pub returns-in_err-reports-clause-fault : goal.returns-in_err-reports-clause-fault
 returns-in_err-reports-clause-fault c =
     let p = err_from_is_err_and c.from_residual-in_err-reports.result c.from_residual-in_err-reports.ensures.1 in
-    let level = c.level-item.result in
     let rest = drop (c.loop-level.level-index + 1) c.args.levels.now in
-    let first : drop c.loop-level.level-index c.args.levels.now ≡ level ∷ rest =
-    drop_more c.args.levels.now c.loop-level.level-index level c.loop-level-test.true ∙ ap (λ e. e ∷ rest) (sym c.level-item.is) in
-    rw (p.1, p.2) (refusal_at c.args.levels.now _ (refused_next c.args.levels.now _ rest level _ _ first c.loop-level.invariant c.in_err-reports.ensures.fault))
+    rw (p.1, p.2)
+    (refusal_at c.args.levels.now _
+    (refused_next c.args.levels.now _ rest _ _ _ (drop_more c.args.levels.now c.loop-level.level-index _ c.loop-level-test.true ∙ ap (λ e. e ∷ rest) (sym c.reports_at-arg-1.given))
+    c.loop-level.invariant c.in_err-reports.ensures.fault))
