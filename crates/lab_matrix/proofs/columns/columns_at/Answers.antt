@@ -1,4 +1,4 @@
-use Rattle.std.proofs.Common.{◌≡◌, ◌+◌, ◌∷◌, drop, sym, ap, ◌∙◌, subst, arith}
+use Rattle.std.proofs.Common.{◌+◌, drop, sym, subst, arith}
 use Rattle.std.proofs.lemmas.List.{drop_more, drop_all}
 use Rattle.std.proofs.lemmas.Result.{err_from_is_err_and}
 use Rattle.lab_matrix.proofs.AtLevels.{SoFar, none_so_far, next_so_far, all_so_far, refused_next, refusal_at, promises_kept_at}
@@ -10,7 +10,7 @@ loop-level-init c = subst (SoFar c.args.levels.now c.args.levels.now) (sym c.in_
 pub loop-level-preserved : goal.loop-level-preserved
 loop-level-preserved c =
     let rest = drop (c.loop-level.level-index + 1) c.args.levels.now in
-    next_so_far c.args.levels.now _ rest _ _ _ _ (drop_more c.args.levels.now c.loop-level.level-index _ c.loop-level-test.true ∙ ap (λ e. e ∷ rest) (sym c.reports_at-arg-1.given))
+    next_so_far c.args.levels.now _ rest _ _ _ _ (drop_more c.args.levels.now c.loop-level.level-index _ c.loop-level-test.true)
     c.in_ok-add.ensures c.in_ok-reports.ensures.reports c.loop-level.invariant
 
 pub returns-clause-columns : goal.returns-clause-columns
@@ -25,5 +25,5 @@ returns-in_err-reports-clause-fault c =
     let rest = drop (c.loop-level.level-index + 1) c.args.levels.now in
     rw (p.1, p.2)
     (refusal_at c.args.levels.now _
-    (refused_next c.args.levels.now _ rest _ _ _ (drop_more c.args.levels.now c.loop-level.level-index _ c.loop-level-test.true ∙ ap (λ e. e ∷ rest) (sym c.reports_at-arg-1.given))
+    (refused_next c.args.levels.now _ rest _ _ _ (drop_more c.args.levels.now c.loop-level.level-index _ c.loop-level-test.true)
     c.loop-level.invariant c.in_err-reports.ensures.fault))
