@@ -70,7 +70,7 @@ pub fn run_play<T: Threads + Wait + Sync, R: Read, W: Write, N: Write>(
     streams: Streams<'_, R, W, N>,
     matches: &ArgMatches<'_>,
 ) -> Result<u8, RunFault> {
-    let Some(level) = matches.get_str("engine").and_then(level_named) else {
+    let Some(level) = matches.get_str("engine").and_then(|name| level_named(name)) else {
         return Ok(ARGUMENTS_REFUSED);
     };
     let asked = Asked {
