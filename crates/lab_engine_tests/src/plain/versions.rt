@@ -60,9 +60,12 @@ pub fn committed(setup: &Table, log: &[LogEvent], row: RowName) -> Version {
 
 /// The transaction that an event after these commits, if it commits one that wrote a row, with the row's state then.
 fn installed_by(past: &[LogEvent], event: &LogEvent, row: RowName) -> Option<(TxnNo, State)> {
-    let other = committed_by(past, event)?;
-    let version = last_written(&other, row)?;
-    Some((other.number, version.state))
+    if let Some(other) = committed_by(past, event) {
+        if let Some(version) = last_written(&other, row) {
+            return Some((other.number, version.state));
+        }
+    }
+    None
 }
 
 impl PlainEngine {
