@@ -11,7 +11,6 @@ from sources import code_of
 MEANINGS = f"{TOP}/tests/theorem.tsv"
 JUDGING = "crates/lab_judge/src/judging.rt"
 READING = "crates/lab_history_file/src/reading.rt"
-FILE_LAWS = "crates/lab_history_file/src/laws.rt"
 STATEMENT_LAWS = "crates/lab_statement/src/laws.rt"
 
 
@@ -38,7 +37,7 @@ def judged(clause, case=None):
     return Promise(JUDGING, "judge", clause, case)
 
 
-HELD = [Promise(READING, "read_history", "held"), Promise(FILE_LAWS, "history_is_read_from_its_file", "ensures")]
+HELD = [Promise(READING, "read_history", "held")]
 # What a file keeps besides: limits, and that no transaction has the number of another.
 RULES = {"HoldsHistory": {"short"}, "IsFileIn": {"keeps"}, "SpellsStatement": {"bytes", "printed"}}
 REFUSED = [
@@ -52,8 +51,8 @@ CLAIMS = {
     "fault": Claim([judged("serial", "NoFault"), judged("snapshot", "NoFault"), judged("fault")]),
     "cycle": Claim([judged("serial", "NoCycle"), judged("snapshot", "NoCycle")]),
     "phenomena": Claim([judged("found")]),
-    "file": Claim(HELD, frozenset({"history_in"}), RULES),
-    "rules": Claim(HELD, frozenset({"history_in"})),
+    "file": Claim(HELD, aside=RULES),
+    "rules": Claim(HELD),
     "refusal": Claim(REFUSED, frozenset({"statement_in"})),
 }
 # What the counts are of: a title, and the parts that it is made of.

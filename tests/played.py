@@ -7,7 +7,8 @@ import json
 import random
 from dataclasses import dataclass, field, replace
 
-ENGINES = "locking", "committed", "snapshot"
+ENGINES = "locking", "committed", "snapshot", "optimistic"
+SNAPSHOTS = "snapshot", "optimistic"
 SESSIONS = range(1, 10)
 LIMIT = 1_000_000_000
 TEST = "test"
@@ -165,6 +166,16 @@ class Txn:
     own: dict = field(default_factory=dict)  # its last versions
 
 
+@dataclass(frozen=True)
+class Install:
+    """A version that a commit installed: of which row, by which transaction, and the row's state before and then."""
+
+    row: tuple
+    by: int
+    before: object
+    after: object
+
+
 @dataclass
 class Found:
     """What a log tells. A version is a name and a state: None for an absent row; the name of an initial one is None."""
@@ -195,8 +206,10 @@ def look(setup, log):
             txn.own.update({row: (name, state) for row, state in parts[2].items()})
         elif kind == "committed":
             txn = found.active.pop(session)
+            for row, (_, after) in sorted(txn.own.items()):
+                before = found.committed.get(row, (None, None))[1]
+                found.installed.append(Install(row, txn.number, before, after))
             found.committed.update(txn.own)
-            found.installed += [(row, txn.number) for row in sorted(txn.own)]
         elif kind == "aborted" or parts[0] not in ("NoTransaction", "AlreadyBegun"):
             found.active.pop(session, None)
     return found
@@ -230,23 +243,29 @@ class Engine:
         return self.commit(found, txn) if command == "commit" else self.run(found, txn, command)
 
     def commit(self, found, txn):
-        """At snapshot a commit is refused at the least row that another transaction installed since the begin."""
-        if self.level == "snapshot":
-            for row in sorted(txn.own):
-                for other, by in found.installed[txn.installed :]:
-                    if other == row:
-                        return ("refused", "WriteConflict", f"row {named(row)} by {by}")
+        """At snapshot and optimistic a commit is refused at the least row that another transaction installed since the
+        begin and that this one wrote; at optimistic also where one of its statements matches the row as it was before
+        that, or as it was then. The first who did so is named."""
+        since = found.installed[txn.installed :] if self.level in SNAPSHOTS else []
+        for row in sorted({it.row for it in since}):
+            installs = [it for it in since if it.row == row]
+            if row in txn.own:
+                return ("refused", "WriteConflict", f"row {named(row)} by {installs[0].by}")
+            for it in installs:
+                read = any(ran.matches(row, it.before) or ran.matches(row, it.after) for ran in txn.ran)
+                if read and self.level == "optimistic":
+                    return ("refused", "ReadConflict", f"row {named(row)} by {it.by}")
         return ("committed",)
 
     def seen(self, found, txn):
         """The versions that a transaction sees."""
-        return {**(txn.begun_on if self.level == "snapshot" else found.committed), **txn.own}
+        return {**(txn.begun_on if self.level in SNAPSHOTS else found.committed), **txn.own}
 
     def blocks(self, found, other, statement, row, state):
         """Whether another transaction is in the way of a statement at a row, which it sees in this state."""
         pending = other.own.get(row)
         writes = statement.would_write(row, state)
-        if self.level == "snapshot":
+        if self.level in SNAPSHOTS:
             return False
         if writes and pending:
             return True
@@ -368,8 +387,8 @@ def history_text(setup, log):
             txns.append({"no": len(txns) + 1, "ops": ops, "outcome": outcome})
     found = look(setup, log)
     installed = {}
-    for row, number in found.installed:
-        installed.setdefault(row, []).append(number)
+    for it in found.installed:
+        installed.setdefault(it.row, []).append(it.by)
     file = {
         "end": [[*row, state] for row, (_, state) in sorted(found.committed.items()) if state is not None],
         "format": "hermitage-history",

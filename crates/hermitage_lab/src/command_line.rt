@@ -2,7 +2,7 @@
 
 use crate::help;
 use clap::{Arg, ArgAction, Command};
-use lab_compare::ENGINES;
+use lab_levels::{LEVELS, level_name};
 use lab_matrix::CaseName;
 use lab_reports::{Phenomenon, Requirement};
 use std::alloc::{AllocError, Global};
@@ -17,7 +17,7 @@ pub static TELLINGS: [&str; 4] = ["explain", "picture", "page", "history"];
 #[derive(Drop)]
 pub struct Names {
     pub cases: [&'static str; 10],
-    pub engines: [&'static str; 3],
+    pub engines: [&'static str; 4],
     pub tellings: [&'static str; 4],
     pub phenomena: [&'static str; 7],
     pub requirements: [&'static str; 5],
@@ -28,7 +28,7 @@ impl Names {
     pub fn all() -> Names {
         Names {
             cases: CaseName::ALL.map(|case| case.name()),
-            engines: ENGINES,
+            engines: LEVELS.map(|level| level_name(level)),
             tellings: TELLINGS,
             phenomena: Phenomenon::ALL.map(|phenomenon| phenomenon.name()),
             requirements: Requirement::ALL.map(|requirement| requirement.name()),
@@ -91,14 +91,22 @@ fn run_command<'a>(alloc: Global, names: &'a Names) -> Result<Command<'a>, Alloc
         )
 }
 
+/// The option that names an engine, any number of times.
+fn engines<'a>(alloc: Global, help: &'a str, names: &'a Names) -> Arg<'a> {
+    Arg::new(alloc, "engine")
+        .long("engine")
+        .help(help)
+        .action(ArgAction::Append)
+        .value_parser(names.engines.as_slice())
+}
+
 /// The subcommand `compare`. NoMemory where an allocation was refused.
 fn compare_command<'a>(alloc: Global, names: &'a Names) -> Result<Command<'a>, AllocError> {
-    let engines = Arg::new(alloc, "engine")
-        .long("engine")
-        .help(help::COMPARED)
-        .action(ArgAction::Append)
-        .value_parser(names.engines.as_slice());
-    plain_command(alloc, "compare", help::COMPARE, help::COMPARE_WHOLE).arg(engines)
+    plain_command(alloc, "compare", help::COMPARE, help::COMPARE_WHOLE).arg(engines(
+        alloc,
+        help::COMPARED,
+        names,
+    ))
 }
 
 /// The subcommand `judge`. NoMemory where an allocation was refused.
@@ -161,6 +169,15 @@ fn case_command<'a>(alloc: Global, names: &'a Names) -> Result<Command<'a>, Allo
         .action(ArgAction::Set)
         .value_parser(names.cases.as_slice());
     plain_command(alloc, "case", help::CASE, help::CASE_WHOLE).arg(name)
+}
+
+/// The subcommand `matrix`. NoMemory where an allocation was refused.
+fn matrix_command<'a>(alloc: Global, names: &'a Names) -> Result<Command<'a>, AllocError> {
+    plain_command(alloc, "matrix", help::MATRIX, help::MATRIX_WHOLE).arg(engines(
+        alloc,
+        help::TRIED,
+        names,
+    ))
 }
 
 /// The subcommand `picture`. NoMemory where an allocation was refused.
@@ -233,8 +250,7 @@ pub fn command<'a>(alloc: Global, names: &'a Names) -> Result<Command<'a>, Alloc
     let command = with(command, batch_command(alloc, names))?;
     let command = with(command, chain_command(alloc, names))?;
     let command = with(command, case_command(alloc, names))?;
-    let matrix = plain_command(alloc, "matrix", help::MATRIX, help::MATRIX_WHOLE);
-    let command = command.subcommand(matrix)?;
+    let command = with(command, matrix_command(alloc, names))?;
     let command = with(command, picture_command(alloc, names))?;
     let command = with(command, explain_command(alloc, names))?;
     let command = with(command, page_command(alloc, names))?;

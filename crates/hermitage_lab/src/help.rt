@@ -36,7 +36,7 @@ first fault, as `line 3: NoSession`.";
 pub const RUN: &str = "Plays a script on an engine, and judges what its recording shows";
 
 pub const RUN_WHOLE: &str = "\
-Plays a script's sessions on one of three engines, and judges what its recording shows.
+Plays a script's sessions on one of four engines, and judges what its recording shows.
 
 Reads a script of up to four tables from standard input, as `serial` does. Writes the log to standard
 output, a line for each event, as `T1 begin: begun 1` or `T2 commit: refused WriteConflict row 1 by 1`;
@@ -51,8 +51,9 @@ with `--json` it writes the report alone, as one line of JSON.
     hermitage_lab run --engine snapshot --as picture < examples/both_doctors_leave.txt > skew.svg
 
 The engines are `locking` (strict locks of rows and predicates), `committed` (each statement sees what
-has committed) and `snapshot` (each transaction sees what had committed at its begin; the first committer
-wins).";
+has committed), `snapshot` (each transaction sees what had committed at its begin; the first committer
+wins) and `optimistic` (as at `snapshot`, and a commit is refused where what its transaction has read was
+changed since its begin, as `T2 commit: refused ReadConflict row 1 by 1`).";
 
 pub const ENGINE: &str = "The engine that plays the script";
 
@@ -165,12 +166,18 @@ an interleaving that shows one anomaly, where an engine lets it happen.
 
 pub const NAME: &str = "The name of the case";
 
-pub const MATRIX: &str = "Plays and judges each case on each engine";
+pub const MATRIX: &str = "Plays and judges each case on several engines";
 
 pub const MATRIX_WHOLE: &str = "\
-Plays each of the ten cases on each engine, judges the recordings, and writes a line for each case: the
-level that its history meets on the engine, and `SI` where it is a snapshot run. The last line,
-`promised  PL-3  PL-2  SI`, is what each engine promises of every run.";
+Plays each of the ten cases on `locking`, `committed` and `snapshot`, or with `--engine` on the engines
+that are named, each once. It judges the recordings, and writes a line for each case with a column for
+each of these engines: the level that the case's history meets there, and `SI` where it is a snapshot
+run. The last line, as `promised  PL-3  PL-2  SI`, is what each of them promises of every run.
+
+    hermitage_lab matrix
+    hermitage_lab matrix --engine snapshot --engine optimistic";
+
+pub const TRIED: &str = "An engine that the cases are played on, any number of times";
 
 pub const PICTURE: &str = "Draws a judgement of a history file";
 

@@ -2,6 +2,7 @@
 #![tactic(auto)]
 
 mod command_line;
+mod engines;
 mod files;
 mod help;
 mod playing;
@@ -15,13 +16,14 @@ ghost use Rattle.clap.specs.Values.{kind_of};
 ghost use Rattle.clap.specs.declared.error.kind.ErrorKind.TheVariants.{DisplayHelp, DisplayVersion, OutOfMemory};
 
 use crate::command_line::Names;
+use crate::engines::levels_of;
 use crate::files::{Task, run_files};
 use crate::playing::{run_compare, run_play};
 use crate::streams::Streams;
 use crate::told::told;
 use crate::wanting::wanted;
 use clap::ArgMatches;
-use lab_case_commands::{case, matrix};
+use lab_case_commands::{case, matrix, matrix_at};
 use lab_commands::{judge, serial};
 use lab_explain::explain;
 use lab_hints::{Choices, note_words};
@@ -95,6 +97,19 @@ fn run_case<W: Write>(
         return Ok(ARGUMENTS_REFUSED);
     };
     ended(case(alloc, name, writer))
+}
+
+/// Runs `matrix`, on the engines that the arguments name where they name some, and answers the exit status.
+fn run_matrix<W: Write>(
+    alloc: Global,
+    writer: &mut W,
+    matches: &ArgMatches<'_>,
+) -> Result<u8, RunFault> {
+    if matches.get_strs("engine").is_none() {
+        return ended(matrix(alloc, writer));
+    }
+    let levels = levels_of(alloc, matches)?;
+    ended(matrix_at(alloc, writer, &levels))
 }
 
 /// Runs `page`, and answers the exit status.
@@ -175,7 +190,7 @@ fn run_subcommand<T: Files + Threads + Wait + Sync, R: Read, W: Write, N: Write>
         "serial" => ended(serial(alloc, reader, writer, notes)),
         "judge" => ended(judge(alloc, reader, writer, notes, wanted(more))),
         "case" => run_case(alloc, writer, more),
-        "matrix" => ended(matrix(alloc, writer)),
+        "matrix" => run_matrix(alloc, writer, more),
         "picture" => ended(picture(alloc, reader, writer, notes, asked(more))),
         "explain" => ended(explain(alloc, reader, writer, notes, asked(more))),
         "page" => run_page(alloc, reader, writer, notes, more),

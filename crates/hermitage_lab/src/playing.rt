@@ -1,13 +1,15 @@
 //! The subcommands that play a script: `run` and `compare`.
 
+use crate::engines::levels_of;
 use crate::streams::Streams;
 use crate::told_as::{Kept, Telling, tell};
 use crate::wanting::wanted;
 use crate::{ARGUMENTS_REFUSED, ended};
 use clap::ArgMatches;
 use lab_commands::{Shown, run, run_free};
-use lab_compare::{Engines, compare, level_of};
+use lab_compare::compare;
 use lab_engine::Level;
+use lab_levels::level_named;
 use lab_streams::{Ending, RunFault};
 use std::alloc::Global;
 use std::io::{Read, Write};
@@ -68,7 +70,7 @@ pub fn run_play<T: Threads + Wait + Sync, R: Read, W: Write, N: Write>(
     streams: Streams<'_, R, W, N>,
     matches: &ArgMatches<'_>,
 ) -> Result<u8, RunFault> {
-    let Some(level) = matches.get_str("engine").and_then(|name| level_of(name)) else {
+    let Some(level) = matches.get_str("engine").and_then(|name| level_named(name)) else {
         return Ok(ARGUMENTS_REFUSED);
     };
     let asked = Asked {
@@ -95,31 +97,6 @@ pub fn run_play<T: Threads + Wait + Sync, R: Read, W: Write, N: Write>(
     ended(tell(alloc, kept, telling, writer, notes))
 }
 
-/// The engines that the arguments name; all where they name none.
-fn engines_of(matches: &ArgMatches<'_>) -> Engines {
-    let Some(names) = matches.get_strs("engine") else {
-        return Engines {
-            locking: true,
-            committed: true,
-            snapshot: true,
-        };
-    };
-    let mut engines = Engines {
-        locking: false,
-        committed: false,
-        snapshot: false,
-    };
-    for name in names {
-        match level_of(name) {
-            Some(Level::Locking) => engines.locking = true,
-            Some(Level::Committed) => engines.committed = true,
-            Some(Level::Snapshot) => engines.snapshot = true,
-            None => {}
-        }
-    }
-    engines
-}
-
 /// Runs `compare`, and answers the exit status.
 pub fn run_compare<R: Read, W: Write, N: Write>(
     alloc: Global,
@@ -132,5 +109,6 @@ pub fn run_compare<R: Read, W: Write, N: Write>(
         notes,
         ..
     } = streams;
-    ended(compare(alloc, reader, writer, notes, engines_of(matches)))
+    let levels = levels_of(alloc, matches)?;
+    ended(compare(alloc, reader, writer, notes, &levels))
 }

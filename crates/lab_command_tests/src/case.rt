@@ -1,10 +1,10 @@
 //! A subcommand with its input, and what is due.
 
 use crate::streams::{Sink, Source};
-use lab_case_commands::{case as case_script, matrix};
+use lab_case_commands::{case as case_script, matrix, matrix_at};
 use lab_chain_commands::{Asked, chain, join};
 use lab_commands::{Progress, Shown, batch, judge, run, run_free, serial};
-use lab_compare::{Engines, compare};
+use lab_compare::compare;
 use lab_engine::Level;
 use lab_explain::explain;
 use lab_matrix::CaseName;
@@ -33,7 +33,7 @@ pub enum Subcommand {
         shown: Shown,
     },
     Compare {
-        engines: Engines,
+        levels: &'static [Level],
     },
     Judge,
     /// `judge` with its options.
@@ -53,6 +53,10 @@ pub enum Subcommand {
         name: CaseName,
     },
     Matrix,
+    /// `matrix` with engines.
+    MatrixAt {
+        levels: &'static [Level],
+    },
     /// Of files, which `Files` opens; it has no reader.
     OfFiles {
         task: Task,
@@ -135,7 +139,7 @@ pub fn given<T: Files + Threads + Wait + Sync, R: Read, W: Write, N: Write>(
         Subcommand::RunFree { level, shown } => {
             run_free(rt, alloc, reader, writer, notes, level, shown, PLAIN)
         }
-        Subcommand::Compare { engines } => compare(alloc, reader, writer, notes, engines),
+        Subcommand::Compare { levels } => compare(alloc, reader, writer, notes, levels),
         Subcommand::Judge => judge(alloc, reader, writer, notes, PLAIN),
         Subcommand::JudgeFor { wanted } => judge(alloc, reader, writer, notes, wanted),
         Subcommand::Picture { asked } => picture(alloc, reader, writer, notes, asked),
@@ -150,6 +154,7 @@ pub fn given<T: Files + Threads + Wait + Sync, R: Read, W: Write, N: Write>(
         }
         Subcommand::Case { name } => case_script(alloc, name, writer),
         Subcommand::Matrix => matrix(alloc, writer),
+        Subcommand::MatrixAt { levels } => matrix_at(alloc, writer, levels),
         Subcommand::OfFiles { task, names } => {
             let mut shown = Sink::new(alloc, 9_000, 0);
             return with_files(rt, alloc, task, names, writer, notes, &mut shown);

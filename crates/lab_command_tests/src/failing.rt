@@ -9,7 +9,7 @@ use crate::run::{FREE_HISTORY, FREE_LEFT_OPEN, FREE_NO_SESSION, HISTORY, LEFT_OP
 use crate::serial::{NO_SESSION, TWO_SESSIONS};
 use crate::streams::{FAULTS, Sink, Source};
 use crate::words::{
-    COMPARISON, EXPLANATION, LISTING, MATRIX, NO_COMPARISON, NO_EXPLANATION, NO_PICTURE,
+    COMPARISON, EXPLANATION, LISTING, MATRIX, MATRIX_AT, NO_COMPARISON, NO_EXPLANATION, NO_PICTURE,
     NO_SMALLER, PICTURE, SMALLER,
 };
 use lab_refusal_tests::{refuse, was_refused};
@@ -127,8 +127,8 @@ const NO_JOIN: Case = Case {
     status: 3,
 };
 
-/// Cases that write: all.
-const WRITING: [Case; 24] = [
+/// Cases that write, but for those of files.
+const WRITING: [Case; 21] = [
     TWO_SESSIONS,
     NO_SESSION,
     LEFT_OPEN,
@@ -149,11 +149,11 @@ const WRITING: [Case; 24] = [
     NO_COMPARISON,
     LISTING,
     MATRIX,
-    BATCH,
-    CHAIN,
-    JOIN,
-    NO_JOIN,
+    MATRIX_AT,
 ];
+
+/// Cases of files.
+const OF_FILES: [Case; 4] = [BATCH, CHAIN, JOIN, NO_JOIN];
 
 /// Runs a case whose writes are cut to ten bytes, one of which fails, or each flush alone. There is no hint then.
 fn cut<T: Threads + Wait + Sync + Abort>(
@@ -197,31 +197,39 @@ fn is_chain(case: &Case) -> bool {
     )
 }
 
+/// Fails where a case doesn't tell each write that fails, and a flush.
+fn try_failed_writes<T: Threads + Wait + Sync + Abort>(rt: &T, alloc: Global, case: &Case) {
+    let mut whole = Sink::new(alloc, 10, 0);
+    let run = cut(rt, alloc, case, &mut whole);
+    assert_eq!(rt; status_of(run), case.status);
+    assert!(rt; 1 < whole.calls && whole.calls < 1_000);
+    for fails_at in 1..=whole.calls.min(1_000) {
+        let mut writer = Sink::new(alloc, 10, fails_at);
+        let run = cut(rt, alloc, case, &mut writer);
+        assert_eq!(rt; run, Err(RunFault::Unwritten), "at call {fails_at}");
+        assert_eq!(rt; status_of(run), 3);
+        assert!(rt;
+            case.text.starts_with(writer.text.as_slice()),
+            "at call {fails_at}"
+        );
+    }
+    let mut writer = Sink::new(alloc, 9_000, 0);
+    writer.flush_fails = true;
+    let run = cut(rt, alloc, case, &mut writer);
+    assert_eq!(rt; run, Err(RunFault::Unwritten));
+    assert_eq!(rt; status_of(run), 3);
+    assert!(rt; case.text.starts_with(writer.text.as_slice()));
+    // What `chain` says of parts is flushed before what it says of the run.
+    assert_eq!(rt; writer.text.as_slice() == case.text, !is_chain(case));
+}
+
 #[test]
 fn tells_a_failed_write(rt: HostRuntime) -> Result<(), Fail> {
     for case in &WRITING {
-        let mut whole = Sink::new(rt.alloc(), 10, 0);
-        let run = cut(&rt, rt.alloc(), case, &mut whole);
-        assert_eq!(rt; status_of(run), case.status);
-        assert!(rt; 1 < whole.calls && whole.calls < 1_000);
-        for fails_at in 1..=whole.calls.min(1_000) {
-            let mut writer = Sink::new(rt.alloc(), 10, fails_at);
-            let run = cut(&rt, rt.alloc(), case, &mut writer);
-            assert_eq!(rt; run, Err(RunFault::Unwritten), "at call {fails_at}");
-            assert_eq!(rt; status_of(run), 3);
-            assert!(rt;
-                case.text.starts_with(writer.text.as_slice()),
-                "at call {fails_at}"
-            );
-        }
-        let mut writer = Sink::new(rt.alloc(), 9_000, 0);
-        writer.flush_fails = true;
-        let run = cut(&rt, rt.alloc(), case, &mut writer);
-        assert_eq!(rt; run, Err(RunFault::Unwritten));
-        assert_eq!(rt; status_of(run), 3);
-        assert!(rt; case.text.starts_with(writer.text.as_slice()));
-        // What `chain` says of parts is flushed before what it says of the run.
-        assert_eq!(rt; writer.text.as_slice() == case.text, !is_chain(case));
+        try_failed_writes(&rt, rt.alloc(), case);
+    }
+    for case in &OF_FILES {
+        try_failed_writes(&rt, rt.alloc(), case);
     }
     Ok(())
 }

@@ -3,7 +3,8 @@
 use crate::case::{Case, Subcommand, Task, check};
 use crate::judge::{CUT, CUT_FAULT, EMPTY, INTERMEDIATE};
 use crate::run::{WITHOUT_SESSION, WITHOUT_SESSION_FAULT};
-use lab_compare::Engines;
+use lab_engine::Level;
+use lab_levels::LEVELS;
 use lab_matrix::CaseName;
 use lab_reports::Phenomenon;
 use std::test::Fail;
@@ -74,22 +75,19 @@ pub const NO_SMALLER: Case = Case {
     status: 2,
 };
 
-const ALL: Engines = Engines {
-    locking: true,
-    committed: true,
-    snapshot: true,
-};
+/// The levels, in the order in which they are told.
+const ALL: &[Level] = &LEVELS;
 
-/// Of two transactions that each add 1: one waits, but at snapshot, where the other one is refused.
+/// Of two transactions that each add 1: one waits, but where nobody does, and there the other one is refused.
 pub const COMPARISON: Case = Case {
-    subcommand: Subcommand::Compare { engines: ALL },
+    subcommand: Subcommand::Compare { levels: ALL },
     input: b"setup (1, 10);\nbegin; -- T1\nbegin; -- T2\nupdate test set value = value + 1; -- T1\nupdate test set value = value + 1; -- T2\ncommit; -- T1\ncommit; -- T2\n",
-    text: b"compare: script of 6 lines, 2 sessions\nstart: rows (1, 10)\nT1 begin: begun 1\nT2 begin: begun 2\nT1 update test set value = value + 1: rows (1, 10)\nT2 update test set value = value + 1\n  locking committed: waits T1; behind T1 commit: rows (1, 11)\n  snapshot: rows (1, 10)\nT1 commit: committed\nT2 commit\n  locking committed: committed\n  snapshot: refused WriteConflict row 1 by 1\n  locking committed -- rows (1, 12)\n  snapshot -- rows (1, 11)\nend\n  locking committed: rows (1, 12)\n  snapshot: rows (1, 11)\nengine      locking     committed   snapshot\nlevel       PL-3 SI     PL-3 SI     PL-3 SI\n",
+    text: b"compare: script of 6 lines, 2 sessions\nstart: rows (1, 10)\nT1 begin: begun 1\nT2 begin: begun 2\nT1 update test set value = value + 1: rows (1, 10)\nT2 update test set value = value + 1\n  locking committed: waits T1; behind T1 commit: rows (1, 11)\n  snapshot optimistic: rows (1, 10)\nT1 commit: committed\nT2 commit\n  locking committed: committed\n  snapshot optimistic: refused WriteConflict row 1 by 1\n  locking committed -- rows (1, 12)\n  snapshot optimistic -- rows (1, 11)\nend\n  locking committed: rows (1, 12)\n  snapshot optimistic: rows (1, 11)\nengine      locking     committed   snapshot    optimistic\nlevel       PL-3 SI     PL-3 SI     PL-3 SI     PL-3 SI\n",
     status: 0,
 };
 
 pub const NO_COMPARISON: Case = Case {
-    subcommand: Subcommand::Compare { engines: ALL },
+    subcommand: Subcommand::Compare { levels: ALL },
     input: WITHOUT_SESSION,
     text: WITHOUT_SESSION_FAULT,
     status: 2,
@@ -109,6 +107,18 @@ pub const MATRIX: Case = Case {
     status: 0,
 };
 
+const NOBODY_WAITS: &[Level] = &[Level::Snapshot, Level::Optimistic];
+
+/// Of two engines.
+pub const MATRIX_AT: Case = Case {
+    subcommand: Subcommand::MatrixAt {
+        levels: NOBODY_WAITS,
+    },
+    input: b"",
+    text: b"case      snapshot    optimistic\nG0        PL-3 SI     PL-3 SI\nG1a       PL-3 SI     PL-3 SI\nG1b       PL-3 SI     PL-3 SI\nG1c       PL-2 SI     PL-3 SI\nOTV       PL-3 SI     PL-3 SI\nPMP       PL-3 SI     PL-3 SI\nP4        PL-3 SI     PL-3 SI\nG-single  PL-3 SI     PL-3 SI\nG2-item   PL-2 SI     PL-3 SI\nG2        PL-2.99 SI  PL-3 SI\npromised  SI          PL-3\n",
+    status: 0,
+};
+
 /// Of a file that isn't there.
 pub const UNREADABLE: Case = Case {
     subcommand: Subcommand::OfFiles {
@@ -120,7 +130,7 @@ pub const UNREADABLE: Case = Case {
     status: 3,
 };
 
-const CASES: [Case; 12] = [
+const CASES: [Case; 13] = [
     PICTURE,
     NO_PICTURE,
     EXPLANATION,
@@ -132,6 +142,7 @@ const CASES: [Case; 12] = [
     NO_SMALLER,
     LISTING,
     MATRIX,
+    MATRIX_AT,
     UNREADABLE,
 ];
 

@@ -6,11 +6,10 @@ ghost use Rattle.lab_commands.specs.Untold.{free_untold};
 
 use crate::player::Player;
 use lab_engine::{Level, Recording};
-use lab_locking::LockEngine;
+use lab_levels::on_engine;
 use lab_script::Script;
 use lab_session::{Gate, PlayFault, play_free};
 use lab_table::Session;
-use lab_versions::{CommittedEngine, SnapshotEngine};
 use std::alloc::Global;
 use std::sync::Wait;
 use std::thread::Threads;
@@ -40,29 +39,12 @@ impl<'r, T: Threads + Wait + Sync> Player for Free<'r, T> {
 
     fn play(&self, alloc: Global, script: &Script) -> Result<Recording, PlayFault> {
         let setup = script.setup.copy(alloc)?;
-        match self.level {
-            Level::Locking => play_free(
-                self.rt,
-                alloc,
-                LockEngine::new(alloc, setup),
-                script,
-                &OpenGate,
-            ),
-            Level::Committed => play_free(
-                self.rt,
-                alloc,
-                CommittedEngine::new(alloc, setup),
-                script,
-                &OpenGate,
-            ),
-            Level::Snapshot => play_free(
-                self.rt,
-                alloc,
-                SnapshotEngine::new(alloc, setup),
-                script,
-                &OpenGate,
-            ),
-        }
+        on_engine!(
+            self.level,
+            alloc,
+            setup,
+            |engine| play_free(self.rt, alloc, engine, script, &OpenGate)
+        )
     }
 
     ghost untold = { λ p. free_untold p.level };

@@ -7,7 +7,6 @@
 #![tactic(auto)]
 
 mod batching;
-mod event_text;
 mod files;
 mod free;
 mod judged_files;
@@ -20,6 +19,7 @@ mod progress;
 mod recording_answer;
 mod refusals;
 mod remarked_log;
+mod rows_text;
 mod running;
 mod scripted;
 mod shown;
@@ -27,7 +27,6 @@ mod standing;
 mod transcribing;
 
 pub use batching::batch;
-pub use event_text::{put_outcome, put_rows, put_session};
 pub use files::{Inputs, note_files, read_files};
 pub use judged_files::{BatchAnswer, batch_answer};
 pub use judging::judge;
@@ -36,6 +35,7 @@ pub use listed::listed_names;
 pub use player::Player;
 pub use progress::Progress;
 pub use refusals::{print_play_refusal, print_script_refusal};
+pub use rows_text::put_rows;
 pub use running::{run, run_free};
 pub use scripted::Scripted;
 pub use shown::Shown;

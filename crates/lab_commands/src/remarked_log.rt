@@ -5,10 +5,11 @@ ghost use Rattle.lab_statement.specs.Limits.{IsDeep, IsLong};
 ghost use Rattle.lab_session.specs.LogText.{SomeEvent};
 ghost use Rattle.lab_commands.specs.CommittedRows.{remarked_log, remarked_recording, remarked_text, rows_remark};
 
-use crate::event_text::{put_event, put_rows};
+use crate::rows_text::put_rows;
 use crate::standing::{Standing, is_over};
 use lab_engine::{LogEvent, Outcome, Recording};
 use lab_history::History;
+use lab_session::put_event;
 use lab_statement::PrintFault;
 use lab_table::{ByRow, NoMemory, Value};
 use std::alloc::Global;

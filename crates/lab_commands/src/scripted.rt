@@ -6,10 +6,9 @@ ghost use Rattle.lab_commands.specs.Untold.{scripted_untold};
 
 use crate::player::Player;
 use lab_engine::{Level, Recording};
-use lab_locking::LockEngine;
+use lab_levels::on_engine;
 use lab_script::Script;
 use lab_session::{PlayFault, play_script};
-use lab_versions::{CommittedEngine, SnapshotEngine};
 use std::alloc::Global;
 
 /// Plays scripts by one thread, each on a fresh engine of this level.
@@ -27,11 +26,12 @@ impl Player for Scripted {
 
     fn play(&self, alloc: Global, script: &Script) -> Result<Recording, PlayFault> {
         let setup = script.setup.copy(alloc)?;
-        match self.level {
-            Level::Locking => play_script(alloc, LockEngine::new(alloc, setup), script),
-            Level::Committed => play_script(alloc, CommittedEngine::new(alloc, setup), script),
-            Level::Snapshot => play_script(alloc, SnapshotEngine::new(alloc, setup), script),
-        }
+        on_engine!(
+            self.level,
+            alloc,
+            setup,
+            |engine| play_script(alloc, engine, script)
+        )
     }
 
     ghost untold = { λ p. scripted_untold p.level };

@@ -132,6 +132,7 @@ pub fn is_over(outcome: &Outcome) -> bool
             EngineFault::NoTransaction => false,
             EngineFault::AlreadyBegun => false,
             EngineFault::Busy => false,
+            EngineFault::ReadConflict { .. } => true,
         },
     }
 }

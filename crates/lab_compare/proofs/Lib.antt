@@ -2,5 +2,6 @@ mod Spaces
 mod Left
 mod Telling
 mod FirstRefusals
+mod SidesSoFar
 mod OneComparison
 mod SameTold

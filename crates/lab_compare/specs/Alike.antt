@@ -7,10 +7,9 @@ use Rattle.std.specs.Str.{bytes_eq}
 use Rattle.lab_table.specs.Row.{Row, row_test}
 use Rattle.lab_statement.specs.Printed.{newline}
 use Rattle.lab_script.specs.Printed.{named_rows_or}
-use Rattle.lab_engine.specs.declared.event.Level.{Level}
+use Rattle.lab_levels.specs.LevelName.{level_name}
 use Rattle.lab_matrix.specs.MatrixText.{spaces}
 use Rattle.lab_compare.specs.Cells.{rows_behind}
-use Rattle.lab_compare.specs.Engines.{engine_name}
 use Rattle.lab_compare.specs.declared.cells.Cell.{Cell}
 use Rattle.lab_compare.specs.declared.side.Column.{Column}
 use Rattle.lab_compare.specs.declared.side.Column.TheVariants.{Engine, Grade}
@@ -58,14 +57,14 @@ TellSame Explained one other = one.explained ≡ other.explained
 abbrev pub first_alike : Topic → Side → List Side → Option Side
 first_alike of side sides = find (alike of side) sides
 
--- whether a side is that of the engine of a level
-abbrev pub is_at : Option Side → Level → Bool
-is_at None level = false
-is_at (Some side) level = bytes_eq (engine_name side.level) (engine_name level)
+-- whether there is a first side, and it is that of the same engine as another one
+abbrev pub is_of : Option Side → Side → Bool
+is_of None side = false
+is_of (Some first) side = bytes_eq (level_name first.level) (level_name side.level)
 
 -- the name of another side's engine behind a blank, where it tells the same as this one
 abbrev pub name_if : Topic → Side → Side → List ℕ
-name_if of side other = cond (alike of side other) (codes " " ++ engine_name other.level) []
+name_if of side other = cond (alike of side other) (codes " " ++ level_name other.level) []
 
 -- what a side tells, with the engines that tell the same before it
 abbrev pub group_text : Topic → List ℕ → List Side → Side → List ℕ
@@ -73,7 +72,7 @@ group_text of mark sides side = codes " " ++ flat_map (name_if of side) sides ++
 
 -- whether a side is the first that tells what it does
 abbrev pub leads : Topic → List Side → Side → Bool
-leads of sides side = is_at (first_alike of side sides) side.level
+leads of sides side = is_of (first_alike of side sides) side
 
 -- a line with that, where it is the first
 abbrev pub led_text : Topic → List ℕ → List Side → Side → List ℕ
@@ -108,7 +107,7 @@ explained_text sides side = cond (is_empty side.explained) [] (cond (leads Expla
 
 -- what stands in a side's column
 abbrev pub column_text : Column → Side → List ℕ
-column_text Engine side = engine_name side.level
+column_text Engine side = level_name side.level
 column_text Grade side = side.grade
 
 -- texts in columns of twelve, behind one that has so many bytes

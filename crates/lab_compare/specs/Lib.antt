@@ -1,4 +1,3 @@
-pub mod Engines
 pub mod Told
 pub mod Cells
 pub mod Alike

@@ -2,12 +2,11 @@
 //! after NoMemory, part of what was to be appended may stand there.
 
 ghost use Rattle.std.specs.Prelude.{◌≡◌, ◌-◌, ◌++◌, flat_map, option_map, OnOk};
-ghost use Rattle.lab_compare.specs.Alike.{first_alike, is_at, name_if, group_text, leads, led_text, groups_text, explained_text, all_alike, alike_text, differing_text, columns_behind};
+ghost use Rattle.lab_compare.specs.Alike.{first_alike, is_of, name_if, group_text, leads, led_text, groups_text, explained_text, all_alike, alike_text, differing_text, columns_behind};
 ghost use Rattle.lab_matrix.specs.MatrixText.{spaces};
 
-use crate::engines::{engine_of, is_engine};
 use crate::side::{Column, Side, Topic};
-use lab_engine::Level;
+use lab_levels::level_name;
 use lab_table::NoMemory;
 
 /// The width of a column.
@@ -25,12 +24,12 @@ fn first_alike<'s>(of: Topic, side: &Side, sides: &'s [Side]) -> Option<&'s Side
     None
 }
 
-/// Whether a side is that of the engine of a level.
-fn is_at(side: Option<&Side>, level: Level) -> bool
-    ensures { result ≡ is_at (option_map (λ (side : _). side.now) side.entry) level }
+/// Whether there is a first side, and it is that of the same engine as another one.
+fn is_of(first: Option<&Side>, side: &Side) -> bool
+    ensures { result ≡ is_of (option_map (λ (side : _). side.now) first.entry) side.now }
 {
-    match side {
-        Some(side) => is_engine(engine_of(side.level), level),
+    match first {
+        Some(first) => level_name(first.level).as_bytes() == level_name(side.level).as_bytes(),
         None => false,
     }
 }
@@ -43,7 +42,7 @@ fn put_name_if(out: &mut Vec<u8>, of: Topic, side: &Side, other: &Side) -> Resul
         return Ok(());
     }
     out.push(b' ')?;
-    out.extend_from_slice(engine_of(other.level).as_bytes())
+    out.extend_from_slice(level_name(other.level).as_bytes())
 }
 
 /// Appends the names of the engines that tell the same as a side, each behind a blank.
@@ -76,7 +75,7 @@ fn put_group(
 fn leads(of: Topic, sides: &[Side], side: &Side) -> bool
     ensures { result ≡ leads of sides.now side.now }
 {
-    is_at(first_alike(of, side, sides), side.level)
+    is_of(first_alike(of, side, sides), side)
 }
 
 /// Appends a line with what a side tells, where it is the first that does.

@@ -3,15 +3,15 @@
 ghost use Rattle.std.specs.Prelude.{◌≡◌, ◌≢◌, ◌⊎◌, ⊤, List, ℕ, IfOk, IfErr, IfSome, OnErr};
 ghost use Rattle.std.specs.Io.KnownBytes.{Appends, Keeps};
 ghost use Rattle.lab_streams.specs.Input.{ReadsFirst};
-ghost use Rattle.lab_compare.specs.Answer.{AreSides, IsFirstRefusal, IsCompareAnswer, all_sides};
+ghost use Rattle.lab_compare.specs.Answer.{AreSides, IsFirstRefusal, IsCompareAnswer};
 ghost use Rattle.lab_compare.specs.Comparison.{comparison_text};
 ghost use Rattle.lab_compare.specs.Whole.{compare_whole};
-ghost use Rattle.lab_compare.specs.declared.side.Sides.{Sides as SidesOf};
+ghost use Rattle.lab_compare.specs.declared.side.Side.{Side as SideOf};
 
 use crate::comparison::print_comparison;
-use crate::engines::Engines;
-use crate::playing::{all_sides, sides_of};
+use crate::playing::sides_of;
 use lab_commands::{print_play_refusal, print_script_refusal};
+use lab_engine::Level;
 use lab_hints::note_play;
 use lab_script::{Script, parse_script};
 use lab_session::PlayFault;
@@ -21,28 +21,27 @@ use lab_table::NoMemory;
 use std::alloc::{AllocError, Global};
 use std::io::{Read, Write};
 
-/// The comparison of what a script comes to on these engines, or the first fault that one of them refuses it for.
-fn compared(alloc: Global, engines: Engines, script: &Script) -> Result<Vec<u8>, PlayFault>
-    ensures text { IfOk result (λ text. (sides : SidesOf) × AreSides engines script.now sides × (text.items ≡ comparison_text script.now (all_sides sides))) }
-    ensures fault { IfErr result (λ fault. fault ≢ PlayFault.NoMemory → IsFirstRefusal engines script.now fault) }
+/// The comparison of what a script comes to at these levels, or the first fault that one of its plays is refused for.
+fn compared(alloc: Global, levels: &[Level], script: &Script) -> Result<Vec<u8>, PlayFault>
+    ensures text { IfOk result (λ text. (sides : List SideOf) × AreSides script.now levels.now sides × (text.items ≡ comparison_text script.now sides)) }
+    ensures fault { IfErr result (λ fault. fault ≢ PlayFault.NoMemory → IsFirstRefusal script.now levels.now fault) }
 {
-    let sides = sides_of(alloc, engines, script)?;
-    let all = all_sides(alloc, sides)?;
-    Ok(print_comparison(alloc, script, &all)?)
+    let sides = sides_of(alloc, levels, script)?;
+    Ok(print_comparison(alloc, script, &sides)?)
 }
 
-/// What tells a comparison on some engines.
+/// What tells a comparison of the engines of some levels.
 #[derive(Drop)]
-struct TellsComparison {
-    engines: Engines,
+struct TellsComparison<'l> {
+    levels: &'l [Level],
     /// Why a play was refused.
     why: Option<PlayFault>,
 }
 
-impl Subcommand for TellsComparison {
+impl<'l> Subcommand for TellsComparison<'l> {
     ghost Needs = { ⊤ };
 
-    ghost Says = { λ s. IsCompareAnswer s.engines };
+    ghost Says = { λ s. IsCompareAnswer s.levels.now };
 
     fn answer(&mut self, alloc: Global, input: &[u8]) -> Result<Answer, NoMemory> {
         let script = match parse_script(alloc, input) {
@@ -55,7 +54,7 @@ impl Subcommand for TellsComparison {
                 });
             }
         };
-        let compared = compared(alloc, self.engines, &script);
+        let compared = compared(alloc, self.levels, &script);
         match compared {
             Ok(text) => Ok(Answer {
                 text,
@@ -76,10 +75,10 @@ impl Subcommand for TellsComparison {
         note_play(alloc, input, ending == Ending::Refused, self.why, notes);
     }
 
-    ghost whole = { λ s. compare_whole s.engines };
+    ghost whole = { λ s. compare_whole s.levels.now };
 }
 
-/// Reads a script, plays it by one thread on each of these engines, and writes what each of its lines was answered, the
+/// Reads a script, plays it by one thread on the engine of each of these levels, and writes what each of its lines was answered, the
 /// committed rows where they differ, the level that each history meets, and what `explain` says of its lowest phenomenon.
 /// Where the input is no script, or a play is refused, it tells that fault alone.
 ///
@@ -90,17 +89,17 @@ pub fn compare<R: Read, W: Write, N: Write>(
     reader: &mut R,
     writer: &mut W,
     notes: &mut N,
-    engines: Engines,
+    levels: &[Level],
 ) -> Result<Ending, RunFault>
     ensures written { IfOk result (λ ending. IfSome (R.remaining reader.old) (λ input.
-        (text : List ℕ) × Appends (W.contents writer.old) (W.contents writer.new) text × IsCompareAnswer engines input text ending)) }
+        (text : List ℕ) × Appends (W.contents writer.old) (W.contents writer.new) text × IsCompareAnswer levels.now input text ending)) }
     ensures read_first { ReadsFirst result (R.remaining reader.old) (R.remaining reader.new) }
     ensures silent { IfErr result (λ fault. (fault ≡ RunFault.Unwritten) ⊎ Keeps (W.contents writer.old) (W.contents writer.new)) }
     ensures hint_last { OnErr result (Keeps (N.contents notes.old) (N.contents notes.new)) }
 {
     answer_input(
         alloc,
-        TellsComparison { engines, why: None },
+        TellsComparison { levels, why: None },
         reader,
         writer,
         notes,

@@ -3,15 +3,15 @@
 ghost use Rattle.std.specs.Prelude.{◌≡◌, ◌↔◌, IsTrue, ℕ, List};
 ghost use Rattle.lab_compare.specs.Alike.{TellSame, alike};
 ghost use Rattle.lab_compare.specs.Answer.{IsCompareAnswer};
-ghost use Rattle.lab_compare.specs.declared.engines.Engines.{Engines};
+ghost use Rattle.lab_engine.specs.declared.event.Level.{Level};
 ghost use Rattle.lab_compare.specs.declared.side.Side.{Side};
 ghost use Rattle.lab_compare.specs.declared.side.Topic.{Topic};
 ghost use Rattle.lab_streams.specs.declared.ending.Ending.{Ending};
 
-/// Of one input `compare` says one thing on the same engines, byte for byte: the comparison, or the line of the fault.
+/// Of one input `compare` says one thing on the engines of the same levels, byte for byte: the comparison, or the line of the fault.
 pub fn compare_answer_unique()
-    ensures text { (engines : Engines) (input one other : List ℕ) (first again : Ending) → IsCompareAnswer engines input one first → IsCompareAnswer engines input other again → one ≡ other }
-    ensures ending { (engines : Engines) (input one other : List ℕ) (first again : Ending) → IsCompareAnswer engines input one first → IsCompareAnswer engines input other again → first ≡ again }
+    ensures text { (levels : List Level) (input one other : List ℕ) (first again : Ending) → IsCompareAnswer levels input one first → IsCompareAnswer levels input other again → one ≡ other }
+    ensures ending { (levels : List Level) (input one other : List ℕ) (first again : Ending) → IsCompareAnswer levels input one first → IsCompareAnswer levels input other again → first ≡ again }
 {}
 
 /// Engines stand together, once for all of them, where they told the same, and only there.

@@ -1,6 +1,6 @@
 //! A script on the engines side by side.
 //!
-//! [`compare`] is the subcommand of the program: it reads a script, plays it on each engine, and writes what each of its
+//! [`compare`] is the subcommand of the program: it reads a script, plays it on the engines of some levels, and writes what each of its
 //! lines was answered, once where all engines answer alike; the committed rows where they differ; the level that each
 //! history meets, and what `explain` says of its lowest phenomenon.
 //!
@@ -12,12 +12,10 @@ mod alike;
 mod cells;
 mod comparing;
 mod comparison;
-mod engines;
 mod laws;
 mod playing;
 mod side;
 mod told;
 
 pub use comparing::compare;
-pub use engines::{ENGINES, Engines, engine_of, level_of};
 pub use laws::{alike_is_same, compare_answer_unique};

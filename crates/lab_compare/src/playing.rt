@@ -1,11 +1,10 @@
-//! Plays of a script on the engines that are asked for.
+//! Plays of a script at some levels.
 
-ghost use Rattle.std.specs.Prelude.{◌≡◌, ◌≢◌, ◌++◌, true, IfOk, IfErr, OnOk};
+ghost use Rattle.std.specs.Prelude.{◌≡◌, ◌≢◌, ◌++◌, ◌∷◌, [], IfOk, IfErr, OnOk};
 ghost use Rattle.lab_commands.specs.Playing.{IsScriptedRefusal};
-ghost use Rattle.lab_compare.specs.Answer.{IsSide, IsAskedSide, AreSides, IsFirstRefusal, one_side, all_sides};
+ghost use Rattle.lab_compare.specs.Answer.{IsSide, AreSides, IsFirstRefusal};
 
-use crate::engines::Engines;
-use crate::side::{Side, Sides, side_of};
+use crate::side::{Side, side_of};
 use lab_commands::{Player, Scripted};
 use lab_engine::Level;
 use lab_judge::judge_recording;
@@ -24,59 +23,23 @@ fn side(alloc: Global, level: Level, script: &Script) -> Result<Side, PlayFault>
     Ok(side_of(alloc, level, script.lines.as_slice(), &recording, &report)?)
 }
 
-/// The same, where the engine is asked for.
-fn side_if(
-    alloc: Global,
-    asked: bool,
-    level: Level,
-    script: &Script,
-) -> Result<Option<Side>, PlayFault>
-    ensures side { IfOk result (IsAskedSide asked level script.now) }
-    ensures fault { IfErr result (λ fault. (asked ≡ true) × IsScriptedRefusal level script.now fault) }
+/// Adds a side. NoMemory where an allocation was refused.
+fn add(sides: &mut Vec<Side>, side: Side) -> Result<(), NoMemory>
+    ensures { OnOk result (sides.new.items ≡ sides.old.items ++ side ∷ []) }
 {
-    if !asked {
-        return Ok(None);
+    sides.push(side)?;
+    Ok(())
+}
+
+/// What there is to say of the plays of a script at these levels, or the first fault that one of them is refused for.
+pub fn sides_of(alloc: Global, levels: &[Level], script: &Script) -> Result<Vec<Side>, PlayFault>
+    ensures sides { IfOk result (λ sides. AreSides script.now levels.now sides.items) }
+    ensures fault { IfErr result (λ fault. fault ≢ PlayFault.NoMemory → IsFirstRefusal script.now levels.now fault) }
+{
+    let mut sides = Vec::with_capacity(alloc, levels.len())?;
+    for level in levels {
+        let side = side(alloc, *level, script)?;
+        add(&mut sides, side)?;
     }
-    Ok(Some(side(alloc, level, script)?))
-}
-
-/// What there is to say of the plays of a script on these engines, or the first fault that one of them refuses it for.
-pub fn sides_of(alloc: Global, engines: Engines, script: &Script) -> Result<Sides, PlayFault>
-    ensures sides { IfOk result (AreSides engines script.now) }
-    ensures fault { IfErr result (λ fault. fault ≢ PlayFault.NoMemory → IsFirstRefusal engines script.now fault) }
-{
-    Ok(Sides {
-        locking: side_if(alloc, engines.locking, Level::Locking, script)?,
-        committed: side_if(alloc, engines.committed, Level::Committed, script)?,
-        snapshot: side_if(alloc, engines.snapshot, Level::Snapshot, script)?,
-    })
-}
-
-/// Adds a side, if there is one. NoMemory where an allocation was refused.
-fn add_side(sides: &mut Vec<Side>, side: Option<Side>) -> Result<(), NoMemory>
-    ensures { OnOk result (sides.new.items ≡ sides.old.items ++ one_side side) }
-{
-    match side {
-        Some(side) => {
-            sides.push(side)?;
-            Ok(())
-        }
-        None => Ok(()),
-    }
-}
-
-/// The sides that there are, in the order of the levels. NoMemory where an allocation was refused.
-pub fn all_sides(alloc: Global, sides: Sides) -> Result<Vec<Side>, NoMemory>
-    ensures { IfOk result (λ all. all.items ≡ all_sides sides) }
-{
-    let Sides {
-        locking,
-        committed,
-        snapshot,
-    } = sides;
-    let mut all = Vec::new(alloc);
-    add_side(&mut all, locking)?;
-    add_side(&mut all, committed)?;
-    add_side(&mut all, snapshot)?;
-    Ok(all)
+    Ok(sides)
 }

@@ -9,13 +9,13 @@ ghost use Rattle.lab_compare.specs.Cells.{rows_behind};
 ghost use Rattle.lab_compare.specs.Comparison.{end_text, explained, lowest, side_of};
 
 use crate::cells::{Cell, cells_of};
-use crate::engines::engine_of;
 use crate::told::{ToldEvent, told_events};
 use lab_commands::put_rows;
 use lab_engine::{Level, Recording};
 use lab_explain::explanation;
 use lab_history::History;
 use lab_judge::{Finding, Places, Report};
+use lab_levels::level_name;
 use lab_reports::Phenomenon;
 use lab_script::Line;
 use lab_table::{NoMemory, RowName, Sequence, Value};
@@ -35,14 +35,6 @@ pub struct Side {
     pub grade: Sequence<u8>,
     /// What `explain` says of its lowest phenomenon; empty where it has none.
     pub explained: Sequence<u8>,
-}
-
-/// The sides of the engines that are asked for.
-#[derive(Drop)]
-pub struct Sides {
-    pub locking: Option<Side>,
-    pub committed: Option<Side>,
-    pub snapshot: Option<Side>,
 }
 
 /// What a side may be asked to tell.
@@ -148,7 +140,7 @@ impl Side {
         ensures { result.now ≡ column_text of self.now }
     {
         match of {
-            Column::Engine => engine_of(self.level).as_bytes(),
+            Column::Engine => level_name(self.level).as_bytes(),
             Column::Grade => self.grade.as_slice(),
         }
     }

@@ -6,9 +6,10 @@ ghost use Rattle.lab_session.specs.LogText.{outcome_text};
 ghost use Rattle.lab_engine.specs.Recording.{is_answer};
 ghost use Rattle.lab_compare.specs.Told.{asked_text, behind_text, end_text, rows_of, told_of, told_each, told_recording};
 
-use lab_commands::{Standing, is_over, put_outcome, put_session};
+use lab_commands::{Standing, is_over};
 use lab_engine::{LogEvent, Outcome, Recording};
 use lab_history::History;
+use lab_session::{put_outcome, put_session};
 use lab_statement::{append_result, spell_command};
 use lab_table::{ByRow, Command, NoMemory, RowName, Sequence, Session, Value};
 use std::alloc::Global;

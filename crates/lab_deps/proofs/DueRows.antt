@@ -10,12 +10,12 @@ use Rattle.lab_table.specs.declared.statement.StatementKind.{StatementKind}
 use Rattle.lab_table.specs.declared.statement.StatementKind.TheVariants.{Select, Update, Insert, Delete}
 use Rattle.lab_table.proofs.OneRow.{not_listed, unmatched_listed, reader_inserts_none}
 use Rattle.lab_history.specs.History.{History}
-use Rattle.lab_history.specs.Version.{viewed, viewed_state, new_state}
+use Rattle.lab_history.specs.Version.{viewed, viewed_state, new_state, state_of}
 use Rattle.lab_history.specs.VersionName.{new_states, state_value}
 use Rattle.lab_history.specs.declared.operation.State.{State as Stored}
 use Rattle.lab_history.specs.declared.operation.VersionName.{VersionName}
 use Rattle.lab_history.specs.declared.operation.Op.{Op}
-use Rattle.lab_deps.specs.Broken.{is_broken, breaks_at, same_state, state_of, choose, change_differs, insert_differs, write_differs, is_extra, is_unlisted}
+use Rattle.lab_deps.specs.Broken.{is_broken, breaks_at, same_state, choose, change_differs, insert_differs, write_differs, is_extra, is_unlisted}
 use Rattle.lab_deps.specs.EdgesByRow.{looks_at}
 use Rattle.lab_deps.specs.Passes.{least, first_entry, first_value, seen_row, own_row}
 use Rattle.lab_deps.specs.declared.kind.OpFault.TheVariants as kind

@@ -1,5 +1,5 @@
 -- Of two faults that are true of a history, one comes before the other, or they are one.
-use Rattle.std.proofs.Common.{◌≡◌, ℕ, suc, ◌<◌, ◌==◌, Bool, true, false, ◌||◌, cond, Some, List, [], ◌∷◌, inl, inr, refl, sym, ap, ◌∙◌, arith}
+use Rattle.std.proofs.Common.{◌≡◌, ℕ, suc, ◌<◌, ◌==◌, Bool, true, false, ◌||◌, cond, Some, List, [], ◌∷◌, inl, inr, refl, sym, ap, subst, ◌∙◌, arith}
 use Rattle.std.specs.Prelude.{nat_le}
 use Rattle.std.specs.Ordering.{is_lt, ordering_reverse}
 use Rattle.std.specs.declared.cmp.Ordering.{Ordering}
@@ -10,10 +10,10 @@ use Rattle.lab_table.specs.Row.{Row, row_cmp, rows_total, rows_apart}
 use Rattle.lab_history.specs.History.{History}
 use Rattle.lab_history.specs.Version.{IsCommitted, find_txn}
 use Rattle.lab_history.specs.declared.transaction.Txn.{Txn}
-use Rattle.lab_deps.specs.FaultKinds.{op_entry, row_entry, entry_of, parts_of, op_fault, row_fault, fault_of}
-use Rattle.lab_deps.specs.Soundness.{StandsAt, Stands}
+use Rattle.lab_deps.specs.FaultKinds.{parts_of, op_fault, row_fault, fault_of}
+use Rattle.lab_deps.specs.Soundness.{Stands}
 use Rattle.lab_deps.specs.Refusal.{is_uncommitted_read, IsAnswer}
-use Rattle.lab_deps.specs.FaultOrder.{kind_place, place_among, ComesBefore, PlaceBefore, IsFirst}
+use Rattle.lab_deps.specs.FaultOrder.{kind_place, where_is, place_among, ComesBefore, IsFirst}
 use Rattle.lab_deps.specs.declared.fault.FaultParts.{FaultParts}
 use Rattle.lab_deps.specs.declared.fault.FaultParts.TheVariants as parts
 use Rattle.lab_deps.specs.declared.fault.LocalFault.{LocalFault}
@@ -36,19 +36,42 @@ made_again (fault.WritesDiffer n k row) = refl
 made_again (fault.InstallOrder row) = refl
 made_again (fault.EndDiffers row) = refl
 
--- and the kind and place of a fault that is made of them are these
-pub op_parts : (kind : OpFault) (n k : ℕ) (row : Row) → parts_of (op_fault kind n k row) ≡ parts.Operation kind n k row
-op_parts kind.Dangling n k row = refl
-op_parts kind.AbortedRead n k row = refl
-op_parts kind.IntermediateRead n k row = refl
-op_parts kind.OwnWriteMissed n k row = refl
-op_parts kind.LaterThanOwn n k row = refl
-op_parts kind.RowsDiffer n k row = refl
-op_parts kind.WritesDiffer n k row = refl
+-- the place of a kind in their order, and where its faults are
+abbrev pub op_place : OpFault → ℕ
+op_place kind.Dangling = 0
+op_place kind.AbortedRead = 7
+op_place kind.IntermediateRead = 8
+op_place kind.OwnWriteMissed = 2
+op_place kind.LaterThanOwn = 3
+op_place kind.RowsDiffer = 4
+op_place kind.WritesDiffer = 5
 
-pub row_parts : (kind : RowFault) (row : Row) → parts_of (row_fault kind row) ≡ parts.Row kind row
-row_parts row_kind.InstallOrder row = refl
-row_parts row_kind.EndDiffers row = refl
+pub op_told : (kind : OpFault) (n k : ℕ) (row : Row) → (kind_place (op_fault kind n k row) ≡ op_place kind) × (where_is (op_fault kind n k row) ≡ (n, k, row))
+op_told kind.Dangling n k row = (refl, refl)
+op_told kind.AbortedRead n k row = (refl, refl)
+op_told kind.IntermediateRead n k row = (refl, refl)
+op_told kind.OwnWriteMissed n k row = (refl, refl)
+op_told kind.LaterThanOwn n k row = (refl, refl)
+op_told kind.RowsDiffer n k row = (refl, refl)
+op_told kind.WritesDiffer n k row = (refl, refl)
+
+abbrev pub row_place : RowFault → ℕ
+row_place row_kind.InstallOrder = 1
+row_place row_kind.EndDiffers = 6
+
+pub row_told : (kind : RowFault) (row : Row) → (kind_place (row_fault kind row) ≡ row_place kind) × (where_is (row_fault kind row) ≡ (0, 0, row))
+row_told row_kind.InstallOrder row = (refl, refl)
+row_told row_kind.EndDiffers row = (refl, refl)
+
+-- the transaction of a fault that stands has committed
+op_committed : (h : History) (kind : OpFault) (n k : ℕ) (row : Row) → Stands h (op_fault kind n k row) → IsCommitted h n
+op_committed h kind.Dangling n k row stands = stands.1.0
+op_committed h kind.AbortedRead n k row stands = stands.1.0
+op_committed h kind.IntermediateRead n k row stands = stands.1.0
+op_committed h kind.OwnWriteMissed n k row stands = stands.1.0
+op_committed h kind.LaterThanOwn n k row stands = stands.1.0
+op_committed h kind.RowsDiffer n k row stands = stands.1.0
+op_committed h kind.WritesDiffer n k row stands = stands.1.0
 
 -- the kinds at a place in their order
 abbrev op_kind_at : ℕ → OpFault
@@ -57,7 +80,7 @@ op_kind_at p = cond (p == 0) kind.Dangling (cond (p == 2) kind.OwnWriteMissed (c
 abbrev row_kind_at : ℕ → RowFault
 row_kind_at p = cond (p == 1) row_kind.InstallOrder row_kind.EndDiffers
 
-op_kind_again : (kind : OpFault) → op_kind_at (op_entry kind).place ≡ kind
+op_kind_again : (kind : OpFault) → op_kind_at (op_place kind) ≡ kind
 op_kind_again kind.Dangling = refl
 op_kind_again kind.AbortedRead = refl
 op_kind_again kind.IntermediateRead = refl
@@ -66,7 +89,7 @@ op_kind_again kind.LaterThanOwn = refl
 op_kind_again kind.RowsDiffer = refl
 op_kind_again kind.WritesDiffer = refl
 
-row_kind_again : (kind : RowFault) → row_kind_at (row_entry kind).place ≡ kind
+row_kind_again : (kind : RowFault) → row_kind_at (row_place kind) ≡ kind
 row_kind_again row_kind.InstallOrder = refl
 row_kind_again row_kind.EndDiffers = refl
 
@@ -74,7 +97,7 @@ row_kind_again row_kind.EndDiffers = refl
 abbrev is_of_row : ℕ → Bool
 is_of_row p = (p == 1) || (p == 6)
 
-op_not_of_row : (kind : OpFault) → is_of_row (op_entry kind).place ≡ false
+op_not_of_row : (kind : OpFault) → is_of_row (op_place kind) ≡ false
 op_not_of_row kind.Dangling = refl
 op_not_of_row kind.AbortedRead = refl
 op_not_of_row kind.IntermediateRead = refl
@@ -83,11 +106,11 @@ op_not_of_row kind.LaterThanOwn = refl
 op_not_of_row kind.RowsDiffer = refl
 op_not_of_row kind.WritesDiffer = refl
 
-row_of_row : (kind : RowFault) → is_of_row (row_entry kind).place ≡ true
+row_of_row : (kind : RowFault) → is_of_row (row_place kind) ≡ true
 row_of_row row_kind.InstallOrder = refl
 row_of_row row_kind.EndDiffers = refl
 
-kinds_apart : (kind : OpFault) (other : RowFault) → (op_entry kind).place ≡ (row_entry other).place → ⊥
+kinds_apart : (kind : OpFault) (other : RowFault) → op_place kind ≡ row_place other → ⊥
 kinds_apart kind other same = false≢true (sym (op_not_of_row kind) ∙ ap is_of_row same ∙ row_of_row other)
 
 same_number : (a b : ℕ) → (a < b → ⊥) → (b < a → ⊥) → a ≡ b
@@ -122,23 +145,23 @@ one_txn (v ∷ ts) n m t u e f same =
     less_one a b e = omega arith
 
 -- the kinds of reads of what was never committed are those behind all others
-pub reads_last : (p : FaultParts) → (entry_of p).is_read ≡ nat_le 7 (entry_of p).place
-reads_last (parts.Operation kind.Dangling n k row) = refl
-reads_last (parts.Operation kind.AbortedRead n k row) = refl
-reads_last (parts.Operation kind.IntermediateRead n k row) = refl
-reads_last (parts.Operation kind.OwnWriteMissed n k row) = refl
-reads_last (parts.Operation kind.LaterThanOwn n k row) = refl
-reads_last (parts.Operation kind.RowsDiffer n k row) = refl
-reads_last (parts.Operation kind.WritesDiffer n k row) = refl
-reads_last (parts.Row row_kind.InstallOrder row) = refl
-reads_last (parts.Row row_kind.EndDiffers row) = refl
+pub reads_last : (f : LocalFault) → is_uncommitted_read f ≡ nat_le 7 (kind_place f)
+reads_last (fault.Dangling n k row) = refl
+reads_last (fault.AbortedRead n k row) = refl
+reads_last (fault.IntermediateRead n k row) = refl
+reads_last (fault.OwnWriteMissed n k row) = refl
+reads_last (fault.LaterThanOwn n k row) = refl
+reads_last (fault.RowsDiffer n k row) = refl
+reads_last (fault.WritesDiffer n k row) = refl
+reads_last (fault.InstallOrder row) = refl
+reads_last (fault.EndDiffers row) = refl
 
 later_kind : (a b : ℕ) → nat_le 7 a ≡ true → nat_le 7 b ≡ false → b < a
 later_kind a b t s = grind arith
 
 module _ (h : History) where
   -- two places of which neither comes before the other are one, where there are their transactions
-  one_place : (n k : ℕ) (row : Row) (m j : ℕ) (other : Row) → IsCommitted h n → IsCommitted h m → (ComesBefore h n k row m j other → ⊥) → (ComesBefore h m j other n k row → ⊥) → (n ≡ m) × (k ≡ j) × (row ≡ other)
+  one_place : (n k : ℕ) (row : Row) (m j : ℕ) (other : Row) → IsCommitted h n → IsCommitted h m → (ComesBefore h (n, k, row) (m, j, other) → ⊥) → (ComesBefore h (m, j, other) (n, k, row) → ⊥) → (n ≡ m) × (k ≡ j) × (row ≡ other)
   one_place n k row m j other c d not_before not_after =
       let a = committed_there h n c in
       let b = committed_there h m d in
@@ -147,19 +170,33 @@ module _ (h : History) where
       let ops : k ≡ j = same_number k j (λ l. not_before (inr (txns, inl l))) (λ l. not_after (inr (sym txns, inl l))) in
       (txns, ops, one_row row other (λ l. not_before (inr (txns, inr (ops, l)))) (λ l. not_after (inr (sym txns, inr (sym ops, l)))))
 
-  one_parts : (p q : FaultParts) → (entry_of p).place ≡ (entry_of q).place → StandsAt h p → StandsAt h q → (PlaceBefore h p q → ⊥) → (PlaceBefore h q p → ⊥) → p ≡ q
-  one_parts (parts.Operation kind n k row) (parts.Operation same m j other) kinds stands also not_before not_after =
-      let w = one_place n k row m j other stands.1.0 also.1.0 not_before not_after in
-      let is : kind ≡ same = sym (op_kind_again kind) ∙ ap op_kind_at kinds ∙ op_kind_again same in
-      ap (λ x. parts.Operation x n k row) is ∙ ap (λ x. parts.Operation same x k row) w.0 ∙ ap (λ x. parts.Operation same m x row) w.1 ∙ ap (parts.Operation same m j) w.2
-  one_parts (parts.Row kind row) (parts.Row same other) kinds stands also not_before not_after =
-      ap (λ x. parts.Row x row) (sym (row_kind_again kind) ∙ ap row_kind_at kinds ∙ row_kind_again same) ∙ ap (parts.Row same) (one_row row other not_before not_after)
-  one_parts (parts.Operation kind n k row) (parts.Row apart other) kinds stands also not_before not_after = absurd (kinds_apart kind apart kinds)
-  one_parts (parts.Row kind row) (parts.Operation apart m j other) kinds stands also not_before not_after = absurd (kinds_apart apart kind (sym kinds))
+  -- places that are said otherwise
+  placed : (p q at there : ℕ × ℕ × Row) → p ≡ at → q ≡ there → ComesBefore h at there → ComesBefore h p q
+  placed p q at there is other before = subst (λ x. ComesBefore h x q) (sym is) (subst (λ y. ComesBefore h at y) (sym other) before)
+
+  -- two faults are one, where they are of one kind and stand and neither comes before the other
+  abbrev AreOne : LocalFault → LocalFault → Type 0
+  AreOne f g = kind_place f ≡ kind_place g → Stands h f → Stands h g → (ComesBefore h (where_is f) (where_is g) → ⊥) → (ComesBefore h (where_is g) (where_is f) → ⊥) → f ≡ g
+
+  one_made : (p q : FaultParts) → AreOne (fault_of p) (fault_of q)
+  one_made (parts.Operation kind n k row) (parts.Operation same m j other) kinds stands also not_before not_after =
+      let a = op_told kind n k row in
+      let b = op_told same m j other in
+      let w = one_place n k row m j other (op_committed h kind n k row stands) (op_committed h same m j other also)
+      (λ c. not_before (placed _ _ (n, k, row) (m, j, other) a.1 b.1 c)) (λ c. not_after (placed _ _ (m, j, other) (n, k, row) b.1 a.1 c)) in
+      let is : kind ≡ same = sym (op_kind_again kind) ∙ ap op_kind_at (sym a.0 ∙ kinds ∙ b.0) ∙ op_kind_again same in
+      ap (λ x. op_fault x n k row) is ∙ ap (λ x. op_fault same x k row) w.0 ∙ ap (λ x. op_fault same m x row) w.1 ∙ ap (op_fault same m j) w.2
+  one_made (parts.Row kind row) (parts.Row same other) kinds stands also not_before not_after =
+      let a = row_told kind row in
+      let b = row_told same other in
+      ap (λ x. row_fault x row) (sym (row_kind_again kind) ∙ ap row_kind_at (sym a.0 ∙ kinds ∙ b.0) ∙ row_kind_again same)
+      ∙ ap (row_fault same) (one_row row other (λ l. not_before (placed _ _ (0, 0, row) (0, 0, other) a.1 b.1 (inr (refl, inr (refl, l))))) (λ l. not_after (placed _ _ (0, 0, other) (0, 0, row) b.1 a.1 (inr (refl, inr (refl, l))))))
+  one_made (parts.Operation kind n k row) (parts.Row apart other) kinds stands also not_before not_after = absurd (kinds_apart kind apart (sym (op_told kind n k row).0 ∙ kinds ∙ (row_told apart other).0))
+  one_made (parts.Row kind row) (parts.Operation apart m j other) kinds stands also not_before not_after = absurd (kinds_apart apart kind (sym (op_told apart m j other).0 ∙ sym kinds ∙ (row_told kind row).0))
 
   -- of two faults of one kind that stand one comes before the other, or they are one
-  pub one_of_kind : (f g : LocalFault) → kind_place f ≡ kind_place g → Stands h f → Stands h g → (PlaceBefore h (parts_of f) (parts_of g) → ⊥) → (PlaceBefore h (parts_of g) (parts_of f) → ⊥) → f ≡ g
-  one_of_kind f g kinds stands also not_before not_after = sym (made_again f) ∙ ap fault_of (one_parts (parts_of f) (parts_of g) kinds stands also not_before not_after) ∙ made_again g
+  pub one_of_kind : (f g : LocalFault) → AreOne f g
+  one_of_kind f g = subst (λ x. AreOne x g) (made_again f) (subst (λ y. AreOne (fault_of (parts_of f)) y) (made_again g) (one_made (parts_of f) (parts_of g)))
 
   -- a history has one first fault
   pub one_first : (f g : LocalFault) → IsFirst h f → IsFirst h g → f ≡ g
@@ -174,6 +211,6 @@ module _ (h : History) where
     λ read g stands.
         elim (is_uncommitted_read g) as (λ b. is_uncommitted_read g ≡ b → b ≡ true) [
           | true ↦ λ _. refl
-          | false ↦ λ other. absurd (first.1 g stands (inl (later_kind (kind_place f) (kind_place g) (sym (reads_last (parts_of f)) ∙ read) (sym (reads_last (parts_of g)) ∙ other))))
+          | false ↦ λ other. absurd (first.1 g stands (inl (later_kind (kind_place f) (kind_place g) (sym (reads_last f) ∙ read) (sym (reads_last g) ∙ other))))
         ] refl,
   )

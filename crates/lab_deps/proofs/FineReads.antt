@@ -6,14 +6,14 @@ use Rattle.std.proofs.lemmas.Bool.{false≢true, eqb-true, eq-eqb, and_parts, an
 use Rattle.std.proofs.lemmas.Option.{none-some, same_Some}
 use Rattle.lab_table.specs.Row.{Row, row_cmp}
 use Rattle.lab_history.specs.History.{History}
-use Rattle.lab_history.specs.Version.{IsCommitted, ops_of, outcome_of, viewed, new_state, version_state, last_write, installers, place_in}
+use Rattle.lab_history.specs.Version.{IsCommitted, ops_of, outcome_of, viewed, new_state, version_state, last_write, installers, place_in, is_at}
 use Rattle.lab_history.specs.declared.operation.Op.{Op}
 use Rattle.lab_history.specs.declared.operation.VersionName.{VersionName}
 use Rattle.lab_history.specs.declared.operation.VersionName.TheVariants.{Initial, Of}
 use Rattle.lab_history.proofs.Greatest.{last_is_greatest}
 use Rattle.lab_deps.specs.Soundness.{has_committed}
 use Rattle.lab_deps.specs.Broken.{is_dangling, has_aborted, is_aborted, is_other, is_intermediate, precedes, is_later, is_broken}
-use Rattle.lab_deps.specs.Passes.{is_at, first_value}
+use Rattle.lab_deps.specs.Passes.{first_value}
 use Rattle.lab_deps.specs.Fine.{is_last, is_own, is_clear, is_fine, is_unfine, IsCleanOp}
 use Rattle.lab_deps.specs.declared.kind.OpFault.TheVariants as kind
 use Rattle.lab_deps.proofs.Rows.{no_value_in_map, value_in_map}

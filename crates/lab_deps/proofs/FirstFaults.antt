@@ -4,22 +4,21 @@ use Rattle.std.specs.Prelude.{slice_get, option_map, true, ⊤}
 use Rattle.std.specs.Option.{option_or}
 use Rattle.std.proofs.lemmas.Bool.{false≢true}
 use Rattle.std.proofs.lemmas.Option.{none-some, same_Some}
-use Rattle.lab_table.specs.Row.{Row}
+use Rattle.std.specs.Ordering.{is_lt}
+use Rattle.lab_table.specs.Row.{Row, row_cmp}
 use Rattle.lab_table.proofs.Tests.{mapped_some}
 use Rattle.lab_history.specs.History.{History}
 use Rattle.lab_history.specs.Version.{installers}
 use Rattle.lab_history.specs.declared.operation.Op.{Op}
 use Rattle.lab_deps.specs.Soundness.{IsCommittedOp, Stands, is_writer}
 use Rattle.lab_deps.specs.Broken.{is_broken}
-use Rattle.lab_deps.specs.FaultKinds.{parts_of, op_entry, entry_of, op_fault, row_fault}
+use Rattle.lab_deps.specs.FaultKinds.{op_fault, row_fault}
 use Rattle.lab_deps.specs.Passes.{fault_in, install_row, install_fault, end_row, end_fault}
 use Rattle.lab_deps.specs.FirstFault.{first_fault}
-use Rattle.lab_deps.specs.FaultOrder.{kind_place, ComesBefore, PlaceBefore, Precedes, IsFirst}
+use Rattle.lab_deps.specs.FaultOrder.{kind_place, where_is, ComesBefore, Precedes, IsFirst}
 use Rattle.lab_deps.specs.declared.fault.LocalFault.{LocalFault}
 use Rattle.lab_deps.specs.declared.fault.LocalFault.TheVariants.{Dangling, AbortedRead, IntermediateRead, OwnWriteMissed, LaterThanOwn, RowsDiffer, WritesDiffer, InstallOrder, EndDiffers}
 use Rattle.lab_deps.specs.declared.kind.OpFault.{OpFault}
-use Rattle.lab_deps.specs.declared.fault.FaultParts.{FaultParts}
-use Rattle.lab_deps.specs.declared.fault.FaultParts.TheVariants as parts
 use Rattle.lab_deps.specs.declared.kind.OpFault.TheVariants as kind
 use Rattle.lab_deps.specs.declared.kind.RowFault.{RowFault}
 use Rattle.lab_deps.specs.declared.kind.RowFault.TheVariants as row_kind
@@ -29,7 +28,7 @@ use Rattle.lab_deps.proofs.EndStates.{decides_end, above_end}
 use Rattle.lab_deps.proofs.Found.{either_found, made_of_none, pass_finds_none, pass_finds}
 use Rattle.lab_deps.proofs.InstallPlaces.{above_install, install_stands_not}
 use Rattle.lab_deps.proofs.LaterReads.{later_found}
-use Rattle.lab_deps.proofs.FaultOrders.{op_parts, row_parts}
+use Rattle.lab_deps.proofs.FaultOrders.{op_place, op_told, row_told}
 use Rattle.lab_deps.proofs.MissedWrites.{tested_all}
 use Rattle.lab_deps.proofs.Places.{times}
 use Rattle.lab_deps.proofs.Refusals.{decides_written, at_most_one, found_answers}
@@ -90,8 +89,8 @@ module _ (h : History) where
       fault_in kind.Dangling h ∷ install_fault h ∷ fault_in kind.OwnWriteMissed h ∷ fault_in kind.LaterThanOwn h ∷ fault_in kind.RowsDiffer h ∷ fault_in kind.WritesDiffer h ∷ end_fault h ∷ fault_in kind.AbortedRead h
       ∷ fault_in kind.IntermediateRead h ∷ []
 
-  of_kind : (k : OpFault) (x : LocalFault) → fault_in k h ≡ Some x → kind_place x ≡ (op_entry k).place
-  of_kind k x e = let w = pass_finds k h x e in sym (ap kind_place w.is) ∙ ap (λ p. (entry_of p).place) (op_parts k w.txn w.number w.row)
+  of_kind : (k : OpFault) (x : LocalFault) → fault_in k h ≡ Some x → kind_place x ≡ op_place k
+  of_kind k x e = let w = pass_finds k h x e in sym (ap kind_place w.is) ∙ (op_told k w.txn w.number w.row).0
 
   of_install : (x : LocalFault) → install_fault h ≡ Some x → kind_place x ≡ 1
   of_install x e = let w = mapped_some (row_fault row_kind.InstallOrder) (install_row h) x e in sym (ap kind_place w.2)
@@ -113,12 +112,12 @@ module _ (h : History) where
         from_zero q = omega arith
 
     -- the places of faults of a kind compare as the faults do
-    came : (k : OpFault) (n j : ℕ) (row : Row) (m i : ℕ) (other : Row) → op_fault k m i other ≡ x → PlaceBefore h (parts.Operation k n j row) (parts_of x) → ComesBefore h n j row m i other
-    came k n j row m i other is before = subst (PlaceBefore h (parts.Operation k n j row)) (sym (ap parts_of is) ∙ op_parts k m i other) before
+    came : (k : OpFault) (n j : ℕ) (row : Row) (m i : ℕ) (other : Row) → op_fault k m i other ≡ x → ComesBefore h (n, j, row) (where_is x) → ComesBefore h (n, j, row) (m, i, other)
+    came k n j row m i other is before = subst (ComesBefore h (n, j, row)) (sym (ap where_is is) ∙ (op_told k m i other).1) before
 
     -- no test of a kind is true before the fault that is found
-    op_denied : (k : OpFault) → Reached x (fault_in k h) (op_entry k).place → (n j : ℕ) (op : Op) (row : Row)
-        → ((op_entry k).place < kind_place x) ⊎ (((op_entry k).place ≡ kind_place x) × PlaceBefore h (parts.Operation k n j row) (parts_of x)) → IsCommittedOp h n j op → is_broken k h n j op row ≡ true → ⊥
+    op_denied : (k : OpFault) → Reached x (fault_in k h) (op_place k) → (n j : ℕ) (op : Op) (row : Row)
+        → (op_place k < kind_place x) ⊎ ((op_place k ≡ kind_place x) × ComesBefore h (n, j, row) (where_is x)) → IsCommittedOp h n j op → is_broken k h n j op row ≡ true → ⊥
     op_denied k r n j op row before c t = elim before [
       | inl less ↦ pass_finds_none k h (r.before less) n j op row c t
       | inr w ↦
@@ -127,9 +126,8 @@ module _ (h : History) where
     ]
 
     -- an operation's place comes before what a later one's of its transaction does
-    earlier_too : (p : FaultParts) (n j k : ℕ) (row : Row) → j ≤ k → PlaceBefore h (parts.Operation kind.OwnWriteMissed n k row) p → PlaceBefore h (parts.Operation kind.OwnWriteMissed n j row) p
-    earlier_too (parts.Row apart other) n j k row le before = before
-    earlier_too (parts.Operation same m i other) n j k row le before = elim before [
+    earlier_too : (at : ℕ × ℕ × Row) (n j k : ℕ) (row : Row) → j ≤ k → ComesBefore h (n, k, row) at → ComesBefore h (n, j, row) at
+    earlier_too (m, i, other) n j k row le before = elim before [
       | inl l ↦ inl l
       | inr w ↦ elim w.1 [
         | inl less ↦ inr (w.0, inl (omega (arith, le, less)))
@@ -142,10 +140,16 @@ module _ (h : History) where
         at_most : (j k i : ℕ) → j ≤ k → k ≡ i → (j < i) ⊎ (j ≡ i)
         at_most j k i le is = grind arith
 
-    row_above : (o : Option Row) (kind : RowFault) (row : Row) → option_map (row_fault kind) o ≡ Some x → PlaceBefore h (parts.Row kind row) (parts_of x) → Above o row
+    -- of two places at rows alone the rows tell
+    lesser_row : (row other : Row) → ComesBefore h (0, 0, row) (0, 0, other) → is_lt (row_cmp row other) ≡ true
+    lesser_row row other (inl less) = absurd (omega (arith, less))
+    lesser_row row other (inr (same, inl less)) = absurd (omega (arith, less))
+    lesser_row row other (inr (same, inr (alike, less))) = less
+
+    row_above : (o : Option Row) (kind : RowFault) (row : Row) → option_map (row_fault kind) o ≡ Some x → ComesBefore h (0, 0, row) (where_is x) → Above o row
     row_above o kind row e before =
         let w = mapped_some (row_fault kind) o x e in
-        found_above o w.0 row w.1 (subst (PlaceBefore h (parts.Row kind row)) (sym (ap parts_of w.2) ∙ row_parts kind w.0) before)
+        found_above o w.0 row w.1 (lesser_row row w.0 (subst (ComesBefore h (0, 0, row)) (sym (ap where_is w.2) ∙ (row_told kind w.0).1) before))
 
     not_after : (g : LocalFault) → Precedes h g x → kind_place g ≤ kind_place x
     not_after g before = elim before [ inl l ↦ omega (arith, l) | inr w ↦ let same = w.0 in omega (arith, same) ]
@@ -167,7 +171,7 @@ module _ (h : History) where
     denied (OwnWriteMissed n k row) (op, c, d) before =
         tested_all h n k op row c (λ j o le there t.
         op_denied kind.OwnWriteMissed (at_pass 2 (fault_in kind.OwnWriteMissed h) refl) n j o row
-        (elim before [ inl less ↦ inl less | inr w ↦ inr (w.0, earlier_too (parts_of x) n j k row le w.1) ]) there t) d
+        (elim before [ inl less ↦ inl less | inr w ↦ inr (w.0, earlier_too (where_is x) n j k row le w.1) ]) there t) d
     denied (LaterThanOwn n k row) (op, c, d) before =
         let up_to : 3 ≤ kind_place x = not_after (LaterThanOwn n k row) before in
         let clear : Above (install_row h) row = install_clear (omega (arith, up_to)) row in

@@ -7,11 +7,10 @@ use Rattle.std.specs.FinMap.{find}
 use Rattle.std.proofs.lemmas.Bool.{eq-eqb, false≢true, and_parts}
 use Rattle.std.proofs.lemmas.Option.{none-some, same_Some, slice_get_read}
 use Rattle.lab_table.specs.Row.{Row, row_cmp, row_test, rows_tested}
-use Rattle.lab_history.specs.Version.{last_write, new_state, WritesAt}
+use Rattle.lab_history.specs.Version.{last_write, new_state, WritesAt, is_at}
 use Rattle.lab_history.specs.VersionName.{new_states, state_value}
 use Rattle.lab_history.specs.declared.operation.Op.{Op}
 use Rattle.lab_history.specs.declared.operation.State.{State}
-use Rattle.lab_deps.specs.Passes.{is_at}
 use Rattle.lab_deps.proofs.FineReads.{not_true}
 
 module _ (row : Row) where

@@ -40,7 +40,7 @@ record IsRead (h : History) (k : OpFault) (made : ℕ → ℕ → Row → LocalF
   is : (n j : ℕ) (row : Row) → op_fault k n j row ≡ made n j row
   stands : (n j : ℕ) (op : Op) (row : Row) → IsCommittedOp h n j op → is_broken k h n j op row ≡ true → Stands h (made n j row)
   found : (n j : ℕ) (row : Row) → Stands h (made n j row) → (op : Op) × IsCommittedOp h n j op × (is_broken k h n j op row ≡ true)
-  earlier : (n j : ℕ) (row : Row) (m i : ℕ) (other : Row) → Precedes h (made n j row) (made m i other) → ComesBefore h n j row m i other
+  earlier : (n j : ℕ) (row : Row) (m i : ℕ) (other : Row) → Precedes h (made n j row) (made m i other) → ComesBefore h (n, j, row) (m, i, other)
 
 module _ (h : History) (k : OpFault) (made : ℕ → ℕ → Row → LocalFault) (read : IsRead h k made) where
   stands_so : IfSome (option_and_then read_of (fault_in k h)) (λ read. Stands h (made read.txn read.op read.row))

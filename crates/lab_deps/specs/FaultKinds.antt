@@ -1,5 +1,5 @@
 -- Faults by their kinds: what is said of a kind, and a fault as its kind and its place.
-use Rattle.std.specs.Prelude.{ℕ, Bool, true, false, List, codes}
+use Rattle.std.specs.Prelude.{ℕ, List, codes}
 use Rattle.lab_table.specs.Row.{Row}
 use Rattle.lab_deps.specs.declared.fault.FaultParts.{FaultParts}
 use Rattle.lab_deps.specs.declared.fault.FaultParts.TheVariants as parts
@@ -10,30 +10,25 @@ use Rattle.lab_deps.specs.declared.kind.OpFault.TheVariants as kind
 use Rattle.lab_deps.specs.declared.kind.RowFault.{RowFault}
 use Rattle.lab_deps.specs.declared.kind.RowFault.TheVariants as row_kind
 
--- what is said of a kind of fault: its code, its name, its place in the order of kinds, and whether it is a read of what was never committed
+-- what is said of a kind of fault: its code, as `F1`, and its name
 pub record KindEntry : Type 0 where
   pub code : List ℕ
   pub name : List ℕ
-  pub place : ℕ
-  pub is_read : Bool
 
+-- of a kind of faults at an operation and a row
 abbrev pub op_entry : OpFault → KindEntry
-op_entry kind.Dangling = record { code = codes "F1"; name = codes "Dangling"; place = 0; is_read = false }
-op_entry kind.AbortedRead = record { code = codes "F2"; name = codes "AbortedRead"; place = 7; is_read = true }
-op_entry kind.IntermediateRead = record { code = codes "F3"; name = codes "IntermediateRead"; place = 8; is_read = true }
-op_entry kind.OwnWriteMissed = record { code = codes "F4"; name = codes "OwnWriteMissed"; place = 2; is_read = false }
-op_entry kind.LaterThanOwn = record { code = codes "F5"; name = codes "LaterThanOwn"; place = 3; is_read = false }
-op_entry kind.RowsDiffer = record { code = codes "F6"; name = codes "RowsDiffer"; place = 4; is_read = false }
-op_entry kind.WritesDiffer = record { code = codes "F7"; name = codes "WritesDiffer"; place = 5; is_read = false }
+op_entry kind.Dangling = record { code = codes "F1"; name = codes "Dangling" }
+op_entry kind.AbortedRead = record { code = codes "F2"; name = codes "AbortedRead" }
+op_entry kind.IntermediateRead = record { code = codes "F3"; name = codes "IntermediateRead" }
+op_entry kind.OwnWriteMissed = record { code = codes "F4"; name = codes "OwnWriteMissed" }
+op_entry kind.LaterThanOwn = record { code = codes "F5"; name = codes "LaterThanOwn" }
+op_entry kind.RowsDiffer = record { code = codes "F6"; name = codes "RowsDiffer" }
+op_entry kind.WritesDiffer = record { code = codes "F7"; name = codes "WritesDiffer" }
 
+-- of a kind of faults at a row alone
 abbrev pub row_entry : RowFault → KindEntry
-row_entry row_kind.InstallOrder = record { code = codes "F8"; name = codes "InstallOrder"; place = 1; is_read = false }
-row_entry row_kind.EndDiffers = record { code = codes "F9"; name = codes "EndDiffers"; place = 6; is_read = false }
-
--- what is said of a fault's kind
-abbrev pub entry_of : FaultParts → KindEntry
-entry_of (parts.Operation kind n k row) = op_entry kind
-entry_of (parts.Row kind row) = row_entry kind
+row_entry row_kind.InstallOrder = record { code = codes "F8"; name = codes "InstallOrder" }
+row_entry row_kind.EndDiffers = record { code = codes "F9"; name = codes "EndDiffers" }
 
 -- a fault's kind and place
 abbrev pub parts_of : LocalFault → FaultParts

@@ -2,13 +2,12 @@
 use Rattle.std.specs.Prelude.{◌≡◌, ℕ, suc, ◌==◌, nat_lt, Bool, true, false, not, ◌&&◌, cond, Some, is_some, List, slice_get}
 use Rattle.lab_table.specs.Row.{Row}
 use Rattle.lab_history.specs.History.{History}
-use Rattle.lab_history.specs.Version.{ops_of, outcome_of, version_state, last_write, installers, place_in}
+use Rattle.lab_history.specs.Version.{ops_of, outcome_of, version_state, last_write, installers, place_in, is_at}
 use Rattle.lab_history.specs.declared.operation.Op.{Op}
 use Rattle.lab_history.specs.declared.operation.VersionName.{VersionName}
 use Rattle.lab_history.specs.declared.operation.VersionName.TheVariants.{Initial, Of}
 use Rattle.lab_deps.specs.Soundness.{IsCommittedOp, has_committed}
 use Rattle.lab_deps.specs.Broken.{precedes, is_broken}
-use Rattle.lab_deps.specs.Passes.{is_at}
 use Rattle.lab_deps.specs.declared.kind.OpFault.{OpFault}
 
 -- whether an operation of a committed transaction is the transaction's last that writes a row

@@ -5,9 +5,8 @@ ghost use Rattle.std.specs.Option.{option_copied};
 ghost use Rattle.std.specs.List.{list_all};
 ghost use Rattle.std.specs.FinMap as map;
 ghost use Rattle.lab_table.specs.Row.{row_test};
-ghost use Rattle.lab_history.specs.Version.{find_txn, op_at, version_state, last_write, new_state, ops_of, WritesAt};
+ghost use Rattle.lab_history.specs.Version.{find_txn, op_at, version_state, last_write, new_state, ops_of, WritesAt, is_at};
 ghost use Rattle.lab_history.specs.VersionName.{state_value};
-ghost use Rattle.lab_deps.specs.Passes.{is_at};
 ghost use Rattle.lab_deps.specs.Fine.{is_last};
 
 use crate::near::value_near;

@@ -1,14 +1,13 @@
-//! Histories of recordings: scripts over two tables made by a rule, each played on the three engines.
+//! Histories of recordings: scripts over two tables made by a rule, each played on the four engines.
 
 ghost use Rattle.std.specs.Prelude.{◌≡◌, []};
 
 use crate::alike::{Both, edges_by_both};
 use lab_engine::{Engine, Recording};
 use lab_history_file::write_history;
-use lab_locking::LockEngine;
+use lab_levels::{LEVELS, on_engine};
 use lab_script::{Script, parse_script};
 use lab_session::play_script;
-use lab_versions::{CommittedEngine, SnapshotEngine};
 use std::alloc::{AllocError, Global};
 use std::test::Fail;
 
@@ -123,15 +122,20 @@ fn edges_of_play<E: Engine + Drop>(
     edges
 }
 
-/// How many edges the plays of a script on the three engines have together.
+/// How many edges the plays of a script on the engines have together.
 fn edges_of_plays(alloc: Global, script: &Script) -> Result<usize, &'static str> {
-    let setup = script.setup.copy(alloc).ok().ok_or("memory")?;
-    let locking = edges_of_play(alloc, LockEngine::new(alloc, setup), script)?;
-    let setup = script.setup.copy(alloc).ok().ok_or("memory")?;
-    let committed = edges_of_play(alloc, CommittedEngine::new(alloc, setup), script)?;
-    let setup = script.setup.copy(alloc).ok().ok_or("memory")?;
-    let snapshot = edges_of_play(alloc, SnapshotEngine::new(alloc, setup), script)?;
-    Ok(locking.wrapping_add(committed).wrapping_add(snapshot))
+    let mut edges = 0usize;
+    for level in LEVELS {
+        let setup = script.setup.copy(alloc).ok().ok_or("memory")?;
+        let played = on_engine!(
+            level,
+            alloc,
+            setup,
+            |engine| edges_of_play(alloc, engine, script)
+        );
+        edges = edges.wrapping_add(played?);
+    }
+    Ok(edges)
 }
 
 /// How many edges the plays of the script that a seed chooses have together.

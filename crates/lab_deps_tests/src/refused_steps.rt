@@ -5,11 +5,10 @@ ghost use Rattle.std.specs.Prelude.{◌<◌, length};
 ghost use Rattle.lab_engine.specs.Limits.{max_events};
 
 use lab_engine::{Engine, EngineFault, Level, LogEvent, MAX_EVENTS, Outcome};
-use lab_locking::LockEngine;
+use lab_levels::on_engine;
 use lab_refusal_tests::{refuse, was_refused};
 use lab_script::{Line, Script, parse_script};
 use lab_table::{NoMemory, Session};
-use lab_versions::{CommittedEngine, SnapshotEngine};
 use std::alloc::{AllocError, Global};
 use std::process::Abort;
 use std::test::Fail;
@@ -248,43 +247,17 @@ fn is_refused_at(
     growth: u16,
 ) -> Result<bool, &'static str> {
     let play = Play {
-        waits: level != Level::Snapshot,
+        waits: matches!(level, Level::Locking | Level::Committed),
         copies,
     };
     let setup = script.setup.copy(alloc).ok().ok_or("memory")?;
     let lines = script.lines.as_slice();
-    match level {
-        Level::Locking => {
-            is_refused(
-                alloc,
-                LockEngine::new(alloc, setup),
-                lines,
-                play,
-                place,
-                growth,
-            )
-        }
-        Level::Committed => {
-            is_refused(
-                alloc,
-                CommittedEngine::new(alloc, setup),
-                lines,
-                play,
-                place,
-                growth,
-            )
-        }
-        Level::Snapshot => {
-            is_refused(
-                alloc,
-                SnapshotEngine::new(alloc, setup),
-                lines,
-                play,
-                place,
-                growth,
-            )
-        }
-    }
+    on_engine!(
+        level,
+        alloc,
+        setup,
+        |engine| is_refused(alloc, engine, lines, play, place, growth)
+    )
 }
 
 /// Fails where a turn isn't right with one of its allocations refused, or has no last allocation.
@@ -331,7 +304,8 @@ fn shows_levels(
 ) -> Result<(), &'static str> {
     shows_turns(rt, alloc, Level::Locking, copies, script, 7)?;
     shows_turns(rt, alloc, Level::Committed, copies, script, 7)?;
-    shows_turns(rt, alloc, Level::Snapshot, copies, script, 6)
+    shows_turns(rt, alloc, Level::Snapshot, copies, script, 6)?;
+    shows_turns(rt, alloc, Level::Optimistic, copies, script, 6)
 }
 
 /// The same of the script.

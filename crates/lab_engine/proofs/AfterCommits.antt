@@ -1,10 +1,9 @@
 -- Whom a commit leaves blocked as before: those whom its transaction didn't block.
-use Rattle.std.proofs.Common.{◌≡◌, ◌≢◌, ℕ, refl, sym, ap, subst, ◌∙◌, false, cond, ◌||◌, ◌↔◌, ◌⊎◌, inl, inr, List, ◌∷◌, Option, Some, None, option_map, is_some, unwrap_or, IsTrue, IsSome, ℤ}
 use Rattle.lab_table.specs.Statement.{kind_matches, kind_would_write, applied, new_state}
-use Rattle.lab_table.specs.declared.statement.StatementKind.{StatementKind}
 use Rattle.lab_table.specs.declared.statement.StatementKind.TheVariants.{Select, Update, Insert, Delete}
-use Rattle.lab_engine.proofs.Common.{Blocks, Command, Committed, Level, Past, Row, State, Statement, Table, Txn, Version, active, both_ways, commits, commits_after, committed_version, false_from_ne_true, has_read, initial_version, last_installed, matches, option_or, or_parts, seen, version_by, would_write}
-use Rattle.lab_engine.specs.declared.event.Level.TheVariants.{Locking, Snapshot, Committed as ReadCommitted}
+use Rattle.lab_engine.proofs.Common.{active, ap, Blocks, Bool, both_ways, Command, commits, commits_after, Committed, committed_version, cond, false, false_from_ne_true, has_read, initial_version, inl, inr, is_some, IsSome, IsTrue, last_installed, Level, List, matches, None, Option, option_map, option_or, or_parts, Past, refl, Row, rules_of, seen, sees_as_of_begin, Some, State, Statement, StatementKind, subst, sym, Table, true, Txn, unwrap_or, Version, version_by, would_write, ℕ, ℤ, ◌||◌, ◌↔◌, ◌∙◌, ◌∷◌, ◌≡◌, ◌⊎◌}
+use Rattle.lab_engine.proofs.Blockers.{blocks_by_match, blocks_by_write, blocks_map}
+use Rattle.lab_engine.proofs.RuleTables.{readers_locked}
 
 -- what a statement wouldn't write in one state it wouldn't write in one that it doesn't match either
 still_unwritten : (t : List ℕ) (kind : StatementKind) (row : Row) (old new : State) → kind_matches t kind row new ≡ false → kind_would_write t kind row old ≡ false
@@ -34,21 +33,34 @@ seen_as : (s : Statement) (row : Row) (old new : Version) → Alike s row old ne
 seen_as s row old new (inl same) writes = same
 seen_as s row old new (inr (before, now)) writes = absurd (both_ways _ before writes)
 
--- at locking who blocks a statement after one log blocks it after another, in which it matches the same and what it would write is seen the same
-blocks_over : (setup : Table) (past after : Past) (asker : Txn) (s : Statement) (holder : Txn)
-    → ((row : Row) → matches s row (committed_version setup past row).state ≡ matches s row (committed_version setup after row).state)
-    → ((row : Row) → IsTrue (would_write s row (seen Locking setup past asker row).state) → seen Locking setup past asker row ≡ seen Locking setup after asker row)
-    → Blocks Locking setup past asker s holder → Blocks Locking setup after asker s holder
-blocks_over setup past after asker s holder same seen_same (inl (row, pending, is, match)) =
-    inl (row, pending, is, subst (λ b. IsTrue (b || matches s row pending.state)) (same row) match)
-blocks_over setup past after asker s holder same seen_same (inr (inl (row, some, writes))) =
-    inr (inl (row, some, subst (λ (v : Version). IsTrue (would_write s row v.state)) (seen_same row writes) writes))
-blocks_over setup past after asker s holder same seen_same (inr (inr (row, writes, read))) =
-    let now = subst (λ (v : Version). IsTrue (would_write s row v.state) × IsTrue (has_read holder.ops row v.state || has_read holder.ops row (new_state s row v.state)))
-    (seen_same row writes) (writes, read) in
-    inr (inr (row, now.0, now.1))
+module _ (level : Level) (setup : Table) (asker : Txn) where
+  -- a row whose committed version is the same is seen the same
+  seen_same : (past after : Past) (row : Row) → committed_version setup past row ≡ committed_version setup after row → seen level setup past asker row ≡ seen level setup after asker row
+  seen_same past after row same = ap (unwrap_or (version_by asker row)) (at (sees_as_of_begin level))
+    where
+      at : (begin : Bool) → committed_version setup (cond begin asker.before past) row ≡ committed_version setup (cond begin asker.before after) row
+      at true = refl
+      at false = same
 
-module _ (setup : Table) (past : Past) (e : ℕ) (command : Command) (t : Txn) (is : active past e ≡ Some t) where
+  -- who blocks a statement after one log blocks it after another, in which it matches the same and what it would write is seen the same
+  blocks_over : (past after : Past) (s : Statement) (holder : Txn)
+      → ((rules_of level).match_blocks ≡ true → (row : Row) → matches s row (committed_version setup past row).state ≡ matches s row (committed_version setup after row).state)
+      → ((rules_of level).write_blocks ≡ true → (row : Row) → IsSome (version_by holder row) → seen level setup past asker row ≡ seen level setup after asker row)
+      → ((rules_of level).read_blocks ≡ true → (row : Row) → IsTrue (would_write s row (seen level setup past asker row).state) → seen level setup past asker row ≡ seen level setup after asker row)
+      → Blocks level setup past asker s holder → Blocks level setup after asker s holder
+  blocks_over past after s holder matched written read = blocks_map level setup past asker s holder after holder
+      (λ on h. (h.0, h.1, h.2, subst (λ b. IsTrue (b || matches s h.0 h.1.state)) (matched on h.0) h.3))
+      (λ on h. (h.0, h.1, subst (λ (v : Version). IsTrue (would_write s h.0 v.state)) (written on h.0 h.1) h.2))
+      (λ on h. let now = subst (λ (v : Version). IsTrue (would_write s h.0 v.state) × IsTrue (has_read holder.ops h.0 v.state || has_read holder.ops h.0 (new_state s h.0 v.state)))
+      (read on h.0 h.1) (h.1, h.2) in (h.0, now.0, now.1))
+
+  -- so it is where all that is committed is the same
+  pub blocks_alike : (past after : Past) (s : Statement) (holder : Txn) → ((row : Row) → committed_version setup past row ≡ committed_version setup after row)
+      → Blocks level setup past asker s holder → Blocks level setup after asker s holder
+  blocks_alike past after s holder same = blocks_over past after s holder (λ on row. ap (λ (v : Version). matches s row v.state) (same row))
+      (λ on row some. seen_same past after row (same row)) (λ on row would. seen_same past after row (same row))
+
+module _ (level : Level) (setup : Table) (past : Past) (e : ℕ) (command : Command) (t : Txn) (is : active past e ≡ Some t) where
   abbrev after : Past
   after = record { session = e; command = command; outcome = Committed } ∷ past
 
@@ -59,37 +71,37 @@ module _ (setup : Table) (past : Past) (e : ℕ) (command : Command) (t : Txn) (
   committed_is row (Some v) some = ap (λ o. unwrap_or (last_installed (commits_after Committed o (commits past)) row) (initial_version setup row)) is
       ∙ ap (λ o. unwrap_or (option_or o (last_installed (commits past) row)) (initial_version setup row)) some
 
-  module _ (asker : Txn) (s : Statement) where
-    module _ (free : ¬ Blocks Locking setup past asker s t) where
-      -- what the transaction wrote the statement matches neither as it was nor as it is
-      unmatched : (row : Row) (v : Version) → version_by t row ≡ Some v → (matches s row (committed_version setup past row).state ≡ false) × (matches s row v.state ≡ false)
-      unmatched row v some = or_parts _ _ (false_from_ne_true _ (λ h. free (inl (row, v, some, h))))
+  module _ (asker : Txn) (s : Statement) (free : ¬ Blocks level setup past asker s t) where
+    -- what the transaction wrote the statement matches neither as it was nor as it is
+    unmatched : (rules_of level).match_blocks ≡ true → (row : Row) (v : Version) → version_by t row ≡ Some v
+        → (matches s row (committed_version setup past row).state ≡ false) × (matches s row v.state ≡ false)
+    unmatched on row v some = or_parts _ _ (false_from_ne_true _ (λ h. free (blocks_by_match level setup past asker s t on (row, v, some, h))))
 
-      match_as : (row : Row) (own : Option Version) → version_by t row ≡ own → matches s row (committed_version setup past row).state ≡ matches s row (committed_version setup after row).state
-      match_as row None none = ap (λ (v : Version). matches s row v.state) (sym (committed_is row None none))
-      match_as row (Some v) some = let off = unmatched row v some in off.0 ∙ sym off.1 ∙ ap (λ (k : Version). matches s row k.state) (sym (committed_is row (Some v) some))
+    match_as : (rules_of level).match_blocks ≡ true → (row : Row) (own : Option Version) → version_by t row ≡ own
+        → matches s row (committed_version setup past row).state ≡ matches s row (committed_version setup after row).state
+    match_as on row None none = ap (λ (v : Version). matches s row v.state) (sym (committed_is row None none))
+    match_as on row (Some v) some = let off = unmatched on row v some in off.0 ∙ sym off.1 ∙ ap (λ (k : Version). matches s row k.state) (sym (committed_is row (Some v) some))
 
-      alike : (row : Row) (own : Option Version) → version_by t row ≡ own → Alike s row (seen Locking setup past asker row) (seen Locking setup after asker row)
-      alike row None none = inl (ap (unwrap_or (version_by asker row)) (sym (committed_is row None none)))
-      alike row (Some v) some =
-          let off = unmatched row v some in
-          subst (λ (k : Version). Alike s row (seen Locking setup past asker row) (unwrap_or (version_by asker row) k)) (sym (committed_is row (Some v) some))
-          (alike_over s row (version_by asker row) (committed_version setup past row) v off.1 (false_from_ne_true _ (λ h. free (inr (inl (row, ap is_some some, h))))))
+    alike_at : (begin : Bool) (row : Row) → matches s row (committed_version setup after row).state ≡ false
+        → would_write s row (unwrap_or (version_by asker row) (committed_version setup (cond begin asker.before past) row)).state ≡ false
+        → Alike s row (unwrap_or (version_by asker row) (committed_version setup (cond begin asker.before past) row)) (unwrap_or (version_by asker row) (committed_version setup (cond begin asker.before after) row))
+    alike_at true row off h = inl refl
+    alike_at false row off h = alike_over s row (version_by asker row) (committed_version setup past row) (committed_version setup after row) off h
 
-    -- who wrote no row that the transaction wrote blocks as before
-    writes_over : (from to : Past) (holder : Txn) → ((row : Row) → IsSome (version_by holder row) → seen ReadCommitted setup from asker row ≡ seen ReadCommitted setup to asker row)
-        → Blocks ReadCommitted setup from asker s holder → Blocks ReadCommitted setup to asker s holder
-    writes_over from to holder same (row, some, writes) = (row, some, subst (λ (v : Version). IsTrue (would_write s row v.state)) (same row some) writes)
+    alike : (rules_of level).read_blocks ≡ true → (row : Row) (own : Option Version) → version_by t row ≡ own → Alike s row (seen level setup past asker row) (seen level setup after asker row)
+    alike on row None none = inl (seen_same level setup asker past after row (sym (committed_is row None none)))
+    alike on row (Some v) some =
+        let all = readers_locked level on in
+        alike_at (sees_as_of_begin level) row (ap (λ (k : Version). matches s row k.state) (committed_is row (Some v) some) ∙ (unmatched all.0 row v some).1)
+        (false_from_ne_true _ (λ h. free (blocks_by_write level setup past asker s t all.1 (row, ap is_some some, h))))
 
     -- the others block the statement as before
-    pub still_blocked : (level : Level) → ¬ Blocks level setup past asker s t → (holder : Txn) → (level ≢ Snapshot → (row : Row) → IsSome (version_by holder row) → version_by t row ≡ None)
+    pub still_blocked : (holder : Txn) → ((rules_of level).write_blocks ≡ true → (row : Row) → IsSome (version_by holder row) → version_by t row ≡ None)
         → Blocks level setup after asker s holder ↔ Blocks level setup past asker s holder
-    still_blocked Locking free holder apart = (
-      blocks_over setup after past asker s holder (λ row. sym (match_as free row (version_by t row) refl))
-          (λ row would. elim (alike free row (version_by t row) refl) [ inl same ↦ sym same | inr off ↦ absurd (both_ways _ off.1 would) ]),
-      blocks_over setup past after asker s holder (λ row. match_as free row (version_by t row) refl) (λ row. seen_as s row _ _ (alike free row (version_by t row) refl)),
-    )
-    still_blocked ReadCommitted free holder apart =
-        let same = λ (row : Row) (some : IsSome (version_by holder row)). ap (unwrap_or (version_by asker row)) (committed_is row None (apart (λ eq. cc) row some)) in
-        (writes_over after past holder same, writes_over past after holder (λ row some. sym (same row some)))
-    still_blocked Snapshot free holder apart = ((λ b. b), (λ b. b))
+    still_blocked holder apart =
+        let same = λ (on : (rules_of level).write_blocks ≡ true) (row : Row) (some : IsSome (version_by holder row)). committed_is row None (apart on row some) in (
+          blocks_over level setup asker after past s holder (λ on row. sym (match_as on row (version_by t row) refl)) (λ on row some. seen_same level setup asker after past row (same on row some))
+              (λ on row would. elim (alike on row (version_by t row) refl) [ inl eq ↦ sym eq | inr off ↦ absurd (both_ways _ off.1 would) ]),
+          blocks_over level setup asker past after s holder (λ on row. match_as on row (version_by t row) refl) (λ on row some. seen_same level setup asker past after row (sym (same on row some)))
+              (λ on row. seen_as s row _ _ (alike on row (version_by t row) refl)),
+        )

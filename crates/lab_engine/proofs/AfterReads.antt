@@ -1,10 +1,8 @@
 -- A statement that writes nothing frees nobody. It blocks nobody more where the level doesn't ask what was read, and none that only lists rows.
-use Rattle.std.proofs.Common.{◌≡◌, ◌+◌, refl, arith, sym, ap, ◌∙◌, false, true, ◌==◌, ◌⊎◌, inl, inr, length, is_some, IsTrue}
 use Rattle.std.specs.FinMap as map
 use Rattle.lab_table.proofs.OneRow.{reader_writes_none}
-use Rattle.lab_engine.proofs.Common.{Blocks, Level, Op, Past, Row, Statement, Table, Txn, Writes, both_ways, eqb-true, grown, is_read_only, keeps_statements, row_cmp, version_by, version_or}
-use Rattle.lab_engine.specs.Rules.{HasRead}
-use Rattle.lab_engine.specs.declared.event.Level.TheVariants.{Locking, Snapshot, Committed as ReadCommitted}
+use Rattle.lab_engine.proofs.Common.{ap, arith, Blocks, both_ways, eqb-true, false, grown, HasRead, inl, inr, is_read_only, is_some, IsTrue, keeps_statements, length, Level, Op, Past, Row, row_cmp, rules_of, Statement, sym, Table, true, Txn, version_by, version_or, Writes, ◌+◌, ◌==◌, ◌||◌, ◌∙◌, ◌≡◌, ◌⊎◌}
+use Rattle.lab_engine.proofs.Blockers.{blocks_map}
 
 -- what is read is of no weight to a statement
 abbrev pub Unasked : Level → Statement → Type 0
@@ -13,11 +11,8 @@ Unasked level s = (keeps_statements level ≡ false) ⊎ (is_read_only s ≡ tru
 -- who has the same versions as another blocks a statement as that one does, where what it has read is of weight only if what the other has read is
 blocks_as : (level : Level) (setup : Table) (past : Past) (asker : Txn) (s : Statement) (one other : Txn) → ((row : Row) → version_by one row ≡ version_by other row)
     → (IsTrue (keeps_statements level) → HasRead level setup past asker s one → HasRead level setup past asker s other) → Blocks level setup past asker s one → Blocks level setup past asker s other
-blocks_as Locking setup past asker s one other same read (inl (row, pending, is, match)) = inl (row, pending, sym (same row) ∙ is, match)
-blocks_as Locking setup past asker s one other same read (inr (inl (row, some, would))) = inr (inl (row, sym (ap is_some (same row)) ∙ some, would))
-blocks_as Locking setup past asker s one other same read (inr (inr had)) = inr (inr (read refl had))
-blocks_as ReadCommitted setup past asker s one other same read (row, some, would) = (row, sym (ap is_some (same row)) ∙ some, would)
-blocks_as Snapshot setup past asker s one other same read b = b
+blocks_as level setup past asker s one other same read = blocks_map level setup past asker s one past other (λ on h. (h.0, h.1, sym (same h.0) ∙ h.2, h.3))
+    (λ on h. (h.0, sym (ap is_some (same h.0)) ∙ h.1, h.2)) (λ on. read (ap (λ b. b || (rules_of level).read_clashes) on))
 
 module _ (level : Level) (setup : Table) (past : Past) (asker : Txn) (s : Statement) (holder : Txn) (op : Op) (none : IsTrue (map.len op.writes == 0)) where
   same : (row : Row) → version_by (grown holder op) row ≡ version_by holder row

@@ -1,8 +1,5 @@
 -- What an answer may be, by who gives the command, and which.
-use Rattle.std.proofs.Common.{◌≡◌, ◌≢◌, ◌⊎◌, inl, inr, ℕ, ◌+◌, refl, sym, ap, subst, false, List, [], Some, None, ◌↔◌, Contains, IsTrue}
-use Rattle.lab_engine.proofs.Common.{Abort, Aborted, AlreadyBegun, Answers, Begin, Begun, BlockedBy, Busy, Command, Commit, Committed, Conflicts, Deadlock, DuplicateKey, IsBelow, IsCircle, IsEffect, IsFree, IsInsertOf, IsLeastCircle, IsStrictlyIncreasing, IsUpdate, Level, Listed, MayCommit, NoTransaction, OutOfRange, Outcome, Past, Refused, Row, Rows, Run, Statement, Table, Txn, View, Waits, WriteConflict, Writes, active, begun, fails, seen}
-use Rattle.lab_engine.specs.declared.event.Level.TheVariants.{Snapshot}
-use Rattle.lab_engine.specs.declared.event.EngineFault.{EngineFault}
+use Rattle.lab_engine.proofs.Common.{Abort, Aborted, active, AlreadyBegun, Answers, ap, Begin, Begun, begun, BlockedBy, Busy, Command, Commit, Committed, conflict_fault, ConflictKind, Contains, Deadlock, DuplicateKey, EngineFault, fails, false, inl, inr, IsBelow, IsCircle, IsEffect, IsFirstConflict, IsFree, IsInsertOf, IsLeastCircle, IsStrictlyIncreasing, IsTrue, IsUpdate, Level, List, Listed, MayCommit, None, NoTransaction, Outcome, OutOfRange, Past, Read, ReadConflict, refl, Refused, Row, Rows, Run, seen, Some, Statement, subst, sym, Table, Txn, View, Waits, Write, WriteConflict, Writes, [], ℕ, ◌+◌, ◌↔◌, ◌≡◌, ◌≢◌, ◌⊎◌}
 
 -- a row is the least at which an update fails
 pub record IsFirstFailing (level : Level) (setup : Table) (past : Past) (txn : Txn) (s : Statement) (row : Row) : Type 0 where
@@ -28,17 +25,11 @@ abbrev pub HeldAnswer : Level → Table → Past → ℕ → Statement → Outco
 HeldAnswer level setup past session s outcome = ((on : List ℕ) × AreAllBlockers level setup past session s on × (outcome ≡ Waits on))
     ⊎ ((circle : List ℕ) × IsLeastCircle level setup past session s circle × (outcome ≡ Refused (Deadlock circle)))
 
--- a row is the least at which a commit conflicts
-pub record IsLeastConflict (level : Level) (past : Past) (txn : Txn) (row : Row) (by : ℕ) : Type 0 where
-  pub snapshot : level ≡ Snapshot
-  pub conflict : Conflicts past txn row by
-  pub least : (other : Row) (number : ℕ) → IsBelow other row → ¬ Conflicts past txn other number
-
 -- to a command of an active transaction
 abbrev pub TxnAnswer : Level → Table → Past → ℕ → Txn → Command → Outcome → Type 0
 TxnAnswer level setup past session txn Begin outcome = outcome ≡ Refused AlreadyBegun
-TxnAnswer level setup past session txn Commit outcome = (MayCommit level past txn × (outcome ≡ Committed))
-    ⊎ ((row : Row) × (by : ℕ) × IsLeastConflict level past txn row by × (outcome ≡ Refused (WriteConflict row by)))
+TxnAnswer level setup past session txn Commit outcome = (MayCommit level setup past txn × (outcome ≡ Committed))
+    ⊎ ((kind : ConflictKind) × (row : Row) × (by : ℕ) × IsFirstConflict level setup past txn kind row by × (outcome ≡ Refused (conflict_fault kind row by)))
 TxnAnswer level setup past session txn Abort outcome = outcome ≡ Aborted
 TxnAnswer level setup past session txn (Run s) outcome = (IsFree level setup past session s × FreeAnswer level setup past txn s outcome) ⊎ HeldAnswer level setup past session s outcome
 
@@ -64,8 +55,8 @@ module _ (level : Level) (setup : Table) (past : Past) (session : ℕ) (command 
       of_txn (Run s) txn _ asks.command_is asks.active_is (inl (free, inr (inr (row, record { update = update; there = there; least = first }, refl))))
   refusal_known (Deadlock circle) ((s, txn, asks, is), busy, least) =
       of_txn (Run s) txn _ asks.command_is asks.active_is (inr (inr (circle, least s asks.command_is circle refl, refl)))
-  refusal_known (WriteConflict row by) ((txn, gives, snapshot, conflict, first), busy, least) =
-      of_txn Commit txn _ gives.command_is gives.active_is (inr (row, by, record { snapshot = snapshot; conflict = conflict; least = first }, refl))
+  refusal_known (WriteConflict row by) ((txn, gives, first), busy, least) = of_txn Commit txn _ gives.command_is gives.active_is (inr (Write, row, by, first, refl))
+  refusal_known (ReadConflict row by) ((txn, gives, first), busy, least) = of_txn Commit txn _ gives.command_is gives.active_is (inr (Read, row, by, first, refl))
   refusal_known NoTransaction ((none, isnt), busy, least) = inl (none, inr (isnt, refl))
   refusal_known AlreadyBegun ((txn, gives), busy, least) = of_txn Begin txn _ gives.command_is gives.active_is refl
   refusal_known Busy (p, busy, least) = absurd (busy refl)

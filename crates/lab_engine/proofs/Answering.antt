@@ -1,11 +1,7 @@
 -- What a session gives, and what the rules answer to it.
-use Rattle.std.proofs.Common.{◌≡◌, ◌≢◌, ℕ, Bool, true≢false, Option, Some, None, inl, inr, List, [], ◌∷◌, length, sym, ap, subst, ◌∙◌, arith, refl}
 use Rattle.std.specs.Prelude.{MatchOption, Result, IfOk, Contains, is_some, true, false, ◌==◌}
 use Rattle.std.specs.declared.alloc.AllocError.{AllocError}
-use Rattle.lab_engine.proofs.Common.{Aborted, AlreadyBegun, Answers, AreBlockers, Asks, Begun, Busy, Command, Committed, Deadlock, DuplicateKey, Gives, IfOk-weaker, IsCircle, IsEffect, IsEffectOn, IsFree, IsLeastCircle, IsRefusalOn, IsResultOn, Level, Listed, MayAsk, MayCommit, MayGive, NoTransaction, OutOfRange, Outcome, Past, Refused, Row, Rows, Run, Statement, Table, Txn, Version, View, Waits, WriteConflict, Writes, active, asked, fails, in_view, listed, seen, waiting, written}
-use Rattle.lab_engine.specs.declared.event.EngineFault.{EngineFault}
-use Rattle.lab_engine.specs.Sight.{IsFirstConflict}
-use Rattle.lab_engine.specs.declared.rules.Conflict.{Conflict}
+use Rattle.lab_engine.proofs.Common.{active, Answers, ap, AreBlockers, arith, asked, Asks, Bool, Command, Commit, Conflict, conflict_fault, ConflictKind, Deadlock, DuplicateKey, EngineFault, fails, Gives, IfOk-weaker, in_view, inl, inr, IsCircle, IsEffect, IsEffectOn, IsFirstConflict, IsFree, IsLeastCircle, IsRefusalOn, IsResultOn, length, Level, List, Listed, listed, MayAsk, MayCommit, MayGive, None, Option, Outcome, OutOfRange, Past, Read, refl, Refused, Row, Rows, Run, seen, Some, Statement, subst, sym, Table, true≢false, Txn, Version, View, waiting, Waits, Write, Writes, written, [], ℕ, ◌∙◌, ◌∷◌, ◌≡◌, ◌≢◌}
 
 -- a command that runs no statement is given at rest
 at_rest : (past : Past) (session : ℕ) (command : Command) → asked command ≡ None → MayGive past session command → waiting past session ≡ None
@@ -66,19 +62,12 @@ module _ (level : Level) (setup : Table) (past : Past) (session : ℕ) (s : Stat
       (λ eq. cc),
       λ t run circle eq. cc,
     )
-    refusal_answers (Deadlock circle) f = absurd f
-    refusal_answers (WriteConflict row by) f = absurd f
-    refusal_answers NoTransaction f = absurd f
-    refusal_answers AlreadyBegun f = absurd f
-    refusal_answers Busy f = absurd f
+    refusal_answers other f = absurd f
 
     result_answers : (outcome : Outcome) → IsResultOn shown s outcome → Answers level setup past session (Run s) outcome
-    result_answers (Begun number) f = absurd f
     result_answers (Listed view rows writes) f = ((s, txn, asks, free, effect view rows writes f), (λ eq. cc), λ t run circle eq. cc)
-    result_answers Committed f = absurd f
-    result_answers Aborted f = absurd f
-    result_answers (Waits on) f = absurd f
     result_answers (Refused fault) f = refusal_answers fault f
+    result_answers other f = absurd f
 
     pub unblocked_answers : (r : Result Outcome AllocError) → IfOk r (IsResultOn shown s) → IfOk r (Answers level setup past session (Run s))
     unblocked_answers r f = IfOk-weaker r (IsResultOn shown s) (Answers level setup past session (Run s)) result_answers f
@@ -122,15 +111,20 @@ pub some_empty : (shown xs : List ℕ) → shown ≡ xs → (length shown == 0) 
 some_empty shown xs same is none = let len : length shown ≡ length {A = ℕ} [] = ap length (same ∙ none) in grind (arith, len, is)
 
 -- what the rules say of a commit, where they found no conflict and where they found one
-abbrev Looked : Level → Past → Txn → Option Conflict → Type 0
-Looked level past txn found = MatchOption found (MayCommit level past txn) (IsFirstConflict level past txn)
+abbrev Looked : Level → Table → Past → Txn → Option Conflict → Type 0
+Looked level setup past txn found = MatchOption found (MayCommit level setup past txn) (λ c. IsFirstConflict level setup past txn c.kind c.row c.by)
 
-pub conflict_none : (level : Level) (past : Past) (txn : Txn) (found : Option Conflict) → found ≡ None → Looked level past txn found → MayCommit level past txn
-conflict_none level past txn found none looked = subst (Looked level past txn) none looked
+module _ (level : Level) (setup : Table) (past : Past) (txn : Txn) (found : Option Conflict) where
+  pub conflict_none : found ≡ None → Looked level setup past txn found → MayCommit level setup past txn
+  conflict_none none looked = subst (Looked level setup past txn) none looked
 
-pub conflict_some : (level : Level) (past : Past) (txn : Txn) (found : Option Conflict) (conflict : Conflict) → found ≡ Some conflict → Looked level past txn found
-    → IsFirstConflict level past txn conflict
-conflict_some level past txn found conflict some looked = subst (Looked level past txn) some looked
+  pub conflict_some : (session : ℕ) (command : Command) (conflict : Conflict) → found ≡ Some conflict → Looked level setup past txn found → Gives past session command Commit txn
+      → Answers level setup past session command (Refused (conflict_fault conflict.kind conflict.row conflict.by))
+  conflict_some session command conflict some looked gives = at conflict.kind (subst (Looked level setup past txn) some looked)
+    where
+      at : (kind : ConflictKind) → IsFirstConflict level setup past txn kind conflict.row conflict.by → Answers level setup past session command (Refused (conflict_fault kind conflict.row conflict.by))
+      at Write first = ((txn, gives, first), (λ eq. cc), λ s run circle eq. cc)
+      at Read first = ((txn, gives, first), (λ eq. cc), λ s run circle eq. cc)
 
 -- what is answered to a statement is answered to the command that runs it
 pub ran : (level : Level) (setup : Table) (past : Past) (session : ℕ) (r : Result Outcome AllocError) (command given : Command) → command ≡ given

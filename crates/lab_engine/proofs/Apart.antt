@@ -1,8 +1,7 @@
--- No two active transactions have written the same row, at locking and read committed.
-use Rattle.std.proofs.Common.{◌≡◌, ◌≢◌, ℕ, refl, sym, ap, subst, ◌∙◌, [], ◌∷◌, Some, None, Option, option_map, is_some, inl, inr}
+-- No two active transactions have written the same row, where who would write it waits.
 use Rattle.std.specs.FinMap as map
-use Rattle.lab_engine.proofs.Common.{Begun, Blocks, Command, HoldsWrite, IsEffect, IsFree, IsLegal, Level, Listed, Op, Outcome, Past, Permitted, Row, Rows, Run, State, Statement, Table, Txn, Version, View, Writes, active, active_after, grown, none_of, none_some, same_Some, version_by, version_or}
-use Rattle.lab_engine.specs.declared.event.Level.TheVariants.{Locking, Snapshot, Committed as ReadCommitted}
+use Rattle.lab_engine.proofs.Common.{active, active_after, ap, Begun, Command, grown, is_some, IsEffect, IsFree, IsLegal, Level, Listed, None, none_of, none_some, Op, Option, option_map, Outcome, Past, Permitted, refl, Row, Rows, rules_of, Run, same_Some, Some, State, Statement, subst, sym, Table, true, Txn, Version, version_by, version_or, View, Writes, [], ℕ, ◌∙◌, ◌∷◌, ◌≡◌, ◌≢◌}
+use Rattle.lab_engine.proofs.Blockers.{blocks_by_write}
 use Rattle.lab_engine.proofs.LockSteps.{AllOff, step, was_active, left, begins}
 
 -- another transaction hasn't written a row of which one has a pending version
@@ -12,13 +11,7 @@ unwritten row v other = version_by other row ≡ None
 abbrev pub WritesApart : Past → Type 0
 WritesApart past = AllOff unwritten (active past)
 
--- there a transaction blocks each statement that would write a row that it has written
-write_blocks : (level : Level) → level ≢ Snapshot → (setup : Table) (past : Past) (asker : Txn) (s : Statement) (holder : Txn) → HoldsWrite level setup past asker s holder → Blocks level setup past asker s holder
-write_blocks Locking locks setup past asker s holder w = inr (inl w)
-write_blocks ReadCommitted locks setup past asker s holder w = w
-write_blocks Snapshot locks setup past asker s holder w = absurd (locks refl)
-
-module _ (level : Level) (locks : level ≢ Snapshot) (setup : Table) (past : Past) (e : ℕ) (asker : Txn) (s : Statement) (view : View) (rows : Rows) (writes : Writes)
+module _ (level : Level) (locks : (rules_of level).write_blocks ≡ true) (setup : Table) (past : Past) (e : ℕ) (asker : Txn) (s : Statement) (view : View) (rows : Rows) (writes : Writes)
     (is_asker : active past e ≡ Some asker) (free : IsFree level setup past e s) (effect : IsEffect level setup past asker s view rows writes) (all : WritesApart past) where
   abbrev op : Op
   op = record { statement = s; view = view; rows = rows; writes = writes }
@@ -31,7 +24,7 @@ module _ (level : Level) (locks : level ≢ Snapshot) (setup : Table) (past : Pa
     apart,
     is_asker,
     is_u,
-    write_blocks level locks setup past asker s u (row, some, ap is_some (sym (effect.writes_are row) ∙ wrote)),
+    blocks_by_write level setup past asker s u locks (row, some, ap is_some (sym (effect.writes_are row) ∙ wrote)),
   ))
 
   -- so it is of what its transaction has written behind it
@@ -56,7 +49,7 @@ module _ (level : Level) (locks : level ≢ Snapshot) (setup : Table) (past : Pa
       subst (λ k. version_by k row ≡ None) same (second z t row v _ (map.get writes row) apart is_t refl pending))
       (λ x z t u row v apart _ _ is_t is_u pending. all x z t u row v apart is_t is_u pending)
 
-apart_step : (level : Level) → level ≢ Snapshot → (setup : Table) (past : Past) (e : ℕ) (command : Command) (outcome : Outcome) → Permitted level setup past e command outcome → WritesApart past
+apart_step : (level : Level) → (rules_of level).write_blocks ≡ true → (setup : Table) (past : Past) (e : ℕ) (command : Command) (outcome : Outcome) → Permitted level setup past e command outcome → WritesApart past
     → WritesApart (record { session = e; command = command; outcome = outcome } ∷ past)
 apart_step level locks setup past e command (Begun n) permitted all = begins e n past (active past) unwritten (λ row v. refl) all
 apart_step level locks setup past e command (Listed view rows writes) (s, t, asks, free, effect) all =
@@ -65,6 +58,6 @@ apart_step level locks setup past e command (Listed view rows writes) (s, t, ask
 apart_step level locks setup past e command other permitted all = left e (active_after command other past) (active past) unwritten (λ before t. was_active command other past before t tt) all
 
 -- so it is of every legal log
-pub writes_apart : (level : Level) → level ≢ Snapshot → (setup : Table) (past : Past) → IsLegal level setup past → WritesApart past
+pub writes_apart : (level : Level) → (rules_of level).write_blocks ≡ true → (setup : Table) (past : Past) → IsLegal level setup past → WritesApart past
 writes_apart level locks setup [] legal = λ session other t u row v apart is_t is_u pending. none_some _ is_t
 writes_apart level locks setup (event ∷ past) (earlier, permitted) = apart_step level locks setup past event.session event.command event.outcome permitted (writes_apart level locks setup past earlier)

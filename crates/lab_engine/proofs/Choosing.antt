@@ -1,8 +1,6 @@
 -- Which sessions are chosen by a test of their active transactions.
-use Rattle.std.proofs.Common.{◌≡◌, ◌≢◌, ◌∙◌, ℕ, zero, suc, refl, sym, ap, subst, arith, Bool, true, not, ◌&&◌, inl, inr, List, [], ◌∷◌, map, ◌==◌, ◌↔◌, Option, Some, None, IsTrue, Contains}
-use Rattle.lab_engine.proofs.Common.{Agree, AreOthers, Describes, DescribesAll, DescribesSession, IsOther, IsRunning, Level, Past, RunningTxn, SessionState, Situation, Txn, active, and_from, and_parts, eq-eqb, eqb-true, has, ne_eqb, or_cases, or_left, or_right, some_is, true≢false}
+use Rattle.lab_engine.proofs.Common.{active, Agree, and_from, and_parts, ap, AreOthers, arith, Asker, Bool, Contains, Describes, DescribesAll, DescribesSession, eq-eqb, eqb-true, has, inl, inr, IsOther, IsRunning, IsTrue, Level, List, map, ne_eqb, None, not, Option, or_cases, or_left, or_right, Past, refl, RunningTxn, SessionState, Situation, Some, some_is, subst, suc, sym, true, true≢false, Txn, zero, [], ℕ, ◌&&◌, ◌==◌, ◌↔◌, ◌∙◌, ◌∷◌, ◌≡◌, ◌≢◌}
 use Rattle.lab_engine.specs.Chosen.{has_passing, is_passing_other, is_chosen}
-use Rattle.lab_engine.specs.declared.asker.Asker.{Asker}
 use Rattle.lab_engine.proofs.Waiting.{running_txn}
 use Rattle.lab_table.proofs.Members.{no_member}
 

@@ -1,6 +1,5 @@
 -- Cycles of sessions, each blocked by the next, as walks along the graph of who waits for whom.
-use Rattle.std.proofs.Common.{◌≡◌, ◌≢◌, ℕ, suc, ◌+◌, ◌≤◌, refl, sym, subst, ◌∙◌, arith, false, List, [], ◌∷◌, inl, inr, length, ◌==◌, IsTrue, Option, Some, None, Result, Ok, Err, IfOk, IfSome, MatchOption, Contains, ◌⊎◌, ◌<◌, ap}
-use Rattle.lab_engine.proofs.Common.{false_from_ne_true, list_any, both_ways, cases_eq, Table, Statement, Level, Past, waiting, BlockedBy, IsChain, IsCircle, MayAsk, IsRetryable, waits_for, IsWalk, IsRound, WaitsOn, AreWaits, same_Some, NotAfter, IsLeastCircle}
+use Rattle.lab_engine.proofs.Common.{ap, AreWaits, arith, BlockedBy, both_ways, cases_eq, Contains, Err, false, false_from_ne_true, IfOk, IfSome, inl, inr, IsChain, IsCircle, IsLeastCircle, IsRetryable, IsRound, IsTrue, IsWalk, length, Level, List, list_any, MatchOption, MayAsk, None, NotAfter, Ok, Option, Past, refl, Result, same_Some, Some, Statement, subst, suc, sym, Table, waiting, waits_for, WaitsOn, [], ℕ, ◌+◌, ◌<◌, ◌==◌, ◌∙◌, ◌∷◌, ◌≡◌, ◌≢◌, ◌≤◌, ◌⊎◌}
 use Rattle.lab_engine.specs.Released.{IsReleased}
 use Rattle.lab_engine.proofs.Waiting.{contains_any, asked_is, AreWaitsWith}
 

@@ -1,7 +1,7 @@
 -- The names that most proofs cite, passed on from one place, and that nothing is not something.
-use Rattle.std.proofs.Common.{◌≡◌, Option, Some, None}
+pub use Rattle.std.proofs.Common.{Bool, Bor, Equal, Greater, IfOk, IfSome, IsSome, IsTrue, Less, List, MatchOption, Ordering, T, [], add-one, ap, append_assoc, arith, bit_and, bit_or, cond, drop, get_or, inl, inr, is_eq, is_gt, is_lt, is_some, le-leb, le-ltb, leb-false, leb-true, length, length-append, lt-ltb, ltb-false, map, min, nat_le, not, one-add, option_and_then, option_map, option_to_list, refl, replicate, reverse, rules, set, subst, suc, sum, sym, take, take_all, zero, ℕ, ℤ, ◌%◌, ◌&&◌, ◌*◌, ◌++◌, ◌+◌, ◌-◌, ◌/◌, ◌<◌, ◌^◌, ◌||◌, ◌↔◌, ◌∙◌, ◌∷◌, ◌≡◌, ◌≢◌, ◌≤◌, ◌⊎◌}
 pub use Rattle.std.specs.List.{AllByRecursion, AllPairs, Contains, cons_option, list_all, list_any, prefix_len}
-pub use Rattle.std.specs.Option.{option_or}
+pub use Rattle.std.specs.Option.{is_none, option_or}
 pub use Rattle.std.proofs.lemmas.Option.{get_or_from_slice_get, same_Some, slice_get-map, slice_get_read, slice_get_within}
 pub use Rattle.lab_table.specs.Row.{Row, row_cmp, row_eq, row_test, rows_apart, rows_tested, rows_total}
 pub use Rattle.lab_table.specs.Table.{Rows, State, Table, Writes}
@@ -19,17 +19,18 @@ pub use Rattle.lab_history.specs.declared.operation.VersionName.TheVariants.{Ini
 pub use Rattle.lab_engine.specs.declared.event.Level.{Level}
 pub use Rattle.lab_engine.specs.declared.event.Outcome.{Outcome}
 pub use Rattle.lab_engine.specs.declared.event.Outcome.TheVariants.{Aborted, Begun, Committed, Refused, Rows as Listed, Waits}
-pub use Rattle.lab_engine.specs.declared.event.EngineFault.TheVariants.{AlreadyBegun, Busy, Deadlock, DuplicateKey, NoTransaction, OutOfRange, WriteConflict}
+pub use Rattle.lab_engine.specs.declared.event.EngineFault.TheVariants.{AlreadyBegun, Busy, Deadlock, DuplicateKey, NoTransaction, OutOfRange, ReadConflict, WriteConflict}
 pub use Rattle.lab_engine.specs.declared.event.LogEvent.{LogEvent}
 pub use Rattle.lab_engine.specs.Log.{Past, Txn, Version, active, active_after, asked, begun, begun_after, commits, commits_after, committed_version, has_read, initial_version, installers, is_fatal, last_installed, last_version, numbers, ops_after, past_of, seen, sight, version_by, version_or, waiting, waiting_after, writers}
 pub use Rattle.std.proofs.lemmas.Bool.{and_from, and_parts, and_right, both_ways, cases_eq, cases_lt, eq-eqb, eqb-false, eqb-true, false_from_ne_true, false≢true, ne_eqb, not-true, or_cases, or_from, or_left, or_parts, or_right, true≢false}
 pub use Rattle.std.proofs.lemmas.List.{append-nil, drop_all, drop_more, get_or-replicate, get_or-set_other, get_or-set_same, get_or_default, length-map, length-reverse, length-set, length-take-le, map-append, reverse-append, reverse-reverse, take-append-drop, take_more}
 pub use Rattle.std.specs.FinMap.{FinMap, empty, entries, entries_sorted, find, from_sorted, get, get-empty, get-entries, get-from_sorted, get-insert, insert, is_sorted, put}
 pub use Rattle.std.specs.FinMap.Entries.{below_all, by_order, find-put, is_sorted-put}
-pub use Rattle.lab_engine.specs.Rules.{Asks, BlockedBy, Blocks, Conflicts, Gives, HoldsWrite, IsBelow, IsChain, IsCircle, IsEffect, IsFree, IsInsertOf, IsLegal, IsUpdate, MayAsk, MayCommit, Permitted, in_view}
-pub use Rattle.lab_engine.specs.Situation.{Agree, Describes, DescribesAll, DescribesRows, DescribesSession, HasPlaces, HasRoom, HoldsOutcome, IsRunning, all_sessions, grown, has_written, kept_of, keeps_statements, kept_statements, running_of, statements_of, waiting_of, written_by}
-pub use Rattle.lab_engine.specs.KeptRows.{IsReadyAt, IsSame, chain_in, chain_kept, kept_at, pending_in, pending_kept}
+pub use Rattle.lab_engine.specs.Rules.{Asks, BlockedBy, Blocks, ChangesRead, ComesFirst, Conflicts, ConflictsBy, ConflictsRead, Gives, HasRead, HoldsMatch, HoldsWrite, IsBelow, IsChain, IsCircle, IsEffect, IsFirstCommitter, IsFirstConflict, IsFree, IsInsertOf, IsLegal, IsUpdate, MayAsk, MayCommit, NoneChangesRead, Permitted, ReadsStand, in_view, state_after}
+pub use Rattle.lab_engine.specs.Situation.{Agree, Describes, DescribesAll, DescribesRows, DescribesSession, HasPlaces, HasRoom, HoldsOutcome, IsRunning, all_sessions, grown, has_written, kept_of, keeps_commits, keeps_statements, kept_statements, running_of, statements_of, waiting_of, written_by}
+pub use Rattle.lab_engine.specs.KeptRows.{IsReadyAt, IsSame, chain_in, chain_kept, entries_in, kept_at, pending_in, pending_kept}
 pub use Rattle.lab_engine.specs.Kept.{IsReady, IsRoomy, Kept, count, pending_of}
+pub use Rattle.lab_engine.specs.KeptCommits.{AreCommits, AreInstalled, AreWritten, commits_by, installs, kept_rows}
 pub use Rattle.lab_engine.specs.Chains.{chain, chain_after, first_since, last_before, longer}
 unfoldable pub use Rattle.lab_engine.specs.SessionBits.{has}
 pub use Rattle.lab_engine.specs.SessionBits.{AreSessions}
@@ -65,13 +66,21 @@ pub use Rattle.lab_table.proofs.SortedRows.{lower, sorted-map}
 pub use Rattle.std.proofs.Math.Bool.{and_comm, or-false}
 pub use Rattle.std.proofs.lemmas.List.Sorted.{IsPermutation-reverse, answers_always, list_any-IsPermutation, ranks_by, sorted_far}
 pub use Rattle.lab_engine.specs.Overlay.{AreMatching, laid_over, matching_entries, matching_rows, name_over, seen_of, seen_over}
-pub use Rattle.lab_engine.specs.Asker.{AreOthers, IsAsker, seen_in}
-pub use Rattle.lab_engine.specs.Answer.{Answers, HasPlacesOfEnds, IsRetryChoice, Keeps, MayGive, active_among}
+pub use Rattle.lab_engine.specs.Asker.{AreOthers, IsAsker, seen_in, sees_as_of_begin}
+pub use Rattle.lab_engine.specs.Answer.{Answers, HasPlacesOfCommits, HasPlacesOfEnds, IsRetryChoice, Keeps, MayGive, active_among, conflict_fault}
 pub use Rattle.lab_engine.specs.EventQuery.{is_ending, is_over}
 pub use Rattle.lab_engine.specs.Engine.{Appends, IsRetry, IsStep}
 pub use Rattle.lab_table.specs.Sessions.{of_session}
 pub use Rattle.lab_engine.specs.Effect.{IsEffectFault, IsEffectOn, IsRefusalOn, IsResultOn}
 pub use Rattle.lab_engine.specs.Journal.{EngineRun}
+pub use Rattle.lab_engine.specs.RuleTable.{If, Where, rules_of}
+pub use Rattle.lab_table.specs.declared.statement.StatementKind.{StatementKind}
+pub use Rattle.lab_engine.specs.declared.rules.ConflictKind.{ConflictKind}
+pub use Rattle.lab_engine.specs.declared.rules.ConflictKind.TheVariants.{Read, Write}
+pub use Rattle.lab_engine.specs.declared.event.EngineFault.{EngineFault}
+pub use Rattle.lab_engine.specs.declared.rules.Conflict.{Conflict}
+pub use Rattle.lab_engine.specs.declared.asker.Asker.{Asker}
+pub use Rattle.std.specs.Vec.{vec_capacity}
 
 pub none_some : {A : Type 0} {x : A} (P : Type 0) → ◌≡◌ {A = Option A} None (Some x) → P
 none_some P h = cc

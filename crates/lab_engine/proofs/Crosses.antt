@@ -15,6 +15,7 @@ use Rattle.lab_engine.proofs.wait_graph.WaitGraph.TheSendSync as wait_graph
 use Rattle.lab_engine.specs.declared.rules.Rules.{Ghosts}
 use Rattle.lab_engine.specs.contracts.journal.Journal as Journal
 use Rattle.lab_engine.specs.contracts.journal.Journal.TheInside as Inside
+use Rattle.lab_engine.specs.contracts.committed_rows.CommittedRows as CommittedRows
 use Rattle.lab_engine.specs.contracts.event.LogEvent as LogEvent
 use Rattle.lab_engine.specs.contracts.session_state.RunningTxn as RunningTxn
 use Rattle.lab_engine.specs.contracts.session_state.SessionState as SessionState
@@ -32,10 +33,16 @@ running = search (sendable, crosses, number.the_send, row_name.the_send, stateme
 state : IsSend SessionState.the_row
 state = search (sendable, crosses, session.the_send, statement, running) depth 40 fits 20000
 
+commit : IsSend CommittedRows.the_row
+commit = search (sendable, crosses, row_name.the_send) depth 40 fits 20000
+
 pub situation : IsSend Situation.the_row
 situation = declared_send Situation.the_type (
   search (sendable, crosses, state) depth 40,
-  (search (sendable, row_states.the_send), (search (sendable, wait_graph.the_send), (search sendable, (search sendable, tt)))),
+  (
+    search (sendable, row_states.the_send),
+    (search (sendable, crosses, commit) depth 40 fits 20000, (search (sendable, wait_graph.the_send), (search sendable, (search sendable, tt)))),
+  ),
 )
 
 module _ (R : RattleType) (rules : Ghosts R.Denot) (default : Defaults R.Denot) where

@@ -1,11 +1,9 @@
 -- What is made of each row that is seen, row by row, and which row keeps a statement from running.
-use Rattle.std.proofs.Common.{◌≡◌, ◌∙◌, refl, sym, ap, subst, ℕ, ℤ, true, false, cond, T, List, [], ◌∷◌, is_lt, Option, Some, None, option_map, option_and_then}
-use Rattle.lab_engine.proofs.Common.{AreMatching, FinMap, Row, State, Statement, Version, Written, below_all, both, change_is, cons_option, each_row, entries, entries_sorted, fails, find, find_below, from_sorted, get, get-entries, get-from_sorted, inserted, is_read_only, is_sorted, joined, listed, new_states, option_or, row_cmp, row_eq, same_row, state_value, stored, value_rewritten, with_row, written}
+use Rattle.lab_engine.proofs.Common.{ap, AreMatching, below_all, both, change_is, cond, cons_option, each_row, entries, entries_sorted, fails, false, find, find_below, FinMap, from_sorted, get, get-entries, get-from_sorted, inserted, is_lt, is_read_only, is_sorted, joined, List, listed, new_states, None, Option, option_and_then, option_map, option_or, refl, Row, row_cmp, row_eq, same_row, Some, State, state_value, Statement, StatementKind, stored, subst, sym, T, true, value_rewritten, Version, with_row, Written, written, [], ℕ, ℤ, ◌∙◌, ◌∷◌, ◌≡◌}
 use Rattle.lab_history.proofs.FirstValues.{or_none}
 use Rattle.lab_table.specs.Statement as statement
 use Rattle.lab_table.specs.Statement.{matched, kind_inserted, kind_listed, kind_matched}
-use Rattle.lab_table.specs.declared.statement.StatementKind.{StatementKind}
-use Rattle.lab_table.specs.declared.statement.StatementKind.TheVariants.{Select, Update, Insert, Delete}
+use Rattle.lab_table.specs.declared.statement.StatementKind.TheVariants.{Insert}
 
 -- before others a row is found with what is made of it
 pub find_made : {B : Type 0} (q row : Row) (rest : List (Row × B)) (o : Option B) → find row_cmp q (cons_option (with_row row o) rest) ≡ cond (row_eq q row) (option_or o (find row_cmp q rest)) (find row_cmp q rest)
@@ -82,9 +80,7 @@ made_is f (Some old) = stored_is (f old)
 -- a statement that adds no row lists those that match
 kind_lists_matched : (t : List ℕ) (s : StatementKind) → kind_inserted t s ≡ None → (row : Row) (state : State) → kind_listed t s row state ≡ kind_matched t s row state
 kind_lists_matched t (Insert id new) none row state = absurd cc
-kind_lists_matched t (Select pred) none row state = refl
-kind_lists_matched t (Update expr pred) none row state = refl
-kind_lists_matched t (Delete pred) none row state = refl
+kind_lists_matched t other none row state = refl
 
 pub lists_matched : (s : Statement) → inserted s ≡ None → (row : Row) (state : State) → listed s row state ≡ matched s row state
 lists_matched s = kind_lists_matched s.table s.kind

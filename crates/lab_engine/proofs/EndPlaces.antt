@@ -1,6 +1,5 @@
 -- A log keeps a place for the end of each active transaction.
-use Rattle.std.proofs.Common.{◌≡◌, ◌≤◌, ℕ, zero, suc, ◌+◌, cond, Bool, true, false, List, [], ◌∷◌, length, refl, sym, ap, subst, ◌∙◌, arith, Contains, IsSome, is_some, ◌==◌}
-use Rattle.lab_engine.proofs.Common.{Command, LogEvent, None, Option, Outcome, Past, Refused, Txn, WriteConflict, active, active_after, active_among, eq-eqb, is_ending}
+use Rattle.lab_engine.proofs.Common.{active, active_after, active_among, ap, arith, Bool, Command, cond, Contains, eq-eqb, false, is_ending, is_some, IsSome, length, List, LogEvent, None, Option, Outcome, Past, ReadConflict, refl, Refused, subst, suc, sym, true, Txn, WriteConflict, zero, [], ℕ, ◌+◌, ◌==◌, ◌∙◌, ◌∷◌, ◌≡◌, ◌≤◌}
 use Rattle.std.proofs.lemmas.List.Sums.{count_by-le-length, sum_by-cons, sum_by-le-sum_by}
 
 -- 1 where a transaction is active, else 0
@@ -13,6 +12,7 @@ few_active past sessions = count_by-le-length (λ session. is_some (active past 
 
 none_after : (command : Command) (outcome : Outcome) (past : Past) (txn : Option Txn) → is_ending outcome ≡ true → active_after command outcome past txn ≡ None
 none_after command (Refused (WriteConflict row by)) past txn ending = refl
+none_after command (Refused (ReadConflict row by)) past txn ending = refl
 none_after command other past txn ending = cc
 
 no_more : (b : Bool) (after before : Option Txn) → after ≡ None → weight (cond b after before) ≤ weight before

@@ -1,6 +1,5 @@
 -- Nothing that a log tells is more than its events are.
-use Rattle.std.proofs.Common.{◌≡◌, ℕ, suc, ◌≤◌, ◌<◌, true, false, cond, [], ◌∷◌, length, Option, Some, None, subst, arith, option_map, ◌==◌}
-use Rattle.lab_engine.proofs.Common.{Level, Rows, Writes, Command, Run, View, Outcome, Begun, Listed, Waits, Refused, RunningTxn, SessionState, Past, Txn, active, active_after, ops_after, is_fatal, begun, begun_after, DescribesSession, Agree, HasRoom, ⊤}
+use Rattle.lab_engine.proofs.Common.{active, active_after, Agree, arith, Begun, begun, begun_after, Command, cond, DescribesSession, false, HasRoom, is_fatal, length, Level, Listed, None, ops_after, Option, option_map, Outcome, Past, Refused, Rows, Run, RunningTxn, SessionState, Some, subst, suc, true, Txn, View, Waits, Writes, [], ℕ, ⊤, ◌<◌, ◌==◌, ◌∷◌, ◌≡◌, ◌≤◌}
 
 -- an active transaction, if any, has run at most so many operations
 abbrev AtMost : ℕ → Option Txn → Type 0

@@ -1,6 +1,5 @@
 -- What a log tells, event by event.
-use Rattle.std.proofs.Common.{◌≡◌, ℕ, ◌+◌, ◌-◌, ◌≤◌, ◌<◌, ◌++◌, reverse, arith, refl, sym, ap, subst, ◌∙◌, Bool, true, false, cond, ◌==◌, List, [], ◌∷◌, map as each, length, take, drop, inl, inr, Option, Some, None, is_some, option_map, slice_get}
-use Rattle.lab_engine.proofs.Common.{AreActive, Command, Committed, GatheredTxn, IsLegal, IsWithin, Level, Listed, LogEvent, Op, Outcome, Past, Recorded, Refused, Row, Table, Txn, active, active_after, append-nil, begun, commits, commits_after, eqb_tells, gathered_by, installed_over, installers, installing, installs_by, is_fatal, last_installed, last_version, length-map, length-reverse, none_some, number_after, number_of, numbers, of_session, option_or, past_of, recorded, recorded_txn, recorded_txns, reverse-append, reverse-reverse, reverse_onto, same_Some, slice_get-map, take-append-drop, version_by, version_told, writers}
+use Rattle.lab_engine.proofs.Common.{active, active_after, ap, append-nil, AreActive, arith, begun, Bool, Command, commits, commits_after, Committed, cond, drop, eqb_tells, false, gathered_by, GatheredTxn, inl, inr, installed_over, installers, installing, installs_by, is_fatal, is_some, IsLegal, IsWithin, last_installed, last_version, length, length-map, length-reverse, Level, List, Listed, LogEvent, map as each, None, none_some, number_after, number_of, numbers, of_session, Op, Option, option_map, option_or, Outcome, Past, past_of, Recorded, recorded, recorded_txn, recorded_txns, refl, Refused, reverse, reverse-append, reverse-reverse, reverse_onto, Row, same_Some, slice_get, slice_get-map, Some, subst, sym, Table, take, take-append-drop, true, Txn, version_by, version_told, writers, [], ℕ, ◌++◌, ◌+◌, ◌-◌, ◌<◌, ◌==◌, ◌∙◌, ◌∷◌, ◌≡◌, ◌≤◌}
 use Rattle.lab_table.proofs.SessionOrder.{own_value, other_value}
 use Rattle.lab_engine.proofs.EventBounds.{ops_at_most}
 use Rattle.lab_engine.proofs.Numbers.{numbers_hold}

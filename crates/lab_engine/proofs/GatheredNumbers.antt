@@ -1,6 +1,5 @@
 -- What is made of each of the numbers of transactions.
-use Rattle.std.proofs.Common.{◌≡◌, ℕ, zero, suc, ◌+◌, ◌-◌, ◌≤◌, ◌<◌, ◌++◌, arith, refl, sym, ap, ◌∙◌, List, [], ◌∷◌, map as each, length, Some, slice_get}
-use Rattle.lab_engine.proofs.Common.{map-append, length-map, Past, begun, numbers_from, recorded_txn, recorded_txns}
+use Rattle.lab_engine.proofs.Common.{ap, arith, begun, length, length-map, List, map as each, map-append, numbers_from, Past, recorded_txn, recorded_txns, refl, slice_get, Some, suc, sym, zero, [], ℕ, ◌++◌, ◌+◌, ◌-◌, ◌<◌, ◌∙◌, ◌∷◌, ◌≡◌, ◌≤◌}
 
 -- one more number
 pub numbers_more : (first count : ℕ) → numbers_from first (suc count) ≡ numbers_from first count ++ (first + count) ∷ []

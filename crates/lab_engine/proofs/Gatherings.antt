@@ -1,6 +1,5 @@
 -- What is gathered goes on with the log.
-use Rattle.std.proofs.Common.{◌≡◌, ℕ, ◌+◌, ◌<◌, ◌≤◌, ◌==◌, cond, ◌++◌, arith, refl, sym, ap, subst, ◌∙◌, List, [], ◌∷◌, map as each, length, take, get_or, Option, Some, None}
-use Rattle.lab_engine.proofs.Common.{AreActive, Committed, GatheredTxn, Gathers, IsLegal, IsShort, IsWithin, Level, LogEvent, Outcome, Past, Row, Table, active, empty, gathered_by, get, get-empty, installed_over, installing, installs_by, length-reverse, length-take-le, number_after, number_of, numbers_of, of_session, past_of, recorded, row_cmp, same_Some, take_more, txns_after}
+use Rattle.lab_engine.proofs.Common.{active, ap, AreActive, arith, Committed, cond, empty, gathered_by, GatheredTxn, Gathers, get, get-empty, get_or, installed_over, installing, installs_by, IsLegal, IsShort, IsWithin, length, length-reverse, length-take-le, Level, List, LogEvent, map as each, None, number_after, number_of, numbers_of, of_session, Option, Outcome, Past, past_of, recorded, refl, Row, row_cmp, same_Some, Some, subst, sym, Table, take, take_more, txns_after, [], ℕ, ◌++◌, ◌+◌, ◌<◌, ◌==◌, ◌∙◌, ◌∷◌, ◌≡◌, ◌≤◌}
 use Rattle.lab_engine.specs.declared.gathering.Gathering.{Gathering}
 use Rattle.lab_engine.proofs.Runs.{past_of-push}
 use Rattle.lab_engine.proofs.GatheredLogs.{legal_front, active_goes, within, few_ops, installed_goes, installers_go}

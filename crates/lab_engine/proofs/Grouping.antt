@@ -1,9 +1,8 @@
 -- Who installs which rows, and rows with who installed them, gathered from installs that are sorted by row.
-use Rattle.std.proofs.Common.{◌≡◌, ℕ, suc, ◌≤◌, ◌<◌, ◌++◌, arith, refl, sym, ap, subst, ◌∙◌, Bool, true, false, cond, ◌&&◌, not, T, List, [], ◌∷◌, map, length, append_assoc, is_eq, is_lt, Ordering, Less, Equal, Greater, Option, Some, is_some, filter}
 use Rattle.std.specs.Cmp.{Equal-is, tied_itself}
 use Rattle.std.specs.Ordering.{ordering_reverse}
 use Rattle.lab_table.proofs.Maps.{tested_same}
-use Rattle.lab_engine.proofs.Common.{get, find, is_sorted, from_sorted, get-from_sorted, below_all, Row, row_cmp, row_eq, rows_total, rows_apart, row_test, same_row, joined, if_any, numbers_of, groups_from, IsSortedByKey, IsStableByKey, rows_tested, turned, true_and_false, ⊤, Option, Some, None, filter, slice_index_or, ranks_by, sorted_far, map-append, entries, entries_sorted, get-entries, find_below, both, Version}
+use Rattle.lab_engine.proofs.Common.{ap, append_assoc, arith, below_all, Bool, both, cond, entries, entries_sorted, Equal, false, filter, find, find_below, from_sorted, get, get-entries, get-from_sorted, Greater, groups_from, if_any, is_eq, is_lt, is_some, is_sorted, IsSortedByKey, IsStableByKey, joined, length, Less, List, map, map-append, None, not, numbers_of, Option, Ordering, ranks_by, refl, Row, row_cmp, row_eq, row_test, rows_apart, rows_tested, rows_total, same_row, slice_index_or, Some, sorted_far, subst, suc, sym, T, true, true_and_false, turned, Version, [], ℕ, ⊤, ◌&&◌, ◌++◌, ◌<◌, ◌∙◌, ◌∷◌, ◌≡◌, ◌≤◌}
 use Rattle.std.proofs.lemmas.List.Elements.{filter-append}
 use Rattle.lab_engine.specs.Sight.{Listed}
 

@@ -1,6 +1,5 @@
 -- What a test of the entries of a map of rows says row by row, and what statements have read.
-use Rattle.std.proofs.Common.{◌≡◌, ◌∙◌, refl, sym, ap, subst, Bool, true, false, cond, ◌||◌, T, List, [], ◌∷◌, map, reverse, inl, inr, Option, Some, None}
-use Rattle.lab_engine.proofs.Common.{none_some, list_any, or_cases, or_parts, true≢false, FinMap, find, is_sorted, get, entries, entries_sorted, get-entries, below_all, Row, row_cmp, row_eq, State, matches, Statement, same_row, row_eq_self, find_below, both, Op, Initial, Version, has_read, same_Some, list_any-IsPermutation, IsPermutation-reverse}
+use Rattle.lab_engine.proofs.Common.{ap, below_all, Bool, both, cond, entries, entries_sorted, false, find, find_below, FinMap, get, get-entries, has_read, Initial, inl, inr, is_sorted, IsPermutation-reverse, List, list_any, list_any-IsPermutation, map, matches, None, none_some, Op, Option, or_cases, or_parts, refl, reverse, Row, row_cmp, row_eq, row_eq_self, same_row, same_Some, Some, State, Statement, subst, sym, T, true, true≢false, Version, [], ◌||◌, ◌∙◌, ◌∷◌, ◌≡◌}
 
 -- the version of a row that is absent from the start
 abbrev pub absent : Version

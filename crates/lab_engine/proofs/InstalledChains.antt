@@ -1,6 +1,5 @@
 -- Chains of installed versions: what they say of the versions at a begin.
-use Rattle.std.proofs.Common.{◌≡◌, ℕ, ◌≤◌, ◌<◌, refl, sym, ap, subst, ◌∙◌, arith, cond, List, [], ◌∷◌, ◌++◌, length, length-append, append_assoc, lt-ltb, le-ltb, Option, Some, None, is_some, unwrap_or}
-use Rattle.lab_engine.proofs.Common.{option_or, Row, Outcome, Committed, Past, Version, Txn, active, commits, commits_after, version_by, last_installed, writers, Began, longer, chain_after, chain, first_since, last_before}
+use Rattle.lab_engine.proofs.Common.{active, ap, append_assoc, arith, Began, chain, chain_after, commits, commits_after, Committed, cond, first_since, is_some, last_before, last_installed, le-ltb, length, length-append, List, longer, lt-ltb, None, Option, option_or, Outcome, Past, refl, Row, Some, subst, sym, Txn, unwrap_or, Version, version_by, writers, [], ℕ, ◌++◌, ◌<◌, ◌∙◌, ◌∷◌, ◌≡◌, ◌≤◌}
 use Rattle.lab_engine.specs.declared.row_state.Installed.{Installed}
 use Rattle.lab_engine.proofs.Begins.{begins_hold}
 

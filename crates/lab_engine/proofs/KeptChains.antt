@@ -1,6 +1,5 @@
 -- What is made of what is kept of rows, by rising row.
-use Rattle.std.proofs.Common.{◌≡◌, ◌∙◌, ℕ, refl, sym, ap, subst, cond, T, List, [], ◌∷◌, Option, Some, None, option_and_then, is_lt, is_eq, Less}
-use Rattle.lab_engine.proofs.Common.{AllByRecursion, Kept, Row, Version, below_all, chain_kept, each_row, find, is_sorted, joined, last_before, option_or, pending_kept, row_cmp, seen_of}
+use Rattle.lab_engine.proofs.Common.{AllByRecursion, ap, below_all, chain_kept, cond, each_row, find, is_eq, is_lt, is_sorted, joined, Kept, last_before, Less, List, None, Option, option_and_then, option_or, pending_kept, refl, Row, row_cmp, seen_of, Some, subst, sym, T, Version, [], ℕ, ◌∙◌, ◌∷◌, ◌≡◌}
 use Rattle.std.specs.List.Sorted.{IsStrictlySortedBy}
 use Rattle.std.specs.Map.{keys_of, lookup}
 use Rattle.std.specs.BTreeMap.{is_at}

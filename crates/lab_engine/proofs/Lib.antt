@@ -1,4 +1,7 @@
 pub mod Common
+pub mod RuleTables
+mod Blockers
+pub mod ReadConflicts
 pub mod Locks
 pub mod LockSteps
 pub mod Commits
@@ -56,3 +59,6 @@ mod AfterReads
 mod WaitsAfter
 pub mod Overlaid
 pub mod OneRecording
+mod LeastTaken
+pub mod TakenRows
+pub mod KeptCommits

@@ -1,7 +1,6 @@
 -- What an event of one session does to locks.
 pub use Rattle.lab_engine.proofs.Common.{none_some}
-use Rattle.lab_engine.proofs.Common.{option_or, Row, Table, Command, Outcome, Begun, Listed, Waits, Refused, Past, Version, Txn, is_fatal, active_after, version_by, last_installed, initial_version, same_Some, has_read, eqb_tells, ◌==◌, Option, Some, None, unwrap_or, true, false, ⊤}
-use Rattle.std.proofs.Common.{◌≡◌, ◌≢◌, ℕ, sym, ap, subst, ◌∙◌, cond, List, [], ◌∷◌, ◌⊎◌, inl, inr}
+use Rattle.lab_engine.proofs.Common.{active_after, ap, Begun, Command, cond, eqb_tells, false, has_read, initial_version, inl, inr, is_fatal, last_installed, List, Listed, None, Option, option_or, Outcome, Past, Refused, Row, same_Some, Some, subst, sym, Table, true, Txn, unwrap_or, Version, version_by, Waits, [], ℕ, ⊤, ◌==◌, ◌∙◌, ◌∷◌, ◌≡◌, ◌≢◌, ◌⊎◌}
 
 -- an active transaction after an event: that of the event's session, or of another one, which stays
 pub split : (e s : ℕ) (x y : Option Txn) (t : Txn) → cond (e == s) x y ≡ Some t → ((e ≡ s) × (x ≡ Some t)) ⊎ ((e ≢ s) × (y ≡ Some t))

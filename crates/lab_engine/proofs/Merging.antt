@@ -1,7 +1,6 @@
 -- Sorted lists of rows with their versions, two of which are merged.
-use Rattle.std.proofs.Common.{◌≡◌, ℕ, ◌+◌, true, false, cond, T, [], ◌∷◌, ◌++◌, take, drop, Option, Some, None, Bool, is_some, refl, sym, ap, ◌∙◌, subst, append_assoc, one-add, is_lt, is_gt, Ordering, Less, Equal, Greater}
 use Rattle.std.specs.Bool.{⊤}
-use Rattle.lab_engine.proofs.Common.{option_or, prefix_len, find, is_sorted, get, from_sorted, insert, entries, entries_sorted, get-entries, get-from_sorted, get-insert, below_all, Row, row_cmp, row_eq, rows_total, rows_apart, find_below, same_row, both, Version, comes_after, put, by_order, is_sorted-put, find-put, is_less, turned, turned_back, merged, without_row, insert_each, insert_missing, lower}
+use Rattle.lab_engine.proofs.Common.{ap, append_assoc, below_all, Bool, both, by_order, comes_after, cond, drop, entries, entries_sorted, Equal, false, find, find-put, find_below, from_sorted, get, get-entries, get-from_sorted, get-insert, Greater, insert, insert_each, insert_missing, is_gt, is_less, is_lt, is_some, is_sorted, is_sorted-put, Less, lower, merged, None, one-add, Option, option_or, Ordering, prefix_len, put, refl, Row, row_cmp, row_eq, rows_apart, rows_total, same_row, Some, subst, sym, T, take, true, turned, turned_back, Version, without_row, [], ℕ, ◌++◌, ◌+◌, ◌∙◌, ◌∷◌, ◌≡◌}
 use Rattle.lab_table.proofs.Putting.{is_own}
 use Rattle.lab_engine.specs.Sight.{Listed}
 use Rattle.lab_history.proofs.FirstValues.{or_none}

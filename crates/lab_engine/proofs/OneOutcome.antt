@@ -1,11 +1,11 @@
 -- After a log there is one answer to a command, and one event that a step or a retry appends.
-use Rattle.std.proofs.Common.{◌≡◌, inl, inr, ℕ, ℤ, option_map, Ordering, Less, Equal, Greater, refl, sym, ap, subst, ◌∙◌, arith, List, [], ◌∷◌, IsTrue, ◌≢◌, ◌++◌, Some, None, Option, IsSome, is_some}
-use Rattle.lab_engine.proofs.Common.{Answers, BlockedBy, Busy, Command, Commit, Conflicts, Deadlock, DuplicateKey, IsBelow, IsChain, IsCircle, IsEffect, IsFree, IsInsertOf, IsUpdate, Level, Listed, LogEvent, MayCommit, OutOfRange, Outcome, Past, Permitted, Refused, Row, Rows, Run, Statement, Table, Txn, View, Waits, WriteConflict, Writes, both_ways, commits, fails, none_some, past_of, row_cmp, rows_apart, same_Some, same_rows, seen, some_is, turned, update_inserts_none, waiting, writers}
-use Rattle.lab_engine.specs.declared.event.Level.TheVariants.{Snapshot}
+use Rattle.lab_engine.proofs.Common.{Answers, ap, arith, BlockedBy, both_ways, Busy, ComesFirst, Command, Commit, commits, conflict_fault, ConflictKind, Conflicts, ConflictsBy, Deadlock, DuplicateKey, Equal, fails, Greater, inl, inr, is_some, IsBelow, IsChain, IsCircle, IsEffect, IsFirstConflict, IsFree, IsInsertOf, IsSome, IsTrue, IsUpdate, Less, Level, List, Listed, LogEvent, MayCommit, None, none_some, Option, option_map, Ordering, Outcome, OutOfRange, Past, past_of, Permitted, Read, refl, Refused, Row, row_cmp, Rows, rows_apart, rules_of, Run, same_rows, same_Some, seen, Some, some_is, Statement, subst, sym, Table, turned, Txn, update_inserts_none, View, waiting, Waits, Write, writers, Writes, [], ℕ, ℤ, ◌++◌, ◌∙◌, ◌∷◌, ◌≡◌, ◌≢◌, ◌⊎◌}
+use Rattle.lab_engine.proofs.ReadConflicts.{one_read_conflict, stands_or_conflicts}
+use Rattle.lab_engine.proofs.RuleTables.{if_holds, if_set, where_holds}
 use Rattle.std.proofs.lemmas.List.Kept.{AllPairs-from_increasing}
 use Rattle.lab_engine.proofs.Circles.{one_least_circle}
 use Rattle.lab_engine.proofs.RisingLists.{same_pairs, before_end, none_before}
-use Rattle.lab_engine.proofs.AnswerKinds.{FreeAnswer, HeldAnswer, TxnAnswer, IdleAnswer, KnownAnswer, IsFirstFailing, IsLeastConflict, answer_known}
+use Rattle.lab_engine.proofs.AnswerKinds.{FreeAnswer, HeldAnswer, TxnAnswer, IdleAnswer, KnownAnswer, IsFirstFailing, answer_known}
 use Rattle.lab_engine.specs.Answered.{StepsTo, RetriesTo}
 
 -- of the rows that have something there is one least
@@ -26,17 +26,44 @@ one_installer : (past : Past) (txn : Txn) (row : Row) (by other : ℕ) → Confl
 one_installer past txn row by other (some, first, newer, is, writes) (again, second, later, alike, wrote) =
     sym is ∙ ap (λ (t : Txn). t.no) (before_end newer later first second (writers row (commits txn.before)) (sym writes ∙ wrote)) ∙ alike
 
+-- of two conflicts the one comes first, or they are of one kind at one row
+ordered : (kind other : ConflictKind) (row another : Row)
+    → ((kind ≡ other) × (row ≡ another)) ⊎ ComesFirst kind row other another ⊎ ComesFirst other another kind row
+ordered kind other row another = at (row_cmp row another) refl
+  where
+    alike : (one two : ConflictKind) → row ≡ another → ((one ≡ two) × (row ≡ another)) ⊎ ComesFirst one row two another ⊎ ComesFirst two another one row
+    alike Write Write same = inl (refl, same)
+    alike Write Read same = inr (inl (inr (same, refl, refl)))
+    alike Read Write same = inr (inr (inr (sym same, refl, refl)))
+    alike Read Read same = inl (refl, same)
+
+    at : (o : Ordering) → row_cmp row another ≡ o → ((kind ≡ other) × (row ≡ another)) ⊎ ComesFirst kind row other another ⊎ ComesFirst other another kind row
+    at Less is = inr (inl (inl is))
+    at Equal is = alike kind other (rows_apart row another is)
+    at Greater is = inr (inr (inl (turned row another is)))
+
 module _ (level : Level) (setup : Table) (past : Past) (session : ℕ) (txn : Txn) where
   -- a commit that conflicts may not be
-  no_commit : (row : Row) (by : ℕ) → level ≡ Snapshot → MayCommit level past txn → Conflicts past txn row by → ⊥
-  no_commit row by is may (some, first, newer, is_by, writes) =
-      let all : MayCommit Snapshot past txn = subst (λ l. MayCommit l past txn) is may in
-      none_before newer first (writers row (commits txn.before)) (sym (all row some) ∙ writes)
+  no_commit : (kind : ConflictKind) (row : Row) (by : ℕ) → MayCommit level setup past txn → ¬ ConflictsBy level setup past txn kind row by
+  no_commit Write row by may conflict =
+      let (some, first, newer, is_by, writes) = if_holds (rules_of level).write_clashes conflict in
+      none_before newer first (writers row (commits txn.before)) (sym (where_holds (rules_of level).write_clashes (if_set (rules_of level).write_clashes _ conflict) may.0 row some) ∙ writes)
+  no_commit Read row by may conflict =
+      stands_or_conflicts setup past txn row by (where_holds (rules_of level).read_clashes (if_set (rules_of level).read_clashes _ conflict) may.1) (if_holds (rules_of level).read_clashes conflict)
 
-  one_conflict : (row other : Row) (by number : ℕ) → IsLeastConflict level past txn row by → IsLeastConflict level past txn other number → Refused (WriteConflict row by) ≡ Refused (WriteConflict other number)
-  one_conflict row other by number h k =
-      let same : row ≡ other = one_least_row (λ r. (n : ℕ) × Conflicts past txn r n) row other (by, h.conflict) (number, k.conflict) (λ r below c. h.least r c.0 below c.1) (λ r below c. k.least r c.0 below c.1) in
-      ap (λ r. Refused (WriteConflict r by)) same ∙ ap (λ n. Refused (WriteConflict other n)) (one_installer past txn other by number (subst (λ r. Conflicts past txn r by) same h.conflict) k.conflict)
+  one_other : (kind : ConflictKind) (row : Row) (by number : ℕ) → ConflictsBy level setup past txn kind row by → ConflictsBy level setup past txn kind row number → by ≡ number
+  one_other Write row by number h k = one_installer past txn row by number (if_holds (rules_of level).write_clashes h) (if_holds (rules_of level).write_clashes k)
+  one_other Read row by number h k = one_read_conflict setup past txn row by number (if_holds (rules_of level).read_clashes h) (if_holds (rules_of level).read_clashes k)
+
+  one_conflict : (kind other : ConflictKind) (row another : Row) (by number : ℕ) → IsFirstConflict level setup past txn kind row by → IsFirstConflict level setup past txn other another number
+      → conflict_fault kind row by ≡ conflict_fault other another number
+  one_conflict kind other row another by number h k = elim (ordered kind other row another) [
+    | inl same ↦
+        ap (λ c. conflict_fault c row by) same.0 ∙ ap (λ r. conflict_fault other r by) same.1
+        ∙ ap (conflict_fault other another) (one_other other another by number (subst (λ c. ConflictsBy level setup past txn c another by) same.0
+        (subst (λ r. ConflictsBy level setup past txn kind r by) same.1 h.0)) k.0)
+    | inr either ↦ elim either [ inl first ↦ absurd (k.1 kind row by first h.0) | inr first ↦ absurd (h.1 other another number first k.0) ]
+  ]
 
   module _ (s : Statement) where
     one_effect : (view view' : View) (rows rows' : Rows) (writes writes' : Writes) → IsEffect level setup past txn s view rows writes → IsEffect level setup past txn s view' rows' writes'
@@ -87,9 +114,9 @@ module _ (level : Level) (setup : Table) (past : Past) (session : ℕ) (txn : Tx
 
   one_of_txn : (command : Command) (one other : Outcome) → TxnAnswer level setup past session txn command one → TxnAnswer level setup past session txn command other → one ≡ other
   one_of_txn Commit one other (inl (may, is)) (inl (can, alike)) = is ∙ sym alike
-  one_of_txn Commit one other (inl (may, is)) (inr (row, by, k, alike)) = absurd (no_commit row by k.snapshot may k.conflict)
-  one_of_txn Commit one other (inr (row, by, h, is)) (inl (can, alike)) = absurd (no_commit row by h.snapshot can h.conflict)
-  one_of_txn Commit one other (inr (row, by, h, is)) (inr (row', by', k, alike)) = is ∙ one_conflict row row' by by' h k ∙ sym alike
+  one_of_txn Commit one other (inl (may, is)) (inr (kind, row, by, k, alike)) = absurd (no_commit kind row by may k.0)
+  one_of_txn Commit one other (inr (kind, row, by, h, is)) (inl (can, alike)) = absurd (no_commit kind row by can h.0)
+  one_of_txn Commit one other (inr (kind, row, by, h, is)) (inr (kind', row', by', k, alike)) = is ∙ ap Refused (one_conflict kind kind' row row' by by' h k) ∙ sym alike
   one_of_txn (Run s) one other (inl (free, h)) (inl (f, k)) = one_free s one other h k
   one_of_txn (Run s) one other (inl (free, h)) (inr k) = absurd (not_free s other free k)
   one_of_txn (Run s) one other (inr h) (inl (free, k)) = absurd (not_free s one free h)

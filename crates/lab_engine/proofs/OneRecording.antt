@@ -1,6 +1,5 @@
 -- A log has one recording.
-use Rattle.std.proofs.Common.{◌≡◌, sym, ◌∙◌}
-use Rattle.lab_engine.proofs.Common.{Table, same_rows, Past, IsRecording, History}
+use Rattle.lab_engine.proofs.Common.{History, IsRecording, Past, same_rows, sym, Table, ◌∙◌, ◌≡◌}
 
 pub one_recording : (setup : Table) (past : Past) (h k : History) → IsRecording setup past h → IsRecording setup past k → h ≡ k
 one_recording setup past h k r s = λ i. record {

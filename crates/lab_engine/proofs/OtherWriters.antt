@@ -1,6 +1,5 @@
 -- Other sessions with a pending write of a row that a statement would write.
-use Rattle.std.proofs.Common.{◌≡◌, ◌∙◌, ℕ, refl, sym, ap, subst, Bool, true, false, List, ◌↔◌, Some, is_some, IsTrue, IsSome}
-use Rattle.lab_engine.proofs.Common.{list_any, both_ways, Row, row_eq, Table, State, may_match, would_write, Statement, same_row, row_eq_self, Level, RunningTxn, Past, Txn, active, version_by, seen, HoldsWrite, pending_in, Situation, Describes, IsRunning, written_by, not_written, Any-from_list_any, list_any_at}
+use Rattle.lab_engine.proofs.Common.{active, Any-from_list_any, ap, Bool, both_ways, Describes, false, HoldsWrite, is_some, IsRunning, IsSome, IsTrue, Level, List, list_any, list_any_at, may_match, not_written, Past, pending_in, refl, Row, row_eq, row_eq_self, RunningTxn, same_row, seen, Situation, Some, State, Statement, subst, sym, Table, true, Txn, version_by, would_write, written_by, ℕ, ◌↔◌, ◌∙◌, ◌≡◌}
 
 -- a test that holds of a row of a list
 any_row : (p : Row → Bool) (rows : List Row) → list_any p rows ≡ true → (row : Row) × IsTrue (list_any (row_eq row) rows) × IsTrue (p row)

@@ -1,6 +1,5 @@
 -- Which waiting sessions are retryable.
-use Rattle.std.proofs.Common.{◌≡◌, ℕ, ◌+◌, ◌≤◌, ◌<◌, sym, ap, subst, ◌∙◌, List, inl, inr, length, take, get_or, ◌==◌, IsTrue, IsSome, is_some, take_all}
-use Rattle.lab_engine.proofs.Common.{eqb-true, or_cases, Table, some_is, Level, SessionState, Situation, Past, waiting, IsRetryable, Describes, DescribesSession, AreWaits, some_of, NoneRetryable, IsLeastRetryable}
+use Rattle.lab_engine.proofs.Common.{ap, AreWaits, Describes, DescribesSession, eqb-true, get_or, inl, inr, is_some, IsLeastRetryable, IsRetryable, IsSome, IsTrue, length, Level, List, NoneRetryable, or_cases, Past, SessionState, Situation, some_is, some_of, subst, sym, Table, take, take_all, waiting, ℕ, ◌+◌, ◌<◌, ◌==◌, ◌∙◌, ◌≡◌, ◌≤◌}
 use Rattle.lab_engine.specs.Released.{IsReleased}
 use Rattle.lab_engine.proofs.Circles.{released_retryable, retryable_released}
 use Rattle.lab_engine.proofs.Rising.{RiseFrom, sessions_rise, is_among, among, earlier, among_more}

@@ -1,8 +1,7 @@
 -- Some of the sessions, by rising number.
-use Rattle.std.proofs.Common.{filter, cond, false, ◌≡◌, ℕ, zero, suc, ◌+◌, ◌<◌, refl, sym, ap, subst, ◌∙◌, arith, Bool, true, ◌||◌, List, [], ◌∷◌, length, take, get_or}
 use Rattle.std.specs.Prelude.{Contains}
 use Rattle.std.specs.Prelude as list
-use Rattle.lab_engine.proofs.Common.{list_any, eq-eqb, or_right, SessionState, all_sessions, IsStrictlyIncreasing, ◌==◌, ⊤, slice_index, list_any_more}
+use Rattle.lab_engine.proofs.Common.{all_sessions, ap, arith, Bool, cond, eq-eqb, false, filter, get_or, IsStrictlyIncreasing, length, List, list_any, list_any_more, or_right, refl, SessionState, slice_index, subst, suc, sym, take, true, zero, [], ℕ, ⊤, ◌+◌, ◌<◌, ◌==◌, ◌||◌, ◌∙◌, ◌∷◌, ◌≡◌}
 use Rattle.lab_table.proofs.Members.{no_member}
 
 -- numbers that rise from above a bound

@@ -1,6 +1,5 @@
 -- What is kept of rows, where it changes for one of them.
-use Rattle.std.proofs.Common.{◌≡◌, ◌∙◌, refl, sym, ap, subst, Bool, true, false, cond, ◌&&◌, Option, Some, is_eq}
-use Rattle.lab_engine.proofs.Common.{Row, row_cmp, row_eq, rows_total, same_row, Kept, IsReady, IsSame, eq_reversed, RowStates}
+use Rattle.lab_engine.proofs.Common.{ap, Bool, cond, eq_reversed, false, is_eq, IsReady, IsSame, Kept, Option, refl, Row, row_cmp, row_eq, rows_total, RowStates, same_row, Some, subst, sym, true, ◌&&◌, ◌∙◌, ◌≡◌}
 
 -- what depends on whether a row is a certain one is shown of that one and of the others
 pub by_row : (Q : Row → Bool → Type 0) (row : Row) → Q row true → ((other : Row) → Q other false) → (other : Row) → Q other (row_eq other row)

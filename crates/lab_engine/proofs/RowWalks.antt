@@ -1,6 +1,5 @@
 -- What is kept of rows, where lists of rows and of writes are walked through.
-use Rattle.std.proofs.Common.{◌++◌, map, filter, ◌≡◌, ◌∙◌, ℕ, ◌<◌, refl, sym, ap, subst, T, Bool, true, false, cond, ◌&&◌, ◌||◌, ◌==◌, List, [], ◌∷◌, length, get_or, Option, Some, None, is_some, IsSome}
-use Rattle.lab_engine.proofs.Common.{Written, list_any, option_or, find, is_sorted, get, entries, entries_sorted, get-entries, below_all, Row, row_cmp, row_eq, Writes, find_below, same_row, row_eq_self, both, new_states, state_value, VersionName, Version, longer, written_version, and_comm, list_any-append, list_any_at, Any-from_list_any}
+use Rattle.lab_engine.proofs.Common.{and_comm, Any-from_list_any, ap, below_all, Bool, both, cond, entries, entries_sorted, false, filter, find, find_below, get, get-entries, get_or, is_some, is_sorted, IsSome, length, List, list_any, list_any-append, list_any_at, longer, map, new_states, None, Option, option_or, refl, Row, row_cmp, row_eq, row_eq_self, same_row, Some, state_value, subst, sym, T, true, Version, VersionName, Writes, Written, written_version, [], ℕ, ◌&&◌, ◌++◌, ◌<◌, ◌==◌, ◌||◌, ◌∙◌, ◌∷◌, ◌≡◌}
 use Rattle.lab_engine.specs.declared.row_state.Installed.{Installed}
 use Rattle.std.proofs.lemmas.Map.Views.{any-filter_same}
 

@@ -1,6 +1,5 @@
 -- A legal log stays legal by a step.
-use Rattle.std.proofs.Common.{◌≡◌, ℕ, ◌<◌, ◌≤◌, ◌++◌, sym, ap, subst, ◌∙◌, arith, List, [], ◌∷◌, length, length-append}
-use Rattle.lab_engine.proofs.Common.{Appends, Command, IsLegal, Level, LogEvent, Outcome, Table, past_of, reverse-append}
+use Rattle.lab_engine.proofs.Common.{ap, Appends, arith, Command, IsLegal, length, length-append, Level, List, LogEvent, Outcome, past_of, reverse-append, subst, sym, Table, [], ℕ, ◌++◌, ◌<◌, ◌∙◌, ◌∷◌, ◌≡◌, ◌≤◌}
 
 -- the past after one more event
 pub past_of-push : (log : List LogEvent) (event : LogEvent) → past_of (log ++ event ∷ []) ≡ event ∷ past_of log

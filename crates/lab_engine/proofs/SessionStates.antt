@@ -1,6 +1,5 @@
 -- What is kept of a session and of the rows goes on by an event of the session.
-use Rattle.std.proofs.Common.{◌≡◌, ◌∙◌, ℕ, ◌+◌, ◌==◌, ◌||◌, ◌&&◌, Bool, cond, true, false, List, [], ◌∷◌, ◌++◌, map as each, length, reverse, Option, Some, None, refl, sym, ap, subst, arith, inl, inr, is_some, is_none, option_to_list}
-use Rattle.lab_engine.proofs.Common.{Aborted, Agree, AlreadyBegun, Busy, Committed, DescribesRows, DescribesSession, IsRunning, Level, Listed, LogEvent, NoTransaction, Op, Outcome, Past, Refused, Row, RowStates, Rows, Run, RunningTxn, SessionState, State, Statement, Txn, Version, View, Writes, active, active_after, both_ways, cases_eq, chain_after, chain_in, eq-eqb, grown, has_written, is_over, keeps_statements, longer, ne_eqb, none_of, pending_in, reverse-append, statements_of, true≢false, version_by, version_or, waiting, waiting_after, written_by}
+use Rattle.lab_engine.proofs.Common.{Aborted, active, active_after, Agree, AlreadyBegun, ap, arith, Bool, both_ways, Busy, cases_eq, chain_after, chain_in, Committed, cond, DescribesRows, DescribesSession, eq-eqb, false, grown, has_written, inl, inr, is_none, is_over, is_some, IsRunning, keeps_statements, length, Level, List, Listed, LogEvent, longer, map as each, ne_eqb, None, none_of, NoTransaction, Op, Option, option_to_list, Outcome, Past, pending_in, refl, Refused, reverse, reverse-append, Row, Rows, RowStates, Run, RunningTxn, SessionState, Some, State, Statement, statements_of, subst, sym, true, true≢false, Txn, Version, version_by, version_or, View, waiting, waiting_after, Writes, written_by, [], ℕ, ◌&&◌, ◌++◌, ◌+◌, ◌==◌, ◌||◌, ◌∙◌, ◌∷◌, ◌≡◌}
 use Rattle.std.specs.FinMap as map
 
 -- ---- one more operation

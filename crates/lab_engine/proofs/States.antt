@@ -1,6 +1,5 @@
 -- What is kept of the sessions, as a list.
-use Rattle.std.proofs.Common.{◌≡◌, ◌≢◌, ℕ, zero, suc, ◌+◌, ◌-◌, ◌≤◌, ◌<◌, false, cond, List, [], ◌∷◌, map, length, set, get_or, refl, sym, ap, subst, ◌∙◌, arith, ◌==◌, eq-eqb, ne_eqb}
-use Rattle.lab_engine.proofs.Common.{length-map, length-set, get_or-set_same, Level, LogEvent, SessionState, Past, active, active_after, waiting, waiting_after, DescribesSession, DescribesAll, Agree, HasRoom, all_sessions, running_of, ⊤}
+use Rattle.lab_engine.proofs.Common.{active, active_after, Agree, all_sessions, ap, arith, cond, DescribesAll, DescribesSession, eq-eqb, false, get_or, get_or-set_same, HasRoom, length, length-map, length-set, Level, List, LogEvent, map, ne_eqb, Past, refl, running_of, SessionState, set, subst, suc, sym, waiting, waiting_after, zero, [], ℕ, ⊤, ◌+◌, ◌-◌, ◌<◌, ◌==◌, ◌∙◌, ◌∷◌, ◌≡◌, ◌≢◌, ◌≤◌}
 use Rattle.std.proofs.Math.Seq.{map-set_same}
 use Rattle.lab_engine.proofs.EventBounds.{has_room}
 
@@ -81,11 +80,15 @@ module _ (states : List SessionState) (n k : ℕ) (state : SessionState) (sessio
   sessions_stay new same = map-set_same (λ state. state.session) states k new state (same ∙ ap (λ s. s.session) is) ∙ sessions
 
   -- it is the session's
-  own_there : (session : ℕ) → n ≡ session → session ≡ state.session
+  pub own_there : (session : ℕ) → n ≡ session → session ≡ state.session
   own_there session own =
       let number : (get_or states k state).session ≡ 1 + k = session_one 1 k states state (all_rise states sessions) there in
       let there_is : n ≡ (get_or states k state).session = omega (arith, number, place, low) in
       sym own ∙ there_is ∙ ap (λ s. s.session) (sym is)
+
+  -- it agrees with the log
+  pub described_there : (level : Level) (past : Past) → DescribesAll level past states → DescribesSession level past state
+  described_there level past all = subst (λ s. DescribesSession level past s) (sym is) (describes_one level past k states state there all)
 
   -- all states go on with an event where the session's own does, and something else with it
   pub states_go_on : {A : Type 0} (level : Level) (past : Past) (event : LogEvent) (new : SessionState) → n ≡ event.session → DescribesAll level past states

@@ -1,6 +1,5 @@
 -- The transactions of a log after one more event.
-use Rattle.std.proofs.Common.{◌≡◌, ◌≢◌, ℕ, zero, suc, ◌+◌, ◌-◌, ◌≤◌, ◌<◌, ◌++◌, arith, refl, sym, ap, subst, ◌∙◌, Bool, true, false, cond, ◌||◌, List, [], ◌∷◌, map as each, length, get_or, set, ◌==◌, Option, Some, ne_eqb, eq-eqb}
-use Rattle.lab_engine.proofs.Common.{list_any, map-append, Table, Rows, Writes, View, Command, Op, Outcome, Begun, Listed, Committed, Level, LogEvent, Past, Txn, active, commits_after, commits, begun, Permitted, IsLegal, AllNumbered, has_number, op_of, ops_of, numbers_from, recorded_txn, recorded_txns, number_of, recorded, with_ops, committed, txns_after, IsWithin, end_of, new_txn, changed, changed_by, Recorded, GatheredTxn}
+use Rattle.lab_engine.proofs.Common.{active, AllNumbered, ap, arith, Begun, begun, Bool, changed, changed_by, Command, commits, commits_after, Committed, committed, cond, end_of, eq-eqb, false, GatheredTxn, get_or, has_number, IsLegal, IsWithin, length, Level, List, list_any, Listed, LogEvent, map as each, map-append, ne_eqb, new_txn, number_of, numbers_from, Op, op_of, ops_of, Option, Outcome, Past, Permitted, recorded, Recorded, recorded_txn, recorded_txns, refl, Rows, set, Some, subst, suc, sym, Table, true, Txn, txns_after, View, with_ops, Writes, zero, [], ℕ, ◌++◌, ◌+◌, ◌-◌, ◌<◌, ◌==◌, ◌||◌, ◌∙◌, ◌∷◌, ◌≡◌, ◌≢◌, ◌≤◌}
 use Rattle.lab_history.specs.declared.transaction.Outcome.TheVariants.{Committed as EndCommitted, Aborted as EndAborted}
 use Rattle.lab_engine.proofs.Numbers.{numbers_hold}
 use Rattle.lab_engine.proofs.Records.{records_hold, nothing_added}

@@ -1,6 +1,5 @@
 -- The versions of a table's rows, and of rows that are written.
-use Rattle.std.proofs.Common.{◌≡◌, ℤ, T, List, [], ◌∷◌, map, Option, Some, None, refl, sym, ap, ◌∙◌, subst, option_map}
-use Rattle.lab_engine.proofs.Common.{Written, find, is_sorted, get, from_sorted, entries, get-entries, get-from_sorted, Row, row_cmp, Table, State, Writes, new_states, VersionName, Initial, Version, listed_version, find-map, initial_entry, written_entry, written_version, sorted-map}
+use Rattle.lab_engine.proofs.Common.{ap, entries, find, find-map, from_sorted, get, get-entries, get-from_sorted, Initial, initial_entry, is_sorted, List, listed_version, map, new_states, None, Option, option_map, refl, Row, row_cmp, Some, sorted-map, State, subst, sym, T, Table, Version, VersionName, Writes, Written, written_entry, written_version, [], ℤ, ◌∙◌, ◌∷◌, ◌≡◌}
 
 -- rows with their versions
 abbrev pub Entries : Type 0

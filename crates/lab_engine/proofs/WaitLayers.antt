@@ -1,6 +1,5 @@
 -- Layers of those from which walks lead to a goal, by how many stand between.
-use Rattle.std.proofs.Common.{◌≡◌, ℕ, ◌+◌, ◌-◌, ◌≤◌, ◌<◌, ◌==◌, ◌&&◌, ◌⊎◌, refl, sym, ap, subst, ◌∙◌, inl, inr, arith, false, List, [], ◌∷◌, ◌++◌, length, get_or, set, replicate, IsTrue, Option, Some, None, IfSome, ◌↔◌, is_some, get_or-set_same, get_or-set_other, append_assoc}
-use Rattle.lab_engine.proofs.Common.{list_any, cases_eq, cases_lt, eq-eqb, eqb-true, both_ways, or_left, and_parts, and_from, has, waits_for, WaitsForOne, IsWalk, IsRound, NotAfter, or-false}
+use Rattle.lab_engine.proofs.Common.{and_from, and_parts, ap, append_assoc, arith, both_ways, cases_eq, cases_lt, eq-eqb, eqb-true, false, get_or, get_or-set_other, get_or-set_same, has, IfSome, inl, inr, is_some, IsRound, IsTrue, IsWalk, length, List, list_any, None, NotAfter, Option, or-false, or_left, refl, replicate, set, Some, subst, sym, waits_for, WaitsForOne, [], ℕ, ◌&&◌, ◌++◌, ◌+◌, ◌-◌, ◌<◌, ◌==◌, ◌↔◌, ◌∙◌, ◌∷◌, ◌≡◌, ◌≤◌, ◌⊎◌}
 use Rattle.lab_engine.specs.LeastWalk.{Leads, AreLayers, IsLeastWalk}
 use Rattle.lab_engine.proofs.Walks.{shortest_once, once_walk, once_few}
 

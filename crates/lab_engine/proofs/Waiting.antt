@@ -1,11 +1,9 @@
 -- Which sessions wait for which after a log.
-use Rattle.std.proofs.Common.{filter, ◌&&◌, ◌≡◌, ◌≢◌, ℕ, ◌+◌, ◌≤◌, ◌<◌, refl, sym, ap, subst, ◌∙◌, cond, List, inl, inr, length, take, get_or, ◌==◌, ◌↔◌, IsTrue, Some, Contains, take_all}
 use Rattle.std.proofs.lemmas.Map.Views.{any-filter_same}
 use Rattle.std.proofs.lemmas.List.Kept.{IsStrictlyIncreasing-filter}
-use Rattle.lab_engine.proofs.Common.{Agree, Any-from_list_any, AreBlockers, AreOthers, AreWaits, BlockedBy, Blocks, Describes, DescribesSession, IsAsker, IsRunning, Level, MayAsk, Past, RunningTxn, SessionState, Situation, Statement, Table, Txn, WaitsOn, active, all_sessions, and_from, and_parts, cases_eq, eq-eqb, eqb-true, has, length-map, list_any, list_any_at, ne_eqb, none_some, or_cases, or_left, or_right, same_Some, some_is, waiting, waits_for}
+use Rattle.lab_engine.proofs.Common.{active, Agree, all_sessions, and_from, and_parts, Any-from_list_any, ap, AreBlockers, AreOthers, AreWaits, Asker, BlockedBy, Blocks, cases_eq, cond, Contains, Describes, DescribesSession, eq-eqb, eqb-true, filter, get_or, has, inl, inr, IsAsker, IsRunning, IsTrue, length, length-map, Level, List, list_any, list_any_at, MayAsk, ne_eqb, none_some, or_cases, or_left, or_right, Past, refl, RunningTxn, same_Some, SessionState, Situation, Some, some_is, Statement, subst, sym, Table, take, take_all, Txn, waiting, waits_for, WaitsOn, ℕ, ◌&&◌, ◌+◌, ◌<◌, ◌==◌, ◌↔◌, ◌∙◌, ◌≡◌, ◌≢◌, ◌≤◌}
 use Rattle.lab_engine.proofs.Describing.{kept_txn}
 use Rattle.lab_engine.proofs.States.{describes_one}
-use Rattle.lab_engine.specs.declared.asker.Asker.{Asker}
 use Rattle.lab_engine.proofs.Rising.{rising, sessions_rise, kept_sessions, sessions_of, is_among, among, among_more}
 
 -- a state stands at a place of a list

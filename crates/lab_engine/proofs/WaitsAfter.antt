@@ -1,29 +1,23 @@
 -- Whom a session waits for after an event that leaves this as it was.
-use Rattle.std.proofs.Common.{◌≡◌, ◌≢◌, ℕ, refl, sym, ap, subst, ◌∙◌, cond, ◌∷◌, ◌↔◌, ◌==◌, ◌⊎◌, Some, None, option_map, inl, inr, IsTrue}
-use Rattle.lab_engine.proofs.Common.{Aborted, AlreadyBegun, Begun, BlockedBy, Blocks, Busy, Command, Committed, IsLegal, Level, Listed, NoTransaction, Op, Outcome, Past, Permitted, Refused, Rows, Run, Statement, Table, Txn, View, Waits, WaitsOn, Writes, active, active_after, both_ways, cases_eq, eq-eqb, grown, is_over, ne_eqb, none_some, same_Some, some_of, version_by, waiting, waiting_after, ⊤}
-use Rattle.lab_engine.specs.declared.event.Level.TheVariants.{Locking, Snapshot, Committed as ReadCommitted}
+use Rattle.lab_engine.proofs.Common.{Aborted, active, active_after, AlreadyBegun, ap, Begun, BlockedBy, Blocks, both_ways, Busy, cases_eq, Command, Committed, cond, eq-eqb, grown, inl, inr, is_over, IsLegal, IsTrue, Level, Listed, ne_eqb, None, none_some, NoTransaction, Op, option_map, Outcome, Past, Permitted, refl, Refused, Rows, Run, same_Some, Some, some_of, Statement, subst, sym, Table, Txn, version_by, View, waiting, waiting_after, Waits, WaitsOn, Writes, ℕ, ⊤, ◌==◌, ◌↔◌, ◌∙◌, ◌∷◌, ◌≡◌, ◌≢◌, ◌⊎◌}
+use Rattle.lab_engine.proofs.Blockers.{blocks_none}
 use Rattle.lab_engine.proofs.LockSteps.{fresh}
 use Rattle.lab_engine.proofs.Apart.{writes_apart}
-use Rattle.lab_engine.proofs.AfterCommits.{still_blocked}
+use Rattle.lab_engine.proofs.AfterCommits.{blocks_alike, still_blocked}
 use Rattle.lab_engine.proofs.AfterReads.{Unasked, reads_off, reads_on}
 use Rattle.std.specs.FinMap as map
 
 -- a transaction that has run nothing blocks nobody
 fresh_blocks : (level : Level) (setup : Table) (past : Past) (asker : Txn) (s : Statement) (n : ℕ) (begun : Past) → ¬ Blocks level setup past asker s (fresh n begun)
-fresh_blocks Locking setup past asker s n begun (inl (row, pending, is, match)) = none_some _ is
-fresh_blocks Locking setup past asker s n begun (inr (inl (row, some, writes))) = absurd (both_ways _ refl some)
-fresh_blocks Locking setup past asker s n begun (inr (inr (row, writes, read))) = absurd (both_ways _ refl read)
-fresh_blocks ReadCommitted setup past asker s n begun (row, some, writes) = absurd (both_ways _ refl some)
-fresh_blocks Snapshot setup past asker s n begun b = b
+fresh_blocks level setup past asker s n begun = blocks_none level setup past asker s (fresh n begun) (λ h. none_some _ h.2) (λ h. absurd (both_ways _ refl h.1)) (λ h. absurd (both_ways _ refl h.2))
 
 -- where nothing commits, who blocks whom is the same
 same_blocks : (level : Level) (setup : Table) (past : Past) (e : ℕ) (command : Command) (outcome : Outcome) → outcome ≢ Committed → (asker holder : Txn) (s : Statement)
     → Blocks level setup (record { session = e; command = command; outcome = outcome } ∷ past) asker s holder ↔ Blocks level setup past asker s holder
-same_blocks Locking setup past e command Committed commits asker holder s = absurd (commits refl)
-same_blocks Locking setup past e command other commits asker holder s = ((λ b. b), (λ b. b))
-same_blocks ReadCommitted setup past e command Committed commits asker holder s = absurd (commits refl)
-same_blocks ReadCommitted setup past e command other commits asker holder s = ((λ b. b), (λ b. b))
-same_blocks Snapshot setup past e command outcome commits asker holder s = ((λ b. b), (λ b. b))
+same_blocks level setup past e command Committed commits asker holder s = absurd (commits refl)
+same_blocks level setup past e command other commits asker holder s =
+    let after : Past = record { session = e; command = command; outcome = other } ∷ past in
+    (blocks_alike level setup asker after past s holder (λ row. refl), blocks_alike level setup asker past after s holder (λ row. refl))
 
 -- an outcome lets another session that waits with a statement wait for the same, but for a transaction that it ends
 abbrev pub LeavesWaiter : Level → Table → Past → ℕ → ℕ → Outcome → Statement → Type 0
@@ -115,7 +109,7 @@ module _ (level : Level) (setup : Table) (past : Past) (e k : ℕ) (off : e ≢ 
   commits_waits : IsLegal level setup past → Permitted level setup past e command Committed → ¬ WaitsOn level setup past k e → SameWaits level setup past e k off command Committed
   commits_waits legal (t, gives, may) before = waits_alike level setup past e k off command Committed
       (neither level setup past e k off command Committed before (λ s b. none_some _ (sym (own_active level setup past e k off command Committed) ∙ b.4)))
-      (λ s asker holder other is was there held. still_blocked setup past e command t gives.active_is asker s level
+      (λ s asker holder other is was there held. still_blocked level setup past e command t gives.active_is asker s
       (λ b. before (s, is, (asker, t, (λ same. off (sym same)), was, gives.active_is, b))) holder
       (λ locks row some.
       let v = some_of (version_by holder row) some in

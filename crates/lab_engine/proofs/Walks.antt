@@ -1,6 +1,5 @@
 -- Walks to a goal along the graph of who waits for whom.
-use Rattle.std.proofs.Common.{◌∙◌, ap, ◌≡◌, ℕ, ◌≤◌, ◌<◌, ◌==◌, ◌⊎◌, Bool, refl, sym, subst, inl, inr, arith, true, false, List, [], ◌∷◌, length, IsTrue}
-use Rattle.lab_engine.proofs.Common.{IsRound, waits_for, false_from_ne_true, list_any, AllByRecursion, eq-eqb, ne_eqb, eqb-true, eqb-false, both_ways, or_cases, or_parts, IsWalk, AllDistinct, Any-from_list_any, list_any_at}
+use Rattle.lab_engine.proofs.Common.{AllByRecursion, AllDistinct, Any-from_list_any, ap, arith, Bool, both_ways, eq-eqb, eqb-false, eqb-true, false, false_from_ne_true, inl, inr, IsRound, IsTrue, IsWalk, length, List, list_any, list_any_at, ne_eqb, or_cases, or_parts, refl, subst, sym, true, waits_for, [], ℕ, ◌<◌, ◌==◌, ◌∙◌, ◌∷◌, ◌≡◌, ◌≤◌, ◌⊎◌}
 use Rattle.std.specs.List.{IsDistinct}
 use Rattle.std.proofs.lemmas.Map.Steps.{length-le_from_distinct_below}
 use Rattle.lab_engine.proofs.WaitGraphs.{waiter_range}

@@ -1,20 +1,14 @@
 -- A session with an active transaction, in a situation.
-use Rattle.std.specs.Prelude.{◌≡◌, ◌↔◌, ℕ, Bool, true, false, Some, unwrap_or, length, IsTrue}
+use Rattle.std.specs.Prelude.{◌≡◌, ◌↔◌, ℕ, Some, unwrap_or, length, IsTrue}
 use Rattle.lab_table.specs.Row.{Row}
 use Rattle.lab_engine.specs.declared.event.Level.{Level}
-use Rattle.lab_engine.specs.declared.event.Level.TheVariants.{Locking, Snapshot, Committed as ReadCommitted}
 use Rattle.lab_engine.specs.declared.asker.Asker.{Asker}
 use Rattle.lab_engine.specs.Log.{Past, Txn, Version, active, sight, initial_version}
+pub use Rattle.lab_engine.specs.Log.{sees_as_of_begin}
 use Rattle.lab_engine.specs.Overlay.{seen_over}
 use Rattle.lab_engine.specs.Others.{IsOther}
 use Rattle.lab_engine.specs.SessionBits.{has}
 use Rattle.lab_engine.specs.Situation.{Describes, IsRunning}
-
--- whether a transaction sees the commits as of its begin, and not as of now
-abbrev pub sees_as_of_begin : Level → Bool
-sees_as_of_begin Locking = false
-sees_as_of_begin ReadCommitted = false
-sees_as_of_begin Snapshot = true
 
 -- the version of a row that a session's transaction sees: its own, else the last installed one that it sees, else the setup's
 abbrev pub seen_in : Asker → Row → Version

@@ -38,6 +38,7 @@ IsRefusalOn sees s (refusal.WriteConflict row by) = ⊥
 IsRefusalOn sees s refusal.NoTransaction = ⊥
 IsRefusalOn sees s refusal.AlreadyBegun = ⊥
 IsRefusalOn sees s refusal.Busy = ⊥
+IsRefusalOn sees s (refusal.ReadConflict row by) = ⊥
 
 -- what a statement that nobody blocks answers: its effect, or a refusal
 abbrev pub IsResultOn : (Row → Version) → Statement → Outcome → Type 0

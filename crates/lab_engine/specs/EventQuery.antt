@@ -3,7 +3,7 @@ use Rattle.std.specs.Prelude.{Bool, true, false}
 use Rattle.lab_engine.specs.declared.event.Outcome.{Outcome}
 use Rattle.lab_engine.specs.declared.event.Outcome.TheVariants.{Begun, Rows as Listed, Committed, Aborted, Waits, Refused}
 use Rattle.lab_engine.specs.declared.event.EngineFault.{EngineFault}
-use Rattle.lab_engine.specs.declared.event.EngineFault.TheVariants.{DuplicateKey, OutOfRange, Deadlock, WriteConflict, NoTransaction, AlreadyBegun, Busy}
+use Rattle.lab_engine.specs.declared.event.EngineFault.TheVariants.{DuplicateKey, OutOfRange, Deadlock, WriteConflict, NoTransaction, AlreadyBegun, Busy, ReadConflict}
 use Rattle.lab_engine.specs.Log.{is_fatal}
 
 -- whether a refusal is that of a commit that conflicts
@@ -15,6 +15,7 @@ is_conflict (WriteConflict row by) = true
 is_conflict NoTransaction = false
 is_conflict AlreadyBegun = false
 is_conflict Busy = false
+is_conflict (ReadConflict row by) = true
 
 -- whether an outcome is Busy
 abbrev pub busy : Outcome → Bool
@@ -30,6 +31,7 @@ busy (Refused (WriteConflict row by)) = false
 busy (Refused NoTransaction) = false
 busy (Refused AlreadyBegun) = false
 busy (Refused Busy) = true
+busy (Refused (ReadConflict row by)) = false
 
 -- whether an outcome is that of a commit or an abort of an active transaction, which it ends
 abbrev pub is_ending : Outcome → Bool

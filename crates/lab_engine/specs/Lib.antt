@@ -1,4 +1,5 @@
 pub mod Limits
+pub mod RuleTable
 pub mod Log
 pub mod Rules
 pub mod Laws
@@ -30,3 +31,5 @@ pub mod RecordingLaws
 pub mod RecordedLog
 pub mod Gathered
 pub mod OverLimit
+pub mod Taken
+pub mod KeptCommits

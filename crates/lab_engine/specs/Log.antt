@@ -14,12 +14,12 @@ use Rattle.lab_history.specs.declared.operation.VersionName.TheVariants.{Initial
 use Rattle.lab_history.specs.VersionName.{View}
 use Rattle.lab_engine.specs.declared.version.Version.{Version as Named}
 use Rattle.lab_engine.specs.declared.event.Level.{Level}
-use Rattle.lab_engine.specs.declared.event.Level.TheVariants.{Locking, Snapshot, Committed as ReadCommitted}
 use Rattle.lab_engine.specs.declared.event.EngineFault.{EngineFault}
-use Rattle.lab_engine.specs.declared.event.EngineFault.TheVariants.{DuplicateKey, OutOfRange, Deadlock, WriteConflict, NoTransaction, AlreadyBegun, Busy}
+use Rattle.lab_engine.specs.declared.event.EngineFault.TheVariants.{DuplicateKey, OutOfRange, Deadlock, WriteConflict, NoTransaction, AlreadyBegun, Busy, ReadConflict}
 use Rattle.lab_engine.specs.declared.event.Outcome.{Outcome}
 use Rattle.lab_engine.specs.declared.event.Outcome.TheVariants.{Begun, Rows as Listed, Committed, Aborted, Waits, Refused}
 use Rattle.lab_engine.specs.declared.event.LogEvent.{LogEvent}
+use Rattle.lab_engine.specs.RuleTable.{rules_of}
 
 -- the events before a moment, the newest first
 abbrev pub Past : Type 0
@@ -55,6 +55,7 @@ is_fatal (WriteConflict row by) = true
 is_fatal NoTransaction = false
 is_fatal AlreadyBegun = false
 is_fatal Busy = false
+is_fatal (ReadConflict row by) = true
 
 -- the active transaction of a session after one of its events
 abbrev pub active_after : Command → Outcome → Past → Option Txn → Option Txn
@@ -124,11 +125,13 @@ initial_version setup row = record { name = Initial; state = map.get setup row }
 abbrev pub committed_version : Table → Past → Row → Version
 committed_version setup past row = unwrap_or (last_installed (commits past) row) (initial_version setup row)
 
--- the past whose commits a transaction sees: as of now, at snapshot as of its begin
+-- whether a transaction sees the commits as of its begin, and not as of now
+abbrev pub sees_as_of_begin : Level → Bool
+sees_as_of_begin level = (rules_of level).sees_begin
+
+-- the past whose commits a transaction sees: as of now, or as of its begin
 abbrev pub sight : Level → Past → Txn → Past
-sight Locking past txn = past
-sight ReadCommitted past txn = past
-sight Snapshot past txn = txn.before
+sight level past txn = cond (sees_as_of_begin level) txn.before past
 
 -- the version of a row that a transaction sees: its own last, else the committed one
 abbrev pub seen : Level → Table → Past → Txn → Row → Version
@@ -155,6 +158,7 @@ waiting_after command (Refused (WriteConflict row by)) before = None
 waiting_after command (Refused NoTransaction) before = None
 waiting_after command (Refused AlreadyBegun) before = None
 waiting_after command (Refused Busy) before = before
+waiting_after command (Refused (ReadConflict row by)) before = None
 
 -- the statement that a session waits with: that of its last event, Busy aside, if its outcome is Waits
 abbrev pub waiting : Past → ℕ → Option Statement

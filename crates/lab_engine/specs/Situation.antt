@@ -10,7 +10,6 @@ use Rattle.lab_table.specs.declared.statement.Statement.{Statement}
 use Rattle.lab_table.specs.declared.statement.Command.{Command}
 use Rattle.lab_history.specs.declared.operation.Op.{Op}
 use Rattle.lab_engine.specs.declared.event.Level.{Level}
-use Rattle.lab_engine.specs.declared.event.Level.TheVariants.{Locking, Snapshot, Committed as ReadCommitted}
 use Rattle.lab_engine.specs.declared.event.Outcome.{Outcome}
 use Rattle.lab_engine.specs.declared.event.Outcome.TheVariants.{Begun, Rows as Listed, Committed, Aborted, Waits, Refused}
 use Rattle.lab_engine.specs.declared.row_states.RowStates.{RowStates}
@@ -20,14 +19,18 @@ use Rattle.lab_engine.specs.declared.situation.Situation.{Situation}
 use Rattle.lab_engine.specs.Chains.{chain}
 use Rattle.lab_engine.specs.KeptRows.{chain_in, pending_in, AreReady}
 use Rattle.lab_engine.specs.Limits.{max_events}
+use Rattle.lab_engine.specs.KeptCommits.{AreCommits, kept_rows}
+use Rattle.lab_engine.specs.RuleTable.{rules_of, keeps_reads, Where}
 use Rattle.lab_engine.specs.Log.{Past, Version, Txn, active, waiting, asked, begun, version_by}
 pub use Rattle.lab_engine.specs.Sessions.{all_sessions}
 
 -- whether a level asks for the statements that its active transactions have run
 abbrev pub keeps_statements : Level → Bool
-keeps_statements Locking = true
-keeps_statements ReadCommitted = false
-keeps_statements Snapshot = false
+keeps_statements level = keeps_reads (rules_of level)
+
+-- whether it asks for the rows that each commit installed
+abbrev pub keeps_commits : Level → Bool
+keeps_commits level = (rules_of level).read_clashes
 
 -- those of these operations that are kept then, in order: all or none
 abbrev pub kept_statements : Level → List Op → List Statement
@@ -101,6 +104,7 @@ pub record Describes (level : Level) (past : Past) (situation : Situation) : Typ
   pub active_is : (session : ℕ) → IsSome (active past session) → Contains all_sessions session
   pub waiting_is : (session : ℕ) → IsSome (waiting past session) → Contains all_sessions session
   pub rows : DescribesRows past situation.rows
+  pub commits : Where (keeps_commits level) (AreCommits past (reverse (kept_rows situation.commits.items)))
   pub begun : situation.begun ≡ begun past
   pub events : situation.events ≡ length past
 

@@ -14,12 +14,12 @@ ghost use Rattle.lab_engine.specs.Asker.{IsAsker, seen_in};
 ghost use Rattle.lab_engine.specs.Rules.{MayAsk};
 ghost use Rattle.lab_engine.specs.Situation.{Describes};
 ghost use Rattle.lab_engine.specs.WaitsFor.{AreWaits};
-ghost use Rattle.lab_engine.specs.Answer.{MayGive, Answers};
+ghost use Rattle.lab_engine.specs.Answer.{MayGive, Answers, conflict_fault};
 
 use crate::asker::Asker;
 use crate::effect::{EffectFault, effect_of};
 use crate::event::{EngineFault, Outcome};
-use crate::rules::Rules;
+use crate::rules::{Conflict, ConflictKind, Rules};
 use crate::situation::Situation;
 use crate::waits::{blockers, deadlock};
 use lab_table::{Command, NoMemory, Session, Statement, Table, TxnNo};
@@ -48,10 +48,7 @@ pub fn answer_to<R: Rules>(
         Command::Begin => Ok(Outcome::Refused(EngineFault::AlreadyBegun)),
         Command::Commit => match rules.conflict(&asker) {
             None => Ok(Outcome::Committed),
-            Some(conflict) => Ok(Outcome::Refused(EngineFault::WriteConflict {
-                row: conflict.row,
-                by: conflict.by,
-            })),
+            Some(conflict) => Ok(Outcome::Refused(fault_of(conflict))),
         },
         Command::Abort => Ok(Outcome::Aborted),
         Command::Run(statement) => run_statement(alloc, rules, &asker, statement),
@@ -72,6 +69,17 @@ fn without_transaction(situation: &Situation, session: Session, command: &Comman
         Command::Commit | Command::Abort | Command::Run(_) => {
             Outcome::Refused(EngineFault::NoTransaction)
         }
+    }
+}
+
+/// The refusal of a commit for a conflict.
+fn fault_of(conflict: Conflict) -> EngineFault
+    ensures { result ≡ conflict_fault conflict.kind conflict.row conflict.by }
+{
+    let Conflict { kind, row, by } = conflict;
+    match kind {
+        ConflictKind::Write => EngineFault::WriteConflict { row, by },
+        ConflictKind::Read => EngineFault::ReadConflict { row, by },
     }
 }
 

@@ -69,6 +69,13 @@ fn same_faults(a: &EngineFault, b: &EngineFault) -> bool
         EngineFault::NoTransaction => matches!(b, EngineFault::NoTransaction),
         EngineFault::AlreadyBegun => matches!(b, EngineFault::AlreadyBegun),
         EngineFault::Busy => matches!(b, EngineFault::Busy),
+        EngineFault::ReadConflict { row, by } => match b {
+            EngineFault::ReadConflict {
+                row: other_row,
+                by: other_by,
+            } => *row == *other_row && *by == *other_by,
+            _ => false,
+        },
     }
 }
 

@@ -17,6 +17,8 @@ pub enum Level {
     Committed,
     /// A transaction sees what had committed at its begin; nobody waits.
     Snapshot,
+    /// As at snapshot, and a commit is refused where what its transaction has read was changed since its begin.
+    Optimistic,
 }
 
 /// Sessions in an order.
@@ -33,7 +35,7 @@ impl Model for Sessions {
     ghost view = { λ s. s.items.items };
 }
 
-/// Why an engine refused a command. Refusals 2 to 5 abort the transaction; 6 to 8 change nothing but the log.
+/// Why an engine refused a command. Refusals 2 to 5 and 9 abort the transaction; 6 to 8 change nothing but the log.
 #[derive(Drop)]
 pub enum EngineFault {
     /// Refusal 2: the row that the insert adds is present.
@@ -52,6 +54,10 @@ pub enum EngineFault {
     AlreadyBegun,
     /// Refusal 8: a command of the session waits.
     Busy,
+    /// Refusal 9, of a commit: another transaction has installed a row since this one's begin, and one of this one's
+    /// statements matches the row as it was before that, or as it was then. The row named is the least such at or below
+    /// which there is no write conflict, and the transaction the first that did so.
+    ReadConflict { row: RowName, by: TxnNo },
 }
 
 /// What an engine answered.
@@ -129,6 +135,9 @@ impl EngineFault {
             EngineFault::NoTransaction => EngineFault::NoTransaction,
             EngineFault::AlreadyBegun => EngineFault::AlreadyBegun,
             EngineFault::Busy => EngineFault::Busy,
+            EngineFault::ReadConflict { row, by } => {
+                EngineFault::ReadConflict { row: *row, by: *by }
+            }
         })
     }
 }

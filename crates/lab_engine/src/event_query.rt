@@ -19,6 +19,7 @@ pub fn is_fatal_fault(fault: &EngineFault) -> bool
         EngineFault::NoTransaction => false,
         EngineFault::AlreadyBegun => false,
         EngineFault::Busy => false,
+        EngineFault::ReadConflict { .. } => true,
     }
 }
 
@@ -40,6 +41,7 @@ pub fn is_busy(outcome: &Outcome) -> bool
             EngineFault::NoTransaction => false,
             EngineFault::AlreadyBegun => false,
             EngineFault::Busy => true,
+            EngineFault::ReadConflict { .. } => false,
         },
     }
 }
@@ -56,6 +58,7 @@ fn is_conflict_fault(fault: &EngineFault) -> bool
         EngineFault::NoTransaction => false,
         EngineFault::AlreadyBegun => false,
         EngineFault::Busy => false,
+        EngineFault::ReadConflict { .. } => true,
     }
 }
 

@@ -11,15 +11,16 @@
 //! statement and whether its commit conflicts. Beside its setup and its log it keeps the [`Situation`] in which the log
 //! leaves sessions and rows, and calls ask that: of each session its active transaction, the statement that it waits
 //! with and those that block this, so who waits for whom; of each row the versions that commits installed and those
-//! that transactions have pending. A call decides on its event, then makes room for it, and then goes on by it, which
-//! takes no memory. The rules of each level, and the engines as journals over them, are in `lab_locking` and
-//! `lab_versions`.
+//! that transactions have pending; and of each commit, where the rules ask for it, the rows that it installed. A call
+//! decides on its event, then makes room for it, and then goes on by it, which takes no memory. The rules of each level,
+//! and the engines as journals over them, are in `lab_locking`, `lab_versions` and `lab_optimistic`.
 #![tactic(auto)]
 
 mod answer;
 mod answer_laws;
 mod asker;
 mod circle;
+mod committed_rows;
 mod decision;
 mod effect;
 mod engine;
@@ -29,6 +30,7 @@ mod event_query;
 mod gathering;
 mod installs;
 mod journal;
+mod kept_statement;
 mod laws;
 mod reading;
 mod recording;
@@ -39,6 +41,7 @@ mod rules;
 mod session_set;
 mod session_state;
 mod situation;
+mod taken;
 mod version;
 mod wait_graph;
 mod waits;
@@ -46,6 +49,7 @@ mod writers;
 
 pub use answer_laws::{least_circle_unique, one_outcome};
 pub use asker::Asker;
+pub use committed_rows::CommittedRows;
 pub use engine::{Engine, MAX_EVENTS};
 pub use event::{EngineFault, Level, LogEvent, Outcome, Sessions};
 pub use journal::Journal;
@@ -54,7 +58,7 @@ pub use recording::{RecordFault, Recording};
 pub use recording_laws::{law_of_installers, law_of_views, recording_unique};
 pub use row_state::{Installed, RowState};
 pub use row_states::RowStates;
-pub use rules::{Conflict, Rules};
+pub use rules::{Conflict, ConflictKind, Rules};
 pub use session_set::SessionSet;
 pub use session_state::{RunningTxn, SessionState};
 pub use situation::Situation;

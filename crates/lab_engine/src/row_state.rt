@@ -64,6 +64,13 @@ impl RowState {
         self.pending.get(session)
     }
 
+    /// The installed versions, in order of the commits.
+    pub fn installed(&self) -> &[Installed]
+        ensures { reverse result.now ≡ self.now.chain }
+    {
+        &self.installed
+    }
+
     /// The last version that was installed by a commit with fewer than so many events before it.
     pub fn last_before(&self, place: usize) -> Option<Version>
         ensures { result ≡ plain.last_before place self.now.chain }

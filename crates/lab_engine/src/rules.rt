@@ -5,8 +5,7 @@ ghost use Rattle.lab_engine.specs.declared.event.Level.{Level as Kind};
 ghost use Rattle.lab_engine.specs.Log.{Past, Txn};
 ghost use Rattle.lab_engine.specs.Asker as plain;
 ghost use Rattle.lab_engine.specs.Asker.{AreOthers, IsAsker};
-ghost use Rattle.lab_engine.specs.Rules.{Blocks, MayCommit};
-ghost use Rattle.lab_engine.specs.Sight.{IsFirstConflict};
+ghost use Rattle.lab_engine.specs.Rules.{Blocks, IsFirstConflict, MayCommit};
 ghost use Rattle.lab_engine.specs.Situation as kept;
 
 use crate::asker::Asker;
@@ -14,16 +13,27 @@ use crate::event::Level;
 use crate::session_set::SessionSet;
 use lab_table::{RowName, Statement, TxnNo};
 
-/// A row that another transaction has installed since the begin of one that wrote it, and the first such transaction.
+/// What another transaction's install of a row, since the begin of one that commits, conflicts with.
+#[derive(Clone, Copy, Debug, PartialEq, Eq)]
+pub enum ConflictKind {
+    /// That one wrote the row too.
+    Write,
+    /// One of its statements matches the row as it was before the install, or as it was then.
+    Read,
+}
+
+/// Why a transaction may not commit.
 #[derive(Clone, Copy, Debug, PartialEq, Eq)]
 pub struct Conflict {
-    /// The least such row.
+    pub kind: ConflictKind,
+    /// The least row with a conflict; at one row a conflict by what was written comes first.
     pub row: RowName,
-    /// The transaction that was the first to install it since the begin.
+    /// The transaction that was the first since the begin to make it.
     pub by: TxnNo,
 }
 
-/// What is particular to a level: what a transaction sees, who blocks a statement, and which commits conflict. A type of
+/// What is particular to a level: what a transaction sees, who blocks a statement, and which commits conflict, by the table
+/// of rules. A type of
 /// rules has one level, and a journal makes its own by `default`.
 pub trait Rules: Default {
     /// The level that they are the rules of.
@@ -37,9 +47,13 @@ pub trait Rules: Default {
     fn sees_as_of_begin(&self) -> bool
         ensures { result ≡ plain.sees_as_of_begin kind };
 
-    /// Whether the statements that active transactions have run are kept, for `blockers` to ask.
+    /// Whether the statements that active transactions have run are kept, for `blockers` or `conflict` to ask.
     fn keeps_statements(&self) -> bool
         ensures { result ≡ kept.keeps_statements kind };
+
+    /// Whether the rows that each commit installs are kept, for `conflict` to ask.
+    fn keeps_commits(&self) -> bool
+        ensures { result ≡ kept.keeps_commits kind };
 
     /// The sessions that block a statement.
     fn blockers(&self, asker: &Asker, statement: &Statement) -> SessionSet
@@ -49,5 +63,5 @@ pub trait Rules: Default {
     /// Why the asker's transaction may not commit, if it may not; None where it may.
     fn conflict(&self, asker: &Asker) -> Option<Conflict>
         ensures { (past : Past) (txn : Txn) → IsAsker kind past txn asker.now
-            → MatchOption result (MayCommit kind past txn) (IsFirstConflict kind past txn) };
+            → MatchOption result (MayCommit kind asker.now.setup.now past txn) (λ c. IsFirstConflict kind asker.now.setup.now past txn c.kind c.row c.by) };
 }

@@ -1,6 +1,6 @@
 //! What is kept of a session.
 
-ghost use Rattle.std.specs.Prelude.{◌≡◌, ◌==◌, ◌<◌, ◌≤◌, ◌+◌, ◌++◌, ◌∷◌, ℕ, [], None, Some, Option, true, false, cond, is_some, length, IfOk, OnOk, OnErr};
+ghost use Rattle.std.specs.Prelude.{◌≡◌, ◌==◌, ◌<◌, ◌≤◌, ◌+◌, ◌++◌, ◌∷◌, ℕ, [], None, Some, Option, option_map, true, cond, is_some, length, OnOk};
 ghost use Rattle.std.specs.Option.{option_or, option_to_list};
 ghost use Rattle.std.specs.Vec.{vec_capacity};
 ghost use Rattle.std.specs.FinMap as map;
@@ -12,15 +12,15 @@ ghost use Rattle.lab_history.specs.declared.operation.VersionName.TheVariants.{O
 ghost use Rattle.lab_engine.specs.declared.event.Level.{Level as Kind};
 ghost use Rattle.lab_engine.specs.declared.event.Outcome.TheVariants.{Committed, Rows as Listed};
 ghost use Rattle.lab_engine.specs.Limits.{max_events};
-ghost use Rattle.lab_engine.specs.Log.{Past, Txn, active_after, asked, version_by};
+ghost use Rattle.lab_engine.specs.Log.{Past, Txn, active, active_after, asked, version_by};
 ghost use Rattle.lab_engine.specs.Chains.{chain_after};
-ghost use Rattle.lab_engine.specs.EventQuery.{is_ending};
+ghost use Rattle.lab_engine.specs.KeptCommits.{AreInstalled};
 ghost use Rattle.lab_engine.specs.KeptRows.{chain_in, pending_in, AreReady};
 ghost use Rattle.lab_engine.specs.Merging.{written_version};
 ghost use Rattle.lab_engine.specs.Situation.{DescribesSession, DescribesRows, Agree, IsRunning, HasRoom, HasPlaces, HoldsOutcome, grown, keeps_statements, kept_of, written_by};
 
 use crate::event::{LogEvent, Outcome};
-use crate::event_query::{asked_statement, is_busy, is_over};
+use crate::event_query::{is_busy, is_over};
 use crate::row_states::RowStates;
 use lab_history::{VersionName, Writes};
 use lab_table::{Command, NoMemory, RowName, Session, Statement, TxnNo};
@@ -51,39 +51,6 @@ pub struct SessionState {
     pub running: Option<RunningTxn>,
 }
 
-/// A copy of the statement of an event, where it is kept behind it: one that ran, where those are kept, or one that
-/// waits. NoMemory where an allocation was refused; a transaction's end takes no memory.
-pub(crate) fn kept_copy(
-    alloc: Global,
-    event: &LogEvent,
-    keeps: bool,
-) -> Result<Option<Statement>, NoMemory>
-    ensures copy { IfOk result (λ kept. kept ≡ kept_of keeps event.now.command event.now.outcome) }
-    ensures err { OnErr result (is_ending event.now.outcome ≡ false) }
-{
-    match &event.outcome {
-        Outcome::Rows { .. } => {
-            if keeps {
-                copy_asked(alloc, &event.command)
-            } else {
-                Ok(None)
-            }
-        }
-        Outcome::Waits { .. } => copy_asked(alloc, &event.command),
-        _ => Ok(None),
-    }
-}
-
-/// A copy of what a command asks for, if it is a statement. NoMemory where an allocation was refused.
-fn copy_asked(alloc: Global, command: &Command) -> Result<Option<Statement>, NoMemory>
-    ensures { IfOk result (λ copy. copy ≡ asked command.now) }
-{
-    match asked_statement(command) {
-        Some(statement) => Ok(Some(statement.copy(alloc)?)),
-        None => Ok(None),
-    }
-}
-
 impl SessionState {
     /// A session that does nothing.
     pub(crate) fn idle(session: Session) -> SessionState
@@ -112,7 +79,7 @@ impl SessionState {
     }
 
     /// Goes on by one event of the session, with so many events before it, and so do the rows. What is kept of its
-    /// statement is taken. It takes no memory.
+    /// statement is taken. The answer is the rows that its commit installs, if it is one. It takes no memory.
     pub(crate) fn take_in(
         &mut self,
         alloc: Global,
@@ -120,43 +87,65 @@ impl SessionState {
         event: &LogEvent,
         kept: &mut Option<Statement>,
         before: usize,
-    )
+    ) -> Option<Vec<RowName>>
         requires few { HasRoom self.old.running }
         requires room { HoldsOutcome (is_some kept.old) event.now.outcome self.old.running rows.old }
         ensures session { self.new.session ≡ self.old.session }
         ensures goes_on { (level : Kind) (past : Past) → kept.old ≡ kept_of (keeps_statements level) event.now.command event.now.outcome
             → event.now.session ≡ self.old.session → before ≡ length past → DescribesSession level past self.old × DescribesRows past rows.old
             → DescribesSession level (event.now ∷ past) self.new × DescribesRows (event.now ∷ past) rows.new }
+        ensures installed { (level : Kind) (past : Past) → event.now.session ≡ self.old.session → DescribesSession level past self.old
+            → AreInstalled event.now.outcome (active past event.now.session) (option_map (λ rows. rows.items) result) }
     {
         if is_busy(&event.outcome) {
-            return;
+            return None;
         }
         self.waits = None;
         match &event.outcome {
             Outcome::Begun(number) => {
                 give_up(rows, self.session, &self.running);
                 self.running = Some(RunningTxn::begin(alloc, *number, before));
+                None
             }
-            Outcome::Rows { writes, .. } => run_in(
-                rows,
-                self.session,
-                &mut self.running,
-                &event.command,
-                kept,
-                writes,
-            ),
-            Outcome::Waits { .. } => self.waits = kept.take(),
+            Outcome::Rows { writes, .. } => {
+                run_in(
+                    rows,
+                    self.session,
+                    &mut self.running,
+                    &event.command,
+                    kept,
+                    writes,
+                );
+                None
+            }
+            Outcome::Waits { .. } => {
+                self.waits = kept.take();
+                None
+            }
             Outcome::Committed => {
                 install(rows, self.session, &self.running, before);
-                self.running = None;
+                written_of(self.running.take())
             }
             other => {
                 if is_over(other) {
                     give_up(rows, self.session, &self.running);
                     self.running = None;
+                    None
+                } else {
+                    None
                 }
             }
         }
+    }
+}
+
+/// The rows that an active transaction, if there is one, has written; it is given up.
+fn written_of(running: Option<RunningTxn>) -> Option<Vec<RowName>>
+    ensures { option_map (λ rows. rows.items) result ≡ option_map (λ r. r.written.items) running }
+{
+    match running {
+        Some(running) => Some(running.written),
+        None => None,
     }
 }
 

@@ -19,6 +19,13 @@ fn alike_faults(a: &EngineFault, b: &EngineFault) -> bool {
                 by: other_by,
             },
         ) => row == other && by == other_by,
+        (
+            EngineFault::ReadConflict { row, by },
+            EngineFault::ReadConflict {
+                row: other,
+                by: other_by,
+            },
+        ) => row == other && by == other_by,
         (EngineFault::NoTransaction, EngineFault::NoTransaction) => true,
         (EngineFault::AlreadyBegun, EngineFault::AlreadyBegun) => true,
         (EngineFault::Busy, EngineFault::Busy) => true,

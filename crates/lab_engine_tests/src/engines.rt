@@ -7,11 +7,10 @@ use crate::listings::{LISTINGS, listing};
 use crate::plain::PlainEngine;
 use crate::recordings::is_plain;
 use lab_engine::{Engine, Level, LogEvent, Outcome, Recording};
-use lab_locking::LockEngine;
+use lab_levels::on_engine;
 use lab_script::{Line, Script, parse_script};
 use lab_session::play_script;
 use lab_table::{Command, NoMemory, Session, Table};
-use lab_versions::{CommittedEngine, SnapshotEngine};
 use std::alloc::Global;
 use std::process::Abort;
 use std::test::Fail;
@@ -234,44 +233,31 @@ fn script_of(alloc: Global, number: u32) -> Option<Script> {
     script
 }
 
-/// Whether the locking engine runs and plays a script as a plain one.
-fn locking_alike(alloc: Global, script: &Script) -> Option<bool> {
-    let engine = LockEngine::new(alloc, script.setup.copy(alloc).ok()?);
-    if !runs_alike(alloc, engine, script)? {
+/// Whether the engine of a level runs and plays a script as a plain one.
+fn level_alike(alloc: Global, level: Level, script: &Script) -> Option<bool> {
+    let setup = script.setup.copy(alloc).ok()?;
+    let alike = on_engine!(
+        level,
+        alloc,
+        setup,
+        |engine| runs_alike(alloc, engine, script)
+    );
+    if !alike? {
         return Some(false);
     }
-    let engine = LockEngine::new(alloc, script.setup.copy(alloc).ok()?);
-    plays_alike(alloc, engine, script)
+    let setup = script.setup.copy(alloc).ok()?;
+    on_engine!(
+        level,
+        alloc,
+        setup,
+        |engine| plays_alike(alloc, engine, script)
+    )
 }
 
-/// Whether the committed engine runs and plays a script as a plain one.
-fn committed_alike(alloc: Global, script: &Script) -> Option<bool> {
-    let engine = CommittedEngine::new(alloc, script.setup.copy(alloc).ok()?);
-    if !runs_alike(alloc, engine, script)? {
-        return Some(false);
-    }
-    let engine = CommittedEngine::new(alloc, script.setup.copy(alloc).ok()?);
-    plays_alike(alloc, engine, script)
-}
-
-/// Whether the snapshot engine runs and plays a script as a plain one.
-fn snapshot_alike(alloc: Global, script: &Script) -> Option<bool> {
-    let engine = SnapshotEngine::new(alloc, script.setup.copy(alloc).ok()?);
-    if !runs_alike(alloc, engine, script)? {
-        return Some(false);
-    }
-    let engine = SnapshotEngine::new(alloc, script.setup.copy(alloc).ok()?);
-    plays_alike(alloc, engine, script)
-}
-
-/// Whether the engine of a level runs and plays the script of a number as a plain one.
+/// The same of the script of a number.
 fn is_alike(alloc: Global, level: Level, number: u32) -> Option<bool> {
     let script = script_of(alloc, number)?;
-    let alike = match level {
-        Level::Locking => locking_alike(alloc, &script),
-        Level::Committed => committed_alike(alloc, &script),
-        Level::Snapshot => snapshot_alike(alloc, &script),
-    };
+    let alike = level_alike(alloc, level, &script);
     drop(script);
     alike
 }
@@ -298,5 +284,11 @@ fn the_committed_engine_answers_as_a_plain_one(rt: HostRuntime) -> Result<(), Fa
 #[test]
 fn the_snapshot_engine_answers_as_a_plain_one(rt: HostRuntime) -> Result<(), Fail> {
     shows_alike(&rt, rt.alloc(), Level::Snapshot);
+    Ok(())
+}
+
+#[test]
+fn the_optimistic_engine_answers_as_a_plain_one(rt: HostRuntime) -> Result<(), Fail> {
+    shows_alike(&rt, rt.alloc(), Level::Optimistic);
     Ok(())
 }

@@ -106,13 +106,32 @@ impl PlainEngine {
         }
     }
 
-    /// At snapshot a commit is refused at the least row that another transaction installed since the begin.
-    fn commit(&self, txn: &Txn<'_>) -> Outcome {
+    /// Whether a transaction sees what had committed at its begin.
+    pub fn sees_begin(&self) -> bool {
+        matches!(self.level, Level::Snapshot | Level::Optimistic)
+    }
+
+    /// Why a commit is refused at a row, if it is: another transaction installed the row since the begin and this one wrote
+    /// it, or at optimistic one of this one's statements matches it as it was before that, or as it was then.
+    fn conflict(&self, txn: &Txn<'_>, row: RowName) -> Option<EngineFault> {
+        if !self.sees_begin() {
+            return None;
+        }
+        if let Some(by) = self.overtaken_by(txn, row) {
+            return Some(EngineFault::WriteConflict { row, by });
+        }
         if self.level == Level::Snapshot {
-            for row in &self.rows {
-                if let Some(by) = self.overtaken_by(txn, *row) {
-                    return Outcome::Refused(EngineFault::WriteConflict { row: *row, by });
-                }
+            return None;
+        }
+        let by = self.changed_by(txn, row)?;
+        Some(EngineFault::ReadConflict { row, by })
+    }
+
+    /// A commit is refused at the least row at which it conflicts.
+    fn commit(&self, txn: &Txn<'_>) -> Outcome {
+        for row in &self.rows {
+            if let Some(fault) = self.conflict(txn, *row) {
+                return Outcome::Refused(fault);
             }
         }
         Outcome::Committed

@@ -6,11 +6,10 @@ use crate::plain_recording::plain_history;
 use lab_engine::{Engine, LogEvent};
 use lab_history::History;
 use lab_history_file::write_history;
-use lab_locking::LockEngine;
+use lab_levels::{LEVELS, on_engine};
 use lab_script::{Script, parse_script};
 use lab_session::play_script;
 use lab_table::{NoMemory, Table};
-use lab_versions::{CommittedEngine, SnapshotEngine};
 use std::alloc::Global;
 use std::test::Fail;
 
@@ -86,13 +85,19 @@ fn plays_plain<E: Engine + Drop>(alloc: Global, engine: E, script: &Script) -> O
 
 /// The same on each engine.
 fn each_plain(alloc: Global, script: &Script) -> Option<bool> {
-    let locking = LockEngine::new(alloc, script.setup.copy(alloc).ok()?);
-    let locking = plays_plain(alloc, locking, script)?;
-    let committed = CommittedEngine::new(alloc, script.setup.copy(alloc).ok()?);
-    let committed = plays_plain(alloc, committed, script)?;
-    let snapshot = SnapshotEngine::new(alloc, script.setup.copy(alloc).ok()?);
-    let snapshot = plays_plain(alloc, snapshot, script)?;
-    Some(locking && committed && snapshot)
+    for level in LEVELS {
+        let setup = script.setup.copy(alloc).ok()?;
+        let plain = on_engine!(
+            level,
+            alloc,
+            setup,
+            |engine| plays_plain(alloc, engine, script)
+        );
+        if !plain? {
+            return Some(false);
+        }
+    }
+    Some(true)
 }
 
 /// The same of the script of a seed.

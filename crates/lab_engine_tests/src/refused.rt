@@ -5,12 +5,11 @@ ghost use Rattle.std.specs.Prelude.{◌≡◌, []};
 
 use crate::listings::listing;
 use lab_engine::{Engine, Level};
-use lab_locking::LockEngine;
+use lab_levels::{LEVELS, on_engine};
 use lab_refusal_tests::{refuse, was_refused};
 use lab_script::{Line, Script, parse_script};
 use lab_session::{Bench, BenchFault, CloseFault, print_log};
 use lab_table::Session;
-use lab_versions::{CommittedEngine, SnapshotEngine};
 use std::alloc::Global;
 use std::test::Fail;
 
@@ -202,27 +201,12 @@ fn played_at(
 ) -> Option<Play> {
     let setup = script.setup.copy(alloc).ok()?;
     let lines = script.lines.as_slice();
-    match level {
-        Level::Locking => played(alloc, LockEngine::new(alloc, setup), lines, place, growth),
-        Level::Committed => {
-            played(
-                alloc,
-                CommittedEngine::new(alloc, setup),
-                lines,
-                place,
-                growth,
-            )
-        }
-        Level::Snapshot => {
-            played(
-                alloc,
-                SnapshotEngine::new(alloc, setup),
-                lines,
-                place,
-                growth,
-            )
-        }
-    }
+    on_engine!(
+        level,
+        alloc,
+        setup,
+        |engine| played(alloc, engine, lines, place, growth)
+    )
 }
 
 /// Plays a script with each allocation of the turn at a place refused in turn, until none is. How many there were; None
@@ -263,7 +247,7 @@ fn wrong_place(alloc: Global, level: Level, script: &Script) -> Option<usize> {
 #[test]
 fn benches_that_are_refused_memory_are_as_before(rt: HostRuntime) -> Result<(), Fail> {
     for number in 0..SCRIPTS {
-        for level in [Level::Locking, Level::Committed, Level::Snapshot] {
+        for level in LEVELS {
             let script = parse_script(rt.alloc(), script_text(number)).ok();
             assert!(rt; script.is_some(), "script {number}");
             if let Some(script) = script {

@@ -5,11 +5,10 @@ use Rattle.lab_table.specs.Row.{Row}
 use Rattle.lab_table.specs.Table.{State}
 use Rattle.lab_statement.specs.Printed.{printed_row_name, printed_statement}
 use Rattle.lab_history.specs.History.{History}
-use Rattle.lab_history.specs.Version.{ops_of, op_at, viewed}
+use Rattle.lab_history.specs.Version.{ops_of, op_at, viewed, state_of}
 use Rattle.lab_history.specs.declared.operation.Op.{Op}
 use Rattle.lab_history.specs.declared.operation.VersionName.{VersionName}
 use Rattle.lab_history.specs.declared.operation.VersionName.TheVariants.{Initial, Of}
-use Rattle.lab_deps.specs.Broken.{state_of}
 use Rattle.lab_explain.specs.Phrases.{version_words}
 
 -- a transaction

@@ -1,6 +1,6 @@
 -- Words for a history: its transactions, operations, versions and their states.
 use Rattle.std.specs.Option.{option_or}
-use Rattle.std.specs.Prelude.{◌≡◌, ℕ, zero, suc, ◌+◌, ◌≤◌, ◌==◌, Bool, true, cond, Option, Some, None, is_some, option_map, option_and_then, unwrap_or, List, [], ◌∷◌, slice_get}
+use Rattle.std.specs.Prelude.{◌≡◌, ℕ, zero, suc, ◌+◌, ◌≤◌, ◌==◌, Bool, true, false, cond, Option, Some, None, is_some, is_none, option_map, option_and_then, unwrap_or, find, List, [], ◌∷◌, slice_get}
 use Rattle.std.specs.FinMap as map
 use Rattle.lab_table.specs.Row.{Row}
 use Rattle.lab_table.specs.Table.{State}
@@ -14,8 +14,7 @@ use Rattle.lab_history.specs.declared.operation.VersionName.TheVariants.{Initial
 
 -- the transaction with this number
 abbrev pub find_txn : List Txn → ℕ → Option Txn
-find_txn [] n = None
-find_txn (t ∷ ts) n = cond (t.no == n) (Some t) (find_txn ts n)
+find_txn txns n = find (λ t. t.no == n) txns
 
 -- how the transaction with this number ended, if there is one
 abbrev pub outcome_of : History → ℕ → Option Outcome
@@ -31,12 +30,11 @@ IsAborted h n = outcome_of h n ≡ Some Aborted
 
 -- a transaction's operations, none where there is no transaction
 abbrev pub ops_in : Option Txn → List Op
-ops_in None = []
-ops_in (Some t) = t.ops
+ops_in found = unwrap_or (option_map (λ t. t.ops) found) []
 
--- the operations of the transaction with this number
+-- the operations of the transaction with this number, none where there is no such transaction
 abbrev pub ops_of : History → ℕ → List Op
-ops_of h n = ops_in (find_txn h.txns n)
+ops_of h n = unwrap_or (option_map (λ t. t.ops) (find_txn h.txns n)) []
 
 -- the operation at a place, counted from 1
 abbrev pub op_at : List Op → ℕ → Option Op
@@ -60,9 +58,13 @@ abbrev pub version_state : History → Row → VersionName → Option State
 version_state h row Initial = Some (map.get h.initial row)
 version_state h row (Of n k) = option_and_then (λ op. new_state op row) (op_at (ops_of h n) k)
 
+-- the state of a version of a row; absent where there is no such version
+abbrev pub state_of : History → Row → VersionName → State
+state_of h row version = unwrap_or (version_state h row version) None
+
 -- the state of a row that an operation sees
 abbrev pub viewed_state : History → Op → Row → State
-viewed_state h op row = unwrap_or (version_state h row (viewed op row)) None
+viewed_state h op row = state_of h row (viewed op row)
 
 -- the greatest place of an operation that writes a row
 abbrev pub last_write : List Op → Row → Option ℕ
@@ -93,6 +95,15 @@ installers h row = unwrap_or (map.get h.installed row) []
 abbrev pub place_in : List ℕ → ℕ → Option ℕ
 place_in [] n = None
 place_in (m ∷ ms) n = cond (m == n) (Some 1) (option_map (λ p. suc p) (place_in ms n))
+
+-- whether there is a place, and it is this one
+abbrev pub is_at : Option ℕ → ℕ → Bool
+is_at None p = false
+is_at (Some q) p = q == p
+
+-- whether a transaction isn't among the installers of a row
+abbrev pub is_missing : History → ℕ → Row → Bool
+is_missing h n row = is_none (place_in (installers h row) n)
 
 -- a number stands at a place of a list, counted from 1
 abbrev pub StandsAt : List ℕ → ℕ → ℕ → Type 0

@@ -33,10 +33,11 @@ pub struct View {
 
 impl Model for View {
     ghost use Rattle.std.specs.FinMap as map;
-    ghost use Rattle.lab_table.specs.Row.{coded_row};
-    ghost use Rattle.lab_history.specs.VersionName.{View, coded_version};
+    ghost use Rattle.lab_table.specs.Row.{row_cmp, coded_row};
+    ghost use Rattle.lab_history.specs.declared.operation.VersionName.{VersionName};
+    ghost use Rattle.lab_history.specs.VersionName.{coded_version};
 
-    ghost Value = { View };
+    ghost Value = { map.FinMap row_cmp VersionName };
 
     ghost coded = { map.code coded_row coded_version };
 

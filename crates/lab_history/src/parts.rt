@@ -3,7 +3,7 @@
 use crate::transaction::{Installed, Txns};
 use lab_table::Table;
 
-/// The parts of a history, which `History::from_parts` looks at.
+/// The parts of a history.
 #[derive(Drop)]
 pub struct Parts {
     /// The table before the first transaction.

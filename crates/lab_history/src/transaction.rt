@@ -42,12 +42,11 @@ pub struct Installed {
 
 impl Model for Installed {
     ghost use Rattle.std.specs.FinMap as map;
-    ghost use Rattle.std.specs.Prelude.{T};
+    ghost use Rattle.std.specs.Prelude.{T, ℕ, List};
     ghost use Rattle.std.specs.Coded.{coded_ℕ, coded_list};
     ghost use Rattle.lab_table.specs.Row.{row_cmp, coded_row};
-    ghost use Rattle.lab_history.specs.Installed.{Installed};
 
-    ghost Value = { Installed };
+    ghost Value = { map.FinMap row_cmp (List ℕ) };
 
     ghost coded = { map.code coded_row (coded_list coded_ℕ) };
 

@@ -7,8 +7,8 @@ use Rattle.serde_json.specs.Find.{as_array}
 use Rattle.lab_table.specs.Row.{Row, row_cmp}
 use Rattle.lab_history.specs.Faults.{required}
 use Rattle.lab_history_file.specs.Member.{Key, with_key, key_parts, row_in, count, member_in}
-use Rattle.lab_history_file.specs.Entries.{txn_in_number, op_in_number, value_in, state_in, written_in, entry_in, one_in, version_name_in, installer_in, installers_of, installers_in, values_in, writes_in, view_in, installed_in}
-use Rattle.lab_history_file.specs.FileOf.{AreEach, IsListOf, IsMapOf, IsPair, IsVersion, IsInstalled}
+use Rattle.lab_history_file.specs.Entries.{txn_in_number, op_in_number, value_in, state_in, entry_in, one_in, version_name_in, installer_in, installers_of, installers_in, values_in, writes_in, view_in, installed_in}
+use Rattle.lab_history_file.specs.FileOf.{AreEach, IsListOf, IsMapOf, IsPair, IsValue, IsState, IsVersion, IsInstalled}
 use Rattle.lab_history.specs.declared.fault.FileFault.{FileFault}
 use Rattle.lab_history_file.specs.declared.file_version.FileVersion.{FileVersion}
 use Rattle.lab_history.specs.declared.operation.VersionName.{VersionName}
@@ -18,6 +18,7 @@ use Rattle.lab_history.specs.declared.path.ListPlace.TheVariants as list
 use Rattle.lab_history.specs.declared.path.Path.TheVariants as path
 use Rattle.lab_history.proofs.Steps.{both_ok, step_on, required_ok, required_is}
 use Rattle.lab_history_file.proofs.JsonShapes.{array_of}
+use Rattle.lab_history_file.proofs.FileKeys.{begins_with, with_begins}
 use Rattle.lab_history_file.proofs.ItemsRead.{each_read, each_is_read}
 use Rattle.lab_history_file.proofs.MemberKeys.{one_part, two_parts, member_begins, member_with}
 use Rattle.lab_history_file.proofs.ListsRead.{entries_read, map_read, entries_are_read}
@@ -52,15 +53,21 @@ module _ {X : Type 0} (n : ℕ) (read : FileVersion → ListPlace → ℕ → It
 
 -- ---- [key, x]
 
+-- what a value is read as
+abbrev pub ReadsAs : {X : Type 0} → (Data → Option X) → Data → X → Type 0
+ReadsAs read d x = read d ≡ Some x
+
 module _ {X : Type 0} (read : Data → Option X) (version : FileVersion) (place : ListPlace) (i : ℕ) where
-  pair_read : (d : Data) (x : Row × X) → entry_in 1 (one_in read) version place i d ≡ Ok x → IsPair version read d x
+  pair_read : (d : Data) (x : Row × X) → entry_in 1 (one_in read) version place i d ≡ Ok x → IsPair version (ReadsAs read) d x
   pair_read d x e =
       let is = entry_read 1 (one_in read) version place i d x e in
       let one = one_part is.1 is.4 in
-      (is.0, one.0, is.2 ∙ ap (λ ds. array (with_key is.0 ds)) one.1, is.3, required_ok _ _ _ (subst (λ ds. one_in read version place i ds ≡ Ok x.1) one.1 is.5))
+      (one.0, with_begins version x.0 (one.0 ∷ []) d is.0 (is.2 ∙ ap (λ ds. array (with_key is.0 ds)) one.1) is.3, required_ok _ _ _ (subst (λ ds. one_in read version place i ds ≡ Ok x.1) one.1 is.5))
 
-  pair_is_read : (d : Data) (x : Row × X) → IsPair version read d x → entry_in 1 (one_in read) version place i d ≡ Ok x
-  pair_is_read d x is = entry_is_read 1 (one_in read) version place i d x is.0 _ is.2 is.3 refl (required_is _ is.4)
+  pair_is_read : (d : Data) (x : Row × X) → IsPair version (ReadsAs read) d x → entry_in 1 (one_in read) version place i d ≡ Ok x
+  pair_is_read d x (one, begins, is) =
+      let key = begins_with version x.0 (one ∷ []) d begins in
+      entry_is_read 1 (one_in read) version place i d x key.0 _ key.1 key.2 refl (required_is _ is)
 
 -- ---- [key, txn, op]
 
@@ -78,13 +85,14 @@ module _ (version : FileVersion) (place : ListPlace) (i : ℕ) where
       let is = entry_read 2 version_name_in version place i d x e in
       let two = two_parts is.1 is.4 in
       let name = name_read two.0 two.1 x.1 (subst (λ ds. version_name_in version place i ds ≡ Ok x.1) two.2 is.5) in
-      (is.0, two.0, two.1, name.0, name.1, is.2 ∙ ap (λ ds. array (with_key is.0 ds)) two.2, is.3, name.2, name.3, name.4)
+      (two.0, two.1, name.0, name.1, with_begins version x.0 (two.0 ∷ two.1 ∷ []) d is.0 (is.2 ∙ ap (λ ds. array (with_key is.0 ds)) two.2) is.3, name.2, name.3, name.4)
 
   version_is_read : (d : Data) (x : Row × VersionName) → IsVersion version d x → entry_in 2 version_name_in version place i d ≡ Ok x
-  version_is_read d x is =
-      entry_is_read 2 version_name_in version place i d x is.0 _ is.5 is.6 refl
-      (step_on _ (required_is (path.Part place i (key_parts version)) is.7)
-      (step_on _ (required_is (path.Part place i (key_parts version + 1)) is.8) (ap (λ v. Ok v) (sym is.9))))
+  version_is_read d x (b, c, txn, op, begins, first, second, is) =
+      let key = begins_with version x.0 (b ∷ c ∷ []) d begins in
+      entry_is_read 2 version_name_in version place i d x key.0 _ key.1 key.2 refl
+      (step_on _ (required_is (path.Part place i (key_parts version)) first)
+      (step_on _ (required_is (path.Part place i (key_parts version + 1)) second) (ap (λ v. Ok v) (sym is))))
 
 -- ---- [key, [txn, ..]]
 
@@ -111,34 +119,35 @@ module _ (version : FileVersion) (place : ListPlace) (i : ℕ) where
       let is = entry_read 1 installers_in version place i d x e in
       let one = one_part is.1 is.4 in
       let parts = list_parts i (key_parts version) (as_array one.0) x.1 (subst (λ ds. installers_in version place i ds ≡ Ok x.1) one.1 is.5) in
-      (is.0, one.0, is.2 ∙ ap (λ ds. array (with_key is.0 ds)) one.1, is.3, (parts.0, array_of one.0 parts.0 parts.1, parts.2), parts.3)
+      ((one.0, with_begins version x.0 (one.0 ∷ []) d is.0 (is.2 ∙ ap (λ ds. array (with_key is.0 ds)) one.1) is.3, (parts.0, array_of one.0 parts.0 parts.1, parts.2)), parts.3)
 
   installed_is_read : (d : Data) (x : Row × List ℕ) → IsInstalled version d x → entry_in 1 installers_in version place i d ≡ Ok x
-  installed_is_read d x is =
-      entry_is_read 1 installers_in version place i d x is.0 _ is.2 is.3 refl
-      (ap (λ e. installers_of i (key_parts version) (as_array e)) is.4.1 ∙ list_is_read i (key_parts version) is.4.0 x.1 is.4.2 is.5)
+  installed_is_read d x ((one, begins, those), some) =
+      let key = begins_with version x.0 (one ∷ []) d begins in
+      entry_is_read 1 installers_in version place i d x key.0 _ key.1 key.2 refl
+      (ap (λ e. installers_of i (key_parts version) (as_array e)) those.1 ∙ list_is_read i (key_parts version) those.0 x.1 those.2 some)
 
 -- ---- the lists
 
 module _ (version : FileVersion) (place : ListPlace) (d : Data) where
-  pub values_read : (xs : List (Row × ℤ)) → values_in version place d ≡ Ok xs → IsMapOf (IsPair version value_in) d (finite.from_sorted xs)
-  values_read xs e = map_read _ place (IsPair version value_in) (pair_read value_in version place) d xs e
+  pub values_read : (xs : List (Row × ℤ)) → values_in version place d ≡ Ok xs → IsMapOf (IsPair version IsValue) d (finite.from_sorted xs)
+  values_read xs e = map_read _ place (IsPair version IsValue) (pair_read value_in version place) d xs e
 
-  pub values_are_read : (m : FinMap row_cmp ℤ) → IsMapOf (IsPair version value_in) d m → values_in version place d ≡ Ok (finite.entries m)
-  values_are_read m is = entries_are_read _ place (IsPair version value_in) (pair_is_read value_in version place) d (finite.entries m) is (finite.entries_sorted m)
+  pub values_are_read : (m : FinMap row_cmp ℤ) → IsMapOf (IsPair version IsValue) d m → values_in version place d ≡ Ok (finite.entries m)
+  values_are_read m is = entries_are_read _ place (IsPair version IsValue) (pair_is_read value_in version place) d (finite.entries m) is (finite.entries_sorted m)
 
-  pub writes_read : (ws : List (Row × State)) → writes_in version place d ≡ Ok ws → IsMapOf (IsPair version written_in) d (finite.from_sorted (new_states ws))
+  pub writes_read : (ws : List (Row × State)) → writes_in version place d ≡ Ok ws → IsMapOf (IsPair version IsState) d (finite.from_sorted (new_states ws))
   writes_read ws e =
-      let found = entries_read _ place (IsPair version state_in) (pair_read state_in version place) d ws e in
+      let found = entries_read _ place (IsPair version (ReadsAs state_in)) (pair_read state_in version place) d ws e in
       let is = found.0 in
       let rise = subst T (sym (new_states_sorted ws)) found.1 in
-      subst (IsListOf (IsPair version written_in) d) (sym (finite.entries-from_sorted row_cmp (new_states ws) rise)) (is.0, is.1, plain_writes version is.0 ws is.2)
+      subst (IsListOf (IsPair version IsState) d) (sym (finite.entries-from_sorted row_cmp (new_states ws) rise)) (is.0, is.1, plain_writes version is.0 ws is.2)
 
-  pub writes_are_read : (m : FinMap row_cmp (Option ℤ)) → IsMapOf (IsPair version written_in) d m → (ws : List (Row × State)) × (writes_in version place d ≡ Ok ws) × (new_states ws ≡ finite.entries m)
+  pub writes_are_read : (m : FinMap row_cmp (Option ℤ)) → IsMapOf (IsPair version IsState) d m → (ws : List (Row × State)) × (writes_in version place d ≡ Ok ws) × (new_states ws ≡ finite.entries m)
   writes_are_read m is =
       let code = code_writes version is.0 (finite.entries m) is.2 in
       let rise = ap (finite.is_sorted row_cmp) (sym code.2) ∙ new_states_sorted code.0 in
-      (code.0, entries_are_read _ place (IsPair version state_in) (pair_is_read state_in version place) d code.0 (is.0, is.1, code.1) (subst T rise (finite.entries_sorted m)), code.2)
+      (code.0, entries_are_read _ place (IsPair version (ReadsAs state_in)) (pair_is_read state_in version place) d code.0 (is.0, is.1, code.1) (subst T rise (finite.entries_sorted m)), code.2)
 
   pub view_read : (xs : List (Row × VersionName)) → view_in version place d ≡ Ok xs → IsMapOf (IsVersion version) d (finite.from_sorted xs)
   view_read xs e = map_read _ place (IsVersion version) (version_read version place) d xs e

@@ -3,13 +3,13 @@ use Rattle.std.proofs.Common.{◌≡◌, ◌≢◌, ℕ, ◌≤◌, ◌==◌, tr
 use Rattle.std.specs.Prelude.{sum, nat_lt}
 use Rattle.serde_json.specs.Data.{Data, array}
 use Rattle.serde_json.specs.Find.{as_array, as_object, as_str, at}
-use Rattle.lab_history_file.specs.Entries.{txn_in_number, value_in, state_in, written_in}
+use Rattle.lab_history_file.specs.Entries.{txn_in_number, state_in}
 use Rattle.lab_history_file.specs.FaultOf.{all_ops, IsWrong, IsRepeated, IsBadStatement, IsUnsorted, IsOverLimit, IsTrueIn, IsTrueFault}
 use Rattle.lab_history_file.specs.Member.{key_parts, count}
 use Rattle.lab_history_file.specs.FileVersion.{version_number}
 use Rattle.lab_history_file.specs.PlaceShape.{fits, parts_of}
 use Rattle.lab_history_file.specs.ValueAt.{txn_at, operation_at, list_at, value_at}
-use Rattle.lab_history_file.specs.FileOf.{SpellsIn, IsFileIn, IsFileOf, IsOperation, IsTransaction}
+use Rattle.lab_history_file.specs.FileOf.{SpellsIn, IsValue, IsState, IsFileIn, IsFileOf, IsOperation, IsTransaction}
 use Rattle.lab_history_file.specs.Keys.{txn_keys, op_keys}
 use Rattle.lab_history_file.specs.Format.{at_key, has_keys, outcome_named, number_said, said_by, version_said}
 use Rattle.lab_history.specs.History.{History}
@@ -28,6 +28,7 @@ use Rattle.lab_history.specs.declared.path.Path.TheVariants as path
 use Rattle.lab_history.specs.declared.transaction.Txn.{Txn}
 use Rattle.lab_history.proofs.Steps.{both_some}
 use Rattle.lab_history_file.proofs.OperationsRead.{each_count}
+use Rattle.lab_history_file.proofs.FileKeys.{state_read}
 use Rattle.lab_history_file.proofs.PlainWrites.{written_there}
 use Rattle.lab_history_file.proofs.FaultsOfTransactions.{read_number}
 use Rattle.lab_history_file.proofs.FileIsRead.{parts_of_file}
@@ -62,10 +63,10 @@ module _ (version : FileVersion) (d : Data) (h : History) (file : IsFileIn versi
   good_at : (place : ListPlace) (l : Data) → list_at d place ≡ Some l → IsGood version place l
   good_at list.Initial l e =
       let same : at_key (codes "initial") d ≡ l = cc in
-      subst (IsGood version list.Initial) (sym (ap (at_key (codes "initial")) file.holds.tree) ∙ same) (good_pairs version value_in list.Initial file.holds.initial h.initial refl (λ v. refl) file.holds.initial_is)
+      subst (IsGood version list.Initial) (sym (ap (at_key (codes "initial")) file.holds.tree) ∙ same) (good_pairs version IsValue list.Initial file.holds.initial h.initial refl (λ v x is. ap is_some is) file.holds.initial_is)
   good_at list.End l e =
       let same : at_key (codes "end") d ≡ l = cc in
-      subst (IsGood version list.End) (sym (ap (at_key (codes "end")) file.holds.tree) ∙ same) (good_pairs version value_in list.End file.holds.end h.end_table refl (λ v. refl) file.holds.end_is)
+      subst (IsGood version list.End) (sym (ap (at_key (codes "end")) file.holds.tree) ∙ same) (good_pairs version IsValue list.End file.holds.end h.end_table refl (λ v x is. ap is_some is) file.holds.end_is)
   good_at list.Installed l e =
       let same : at_key (codes "installed") d ≡ l = cc in
       subst (IsGood version list.Installed) (sym (ap (at_key (codes "installed")) file.holds.tree) ∙ same) (good_installed version file.holds.installed h.installed file.holds.installed_is)
@@ -76,11 +77,11 @@ module _ (version : FileVersion) (d : Data) (h : History) (file : IsFileIn versi
   good_at (list.Rows txn op) l e =
       let found = mapped_some (at_key (codes "rows")) (operation_at d txn op) l e in
       let is = op_of txn op found.0 found.1 in
-      subst (IsGood version (list.Rows txn op)) (sym (ap (at_key (codes "rows")) is.1.4) ∙ found.2) (good_pairs version value_in (list.Rows txn op) is.1.0 is.0.rows refl (λ v. refl) is.1.7)
+      subst (IsGood version (list.Rows txn op)) (sym (ap (at_key (codes "rows")) is.1.4) ∙ found.2) (good_pairs version IsValue (list.Rows txn op) is.1.0 is.0.rows refl (λ v x is. ap is_some is) is.1.7)
   good_at (list.Writes txn op) l e =
       let found = mapped_some (at_key (codes "writes")) (operation_at d txn op) l e in
       let is = op_of txn op found.0 found.1 in
-      subst (IsGood version (list.Writes txn op)) (sym (ap (at_key (codes "writes")) is.1.4) ∙ found.2) (good_pairs version written_in (list.Writes txn op) is.1.2 is.0.writes refl (λ v. written_there (state_in v)) is.1.8)
+      subst (IsGood version (list.Writes txn op)) (sym (ap (at_key (codes "writes")) is.1.4) ∙ found.2) (good_pairs version IsState (list.Writes txn op) is.1.2 is.0.writes refl (λ v x is. written_there (state_in v) ∙ ap is_some (state_read v x is)) is.1.8)
 
   fits_at : (p : Path) (v : Data) → value_at version d p ≡ Some v → fits version p v ≡ true
   fits_at path.Root v e = let same : d ≡ v = cc in subst (λ u. fits version path.Root u ≡ true) same (ap (fits version path.Root) file.holds.tree)

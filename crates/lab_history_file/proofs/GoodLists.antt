@@ -1,5 +1,5 @@
 -- The lists of a file are right: each member has its parts, and the rows rise.
-use Rattle.std.proofs.Common.{◌≡◌, ℕ, zero, suc, ◌+◌, true, T, List, [], ◌∷◌, Option, Some, is_some, slice_get, is_lt, refl, sym, ap, subst, ◌∙◌, arith, eq-eqb}
+use Rattle.std.proofs.Common.{◌≡◌, ℕ, zero, suc, ◌+◌, true, T, List, [], ◌∷◌, Some, is_some, slice_get, is_lt, refl, sym, ap, subst, ◌∙◌, arith, eq-eqb}
 use Rattle.std.specs.FinMap as finite
 use Rattle.std.specs.FinMap.{FinMap}
 use Rattle.serde_json.specs.Data.{Data, array, Items, no_items, item}
@@ -15,6 +15,7 @@ use Rattle.lab_history.specs.declared.operation.VersionName.{VersionName}
 use Rattle.lab_history.specs.declared.path.ListPlace.{ListPlace}
 use Rattle.lab_history.specs.declared.path.ListPlace.TheVariants as list
 use Rattle.lab_table.proofs.Tests.{both}
+use Rattle.lab_history_file.proofs.FileKeys.{begins_with}
 use Rattle.lab_history_file.proofs.KeyParts.{first_behind, key_begins, parts_fit}
 use Rattle.lab_history_file.proofs.MemberKeys.{key_count}
 
@@ -89,15 +90,15 @@ two_fit place b c first second (suc zero) u e = let same : c ≡ u = cc in subst
 two_fit place b c first second (suc (suc n)) u e = absurd cc
 
 module _ (version : FileVersion) where
-  pub good_pairs : {X : Type 0} (read : Data → Option X) (place : ListPlace) (l : Data) (m : FinMap row_cmp X) → parts_behind place ≡ 1 → ((v : Data) → second_fits place v ≡ is_some (read v))
-      → IsMapOf (IsPair version read) l m → IsGood version place l
-  good_pairs read place l m one second is = good_entries version (IsPair version read) place l m is
-      (λ v x pair. (pair.0, _, pair.2, pair.3, sym one, one_fits place pair.1 (second pair.1 ∙ ap is_some pair.4)))
+  pub good_pairs : {X : Type 0} (Is : Data → X → Type 0) (place : ListPlace) (l : Data) (m : FinMap row_cmp X) → parts_behind place ≡ 1 → ((v : Data) (x : X) → Is v x → second_fits place v ≡ true)
+      → IsMapOf (IsPair version Is) l m → IsGood version place l
+  good_pairs Is place l m one second is = good_entries version (IsPair version Is) place l m is
+      (λ v x pair. let key = begins_with version x.0 (pair.0 ∷ []) v pair.1 in (key.0, _, key.1, key.2, sym one, one_fits place pair.0 (second pair.0 x.1 pair.2)))
 
   pub good_view : (place : ListPlace) (l : Data) (m : FinMap row_cmp VersionName) → parts_behind place ≡ 2 → ((v : Data) → second_fits place v ≡ is_some (txn_in_number v))
       → IsMapOf (IsVersion version) l m → IsGood version place l
   good_view place l m two second is = good_entries version (IsVersion version) place l m is
-      (λ v x one. (one.0, _, one.5, one.6, sym two, two_fit place one.1 one.2 (second one.1 ∙ ap is_some one.7) (ap is_some one.8)))
+      (λ v x one. let key = begins_with version x.0 (one.0 ∷ one.1 ∷ []) v one.4 in (key.0, _, key.1, key.2, sym two, two_fit place one.0 one.1 (second one.0 ∙ ap is_some one.5) (ap is_some one.6)))
 
 -- a list of some installers has items
 some_items : (b : Data) (ns : List ℕ) (ds : Items) → b ≡ array ds → AreEach (λ e n. txn_in_number e ≡ Some n) ds ns → (ns ≡ [] → ⊥) → has_items (as_array b) ≡ true
@@ -108,13 +109,14 @@ some_items b ns (item d ds) is each some = ap (λ v. has_items (as_array v)) is
 module _ (version : FileVersion) where
   pub good_installed : (l : Data) (m : FinMap row_cmp (List ℕ)) → IsMapOf (IsInstalled version) l m → IsGood version list.Installed l
   good_installed l m is = good_entries version (IsInstalled version) list.Installed l m is
-      (λ v x one. (one.0, _, one.2, one.3, refl, one_fits list.Installed one.1 (some_items one.1 x.1 one.4.0 one.4.1 one.4.2 one.5)))
+      (λ v x one. let pair = one.0 in let key = begins_with version x.0 (pair.0 ∷ []) v pair.1 in (key.0, _, key.1, key.2, refl, one_fits list.Installed pair.0 (some_items pair.0 x.1 pair.2.0 pair.2.1 pair.2.2 one.1)))
 
   -- an installer of a list of them
   pub installer_fits : (l : Data) (m : FinMap row_cmp (List ℕ)) → IsMapOf (IsInstalled version) l m → (i k : ℕ) (member inner v : Data) → at i l ≡ Some member
       → at (key_parts version) member ≡ Some inner → at k inner ≡ Some v → is_some (txn_in_number v) ≡ true
   installer_fits l m is i k member inner v e f g =
       let found = member_at version (IsInstalled version) list.Installed l m is i member e in
-      let one = found.2 in
-      let second : one.1 ≡ inner = let there = sym (ap (at (key_parts version)) one.2 ∙ first_behind version one.0 found.0.0 one.1 no_items one.3) ∙ f in cc in
-      ap is_some (each_at (λ d n. txn_in_number d ≡ Some n) one.4.0 _ one.4.2 k v (sym (ap (at k) (sym second ∙ one.4.1)) ∙ g)).2
+      let one = found.2.0 in
+      let key = begins_with version found.0.0 (one.0 ∷ []) member one.1 in
+      let second : one.0 ≡ inner = let there = sym (ap (at (key_parts version)) key.1 ∙ first_behind version key.0 found.0.0 one.0 no_items key.2) ∙ f in cc in
+      ap is_some (each_at (λ d n. txn_in_number d ≡ Some n) one.2.0 _ one.2.2 k v (sym (ap (at k) (sym second ∙ one.2.1)) ∙ g)).2

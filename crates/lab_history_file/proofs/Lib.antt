@@ -3,8 +3,9 @@ pub mod Counts
 pub mod MemberKeys
 pub mod Members
 pub mod KeyParts
-pub mod PlainWrites
 pub mod JsonShapes
+pub mod FileKeys
+pub mod PlainWrites
 pub mod ItemsRead
 pub mod ListsRead
 pub mod EntriesRead
@@ -27,6 +28,7 @@ pub mod Lifted
 pub mod ListedPlaces
 pub mod WrittenLists
 pub mod WrittenMembers
+pub mod WrittenOperations
 pub mod CodeBytes
 pub mod WritableTree
 pub mod Keys

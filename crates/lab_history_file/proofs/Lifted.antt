@@ -1,11 +1,11 @@
 -- A file of version 1, as one of version 2, is a file of the same history.
-use Rattle.std.proofs.Common.{◌≡◌, ℕ, List, [], ◌∷◌, Option, Some, Ok, refl, sym, ap, subst, ◌∙◌}
+use Rattle.std.proofs.Common.{◌≡◌, ℕ, List, [], ◌∷◌, ◌++◌, Some, Ok, refl, sym, ap, subst, ◌∙◌}
 use Rattle.serde_json.specs.Data.{Data, null, boolean, number, unsigned, string, array, object, Items, no_items, item}
 use Rattle.lab_table.specs.Row.{Row}
-use Rattle.lab_table.specs.TableName.{test_name}
-use Rattle.lab_history_file.specs.Member.{Key, plain, full, with_key, row_in}
-use Rattle.lab_history_file.specs.Entries.{txn_in_number, value_in, written_in}
-use Rattle.lab_history_file.specs.FileOf.{outcome_text, AreEach, IsListOf, IsPair, IsVersion, IsInstalled, IsOperation, IsTransaction, HoldsIn, IsFileIn, IsFileOf}
+use Rattle.lab_table.specs.TableName.{is_table_name}
+use Rattle.serde_json.specs.View.{items_of}
+use Rattle.lab_history_file.specs.Entries.{txn_in_number}
+use Rattle.lab_history_file.specs.FileOf.{outcome_text, AreEach, IsListOf, BeginsWith, IsPair, IsValue, IsState, IsVersion, IsInstalled, IsOperation, IsTransaction, HoldsIn, IsFileIn, IsFileOf}
 use Rattle.lab_history_file.specs.Format.{version_said, history_in}
 use Rattle.lab_history_file.specs.Lift.{each_item, in_list, lift_member, lift_list, lift_op, lift_txn, lift}
 use Rattle.lab_history.specs.History.{History}
@@ -34,24 +34,21 @@ module _ {X : Type 0} (Is Becomes : Data → X → Type 0) (change : Data → Da
 -- ---- members
 
 -- a key of version 1 with `test` in front of it is one of version 2
-abbrev lifted_key : Key → Key
-lifted_key (plain id) = full (string test_name) id
-lifted_key (full table id) = full table id
+begins_lifts : (row : Row) (behind : List Data) (d : Data) → BeginsWith One row behind d → BeginsWith Two row behind (lift_member d)
+begins_lifts row behind d (key, (id, is, test, there), tree) = (
+  string row.table ∷ id ∷ [],
+  (id, refl, ap is_table_name test, there),
+  ap lift_member (tree ∙ ap (λ (ds : List Data). array (items_of (ds ++ behind))) is) ∙ ap (λ (name : List ℕ). array (item (string name) (item id (items_of behind)))) (sym test),
+)
 
-key_lifts : (key : Key) (row : Row) (rest : Items) → row_in One key ≡ Some row
-    → (lift_member (array (with_key key rest)) ≡ array (with_key (lifted_key key) rest)) × (row_in Two (lifted_key key) ≡ Some row)
-key_lifts (plain id) row rest e = (refl, e)
-key_lifts (full table id) row rest e = absurd cc
-
-pair_lifts : {X : Type 0} (read : Data → Option X) (d : Data) (x : Row × X) → IsPair One read d x → IsPair Two read (lift_member d) x
-pair_lifts read d x is = let key = key_lifts is.0 x.0 _ is.3 in (lifted_key is.0, is.1, ap lift_member is.2 ∙ key.0, key.1, is.4)
+pair_lifts : {X : Type 0} (Is : Data → X → Type 0) (d : Data) (x : Row × X) → IsPair One Is d x → IsPair Two Is (lift_member d) x
+pair_lifts Is d x (b, begins, is) = (b, begins_lifts x.0 (b ∷ []) d begins, is)
 
 version_lifts : (d : Data) (x : Row × VersionName) → IsVersion One d x → IsVersion Two (lift_member d) x
-version_lifts d x is =
-    let key = key_lifts is.0 x.0 _ is.6 in (lifted_key is.0, is.1, is.2, is.3, is.4, ap lift_member is.5 ∙ key.0, key.1, is.7, is.8, is.9)
+version_lifts d x (b, c, txn, op, begins, first, second, is) = (b, c, txn, op, begins_lifts x.0 (b ∷ c ∷ []) d begins, first, second, is)
 
 installed_lifts : (d : Data) (x : Row × List ℕ) → IsInstalled One d x → IsInstalled Two (lift_member d) x
-installed_lifts d x is = let key = key_lifts is.0 x.0 _ is.3 in (lifted_key is.0, is.1, ap lift_member is.2 ∙ key.0, key.1, is.4, is.5)
+installed_lifts d x (pair, some) = (pair_lifts (IsListOf (λ number txn. txn_in_number number ≡ Some txn)) d x pair, some)
 
 -- ---- operations and transactions
 
@@ -64,8 +61,8 @@ op_lifts d op is = (
   ap lift_op is.4,
   record { spells = is.5.spells; may = refl },
   list_kept (IsVersion One) (IsVersion Two) lift_member version_lifts is.1 _ is.6,
-  list_kept (IsPair One value_in) (IsPair Two value_in) lift_member (pair_lifts value_in) is.0 _ is.7,
-  list_kept (IsPair One written_in) (IsPair Two written_in) lift_member (pair_lifts written_in) is.2 _ is.8,
+  list_kept (IsPair One IsValue) (IsPair Two IsValue) lift_member (pair_lifts IsValue) is.0 _ is.7,
+  list_kept (IsPair One IsState) (IsPair Two IsState) lift_member (pair_lifts IsState) is.2 _ is.8,
 )
 
 -- a number is no list
@@ -97,10 +94,10 @@ parts_lift d h file = record {
   end = lift_list file.end;
   tree = ap lift file.tree;
   number_is = refl;
-  initial_is = list_kept (IsPair One value_in) (IsPair Two value_in) lift_member (pair_lifts value_in) file.initial _ file.initial_is;
+  initial_is = list_kept (IsPair One IsValue) (IsPair Two IsValue) lift_member (pair_lifts IsValue) file.initial _ file.initial_is;
   transactions_are = list_kept (IsTransaction One) (IsTransaction Two) lift_txn txn_lifts file.transactions _ file.transactions_are;
   installed_is = list_kept (IsInstalled One) (IsInstalled Two) lift_member installed_lifts file.installed _ file.installed_is;
-  end_is = list_kept (IsPair One value_in) (IsPair Two value_in) lift_member (pair_lifts value_in) file.end _ file.end_is;
+  end_is = list_kept (IsPair One IsValue) (IsPair Two IsValue) lift_member (pair_lifts IsValue) file.end _ file.end_is;
 }
 
 -- a file that says version 1 is one of version 1

@@ -8,15 +8,20 @@ use Rattle.lab_history_file.specs.FileRead.{IsTextOf}
 use Rattle.lab_history_file.specs.Format.{history_in}
 use Rattle.lab_history.specs.History.{History}
 use Rattle.lab_history.specs.declared.fault.FileFault.{FileFault}
+use Rattle.lab_history_file.proofs.FileIsRead.{file_is_read}
 use Rattle.lab_history_file.specs.HistoryFile.{HoldsHistory, IsFormatFault, IsFileFault}
 
 -- bytes are the text of one value at most
 one_value : (bytes : List ℕ) (c d : Data) → IsTextOf bytes c → IsTextOf bytes d → history_in c ≡ history_in d
 one_value bytes c d (text, is) (again, found) = ap history_in (same_Some c d (sym is ∙ found))
 
+-- the history that bytes hold is read of their value
+read_of : (bytes : List ℕ) (h : History) (held : HoldsHistory bytes h) → history_in held.tree ≡ Ok h
+read_of bytes h held = file_is_read held.held.0 held.tree h held.held.1
+
 -- bytes are a file of one history at most
 pub one_history : (bytes : List ℕ) (g h : History) → HoldsHistory bytes g → HoldsHistory bytes h → g ≡ h
-one_history bytes g h first second = same_Some g h (ap result_ok (sym first.held ∙ one_value bytes first.tree second.tree first.spelled second.spelled ∙ second.held))
+one_history bytes g h first second = same_Some g h (ap result_ok (sym (read_of bytes g first) ∙ one_value bytes first.tree second.tree first.spelled second.spelled ∙ read_of bytes h second))
 
 -- a value that gives a history has no fault
 no_fault : (bytes : List ℕ) (c d : Data) (h : History) (f : FileFault) → IsTextOf bytes c → IsTextOf bytes d → history_in c ≡ Ok h → history_in d ≡ Err f → ⊥
@@ -24,7 +29,7 @@ no_fault bytes c d h f text again is faulty = false≢true (sym (ap is_ok (sym i
 
 no_format_fault : (bytes : List ℕ) (h : History) (f : FileFault) → HoldsHistory bytes h → IsFormatFault bytes f → ⊥
 no_format_fault bytes h f held (IsFormatFault.no_text none is) = none-some held.tree (sym (none held.spelled.0) ∙ held.spelled.1)
-no_format_fault bytes h f held (IsFormatFault.no_history tree text is) = no_fault bytes held.tree tree h f held.spelled text held.held is
+no_format_fault bytes h f held (IsFormatFault.no_history tree text is) = no_fault bytes held.tree tree h f held.spelled text (read_of bytes h held) is
 
 -- a file of a history has no fault
 pub no_file_fault : (bytes : List ℕ) (h : History) (f : FileFault) → HoldsHistory bytes h → IsFileFault bytes f → ⊥

@@ -7,13 +7,14 @@ use Rattle.serde_json.specs.Data.{Items, array, no_items, item}
 use Rattle.serde_json.specs.View.{items_of}
 use Rattle.lab_table.specs.Row.{Row, row_cmp}
 use Rattle.lab_table.proofs.Tests.{mapped_some}
-use Rattle.lab_history_file.specs.Entries.{state_in, written_in}
-use Rattle.lab_history_file.specs.FileOf.{AreEach, IsListOf, IsMapOf, IsPair}
+use Rattle.lab_history_file.specs.Entries.{state_in}
+use Rattle.lab_history_file.specs.FileOf.{AreEach, IsListOf, IsMapOf, IsPair, IsState}
 use Rattle.lab_history_file.specs.Tree.{written_tree, state_tree, pair_tree, list_tree, map_tree}
 use Rattle.lab_history.specs.VersionName.{state_value, new_states}
 use Rattle.lab_history_file.specs.declared.file_version.FileVersion.{FileVersion}
 use Rattle.lab_history_file.specs.declared.file_version.FileVersion.TheVariants.{Two}
 use Rattle.lab_history.specs.declared.operation.State.{State}
+use Rattle.lab_history_file.proofs.FileKeys.{state_is, state_read}
 
 -- the same values have states of both kinds
 pub written_there : (o : Option State) → is_some o ≡ is_some (option_map state_value o)
@@ -30,25 +31,25 @@ write_trees es = ap (λ ds. array (items_of ds)) (each es)
 
 module _ (version : FileVersion) where
   -- what stands for rows of the code stands for plain ones
-  pub plain_writes : (ds : Items) (es : List (Row × State)) → AreEach (IsPair version state_in) ds es → AreEach (IsPair version written_in) ds (new_states es)
+  pub plain_writes : (ds : Items) (es : List (Row × State)) → AreEach (IsPair version (λ d s. state_in d ≡ Some s)) ds es → AreEach (IsPair version IsState) ds (new_states es)
   plain_writes no_items [] each = tt
   plain_writes no_items (e ∷ es) each = absurd each
   plain_writes (item d ds) [] each = absurd each
-  plain_writes (item d ds) (e ∷ es) (is, each) = ((is.0, is.1, is.2, is.3, ap (option_map state_value) is.4), plain_writes ds es each)
+  plain_writes (item d ds) (e ∷ es) ((x, begins, is), each) = ((x, begins, state_is x (state_value e.1) (ap (option_map state_value) is)), plain_writes ds es each)
 
   -- and the other way round
-  pub code_writes : (ds : Items) (es : List (Row × Option ℤ)) → AreEach (IsPair version written_in) ds es → (ws : List (Row × State)) × AreEach (IsPair version state_in) ds ws × (new_states ws ≡ es)
+  pub code_writes : (ds : Items) (es : List (Row × Option ℤ)) → AreEach (IsPair version IsState) ds es → (ws : List (Row × State)) × AreEach (IsPair version (λ d s. state_in d ≡ Some s)) ds ws × (new_states ws ≡ es)
   code_writes no_items [] each = ([], tt, refl)
   code_writes no_items (e ∷ es) each = absurd each
   code_writes (item d ds) [] each = absurd each
-  code_writes (item d ds) (e ∷ es) (is, each) =
-      let state = mapped_some state_value (state_in is.1) e.1 is.4 in
+  code_writes (item d ds) (e ∷ es) ((x, begins, is), each) =
+      let state = mapped_some state_value (state_in x) e.1 (state_read x e.1 is) in
       let rest = code_writes ds es each in
-      ((e.0, state.0) ∷ rest.0, ((is.0, is.1, is.2, is.3, state.1), rest.1), λ i. (e.0, state.2 i) ∷ rest.2 i)
+      ((e.0, state.0) ∷ rest.0, ((x, begins, state.1), rest.1), λ i. (e.0, state.2 i) ∷ rest.2 i)
 
 -- what is written of rows of the code stands for the plain ones
 pub writes_stand : {A E : Type 0} (result : Result A E) (es : List (Row × State)) (m : FinMap row_cmp (Option ℤ)) → new_states es ≡ finite.entries m
-    → OnOk result (IsListOf (IsPair Two state_in) (list_tree (pair_tree state_tree) es) es) → OnOk result (IsMapOf (IsPair Two written_in) (map_tree written_tree m) m)
+    → OnOk result (IsListOf (IsPair Two (λ d s. state_in d ≡ Some s)) (list_tree (pair_tree state_tree) es) es) → OnOk result (IsMapOf (IsPair Two IsState) (map_tree written_tree m) m)
 writes_stand (Ok x) es m plain is =
-    subst (λ ws. IsListOf (IsPair Two written_in) (list_tree (pair_tree written_tree) ws) ws) plain (is.0, sym (write_trees es) ∙ is.1, plain_writes Two is.0 es is.2)
+    subst (λ ws. IsListOf (IsPair Two IsState) (list_tree (pair_tree written_tree) ws) ws) plain (is.0, sym (write_trees es) ∙ is.1, plain_writes Two is.0 es is.2)
 writes_stand (Err e) es m plain is = tt

@@ -38,7 +38,7 @@ each_listed version no_items [] each = refl
 each_listed version no_items (x ∷ xs) each = absurd each
 each_listed version (item d ds) [] each = absurd each
 each_listed version (item d ds) (x ∷ xs) each =
-    let is = each.0 in and_from _ _ (ap is_listed is.9 ∙ op_number_listed is.2 is.3 is.4 is.8) (each_listed version ds xs each.1)
+    let is = each.0 in and_from _ _ (ap is_listed is.7 ∙ op_number_listed is.1 is.2 is.3 is.6) (each_listed version ds xs each.1)
 
 some_installer : (ns : List ℕ) → ns ≢ [] → has_installer ns ≡ true
 some_installer [] some = absurd (some refl)
@@ -48,7 +48,7 @@ each_installed : (version : FileVersion) (ds : Items) (xs : List (Row × List �
 each_installed version no_items [] each = refl
 each_installed version no_items (x ∷ xs) each = absurd each
 each_installed version (item d ds) [] each = absurd each
-each_installed version (item d ds) (x ∷ xs) each = and_from _ _ (some_installer x.1 each.0.5) (each_installed version ds xs each.1)
+each_installed version (item d ds) (x ∷ xs) each = and_from _ _ (some_installer x.1 each.0.1) (each_installed version ds xs each.1)
 
 -- an operation of a file keeps what every operation keeps
 pub op_keeps : (version : FileVersion) (d : Data) (op : Op) → IsOperation version d op → OpKeeps op

@@ -7,11 +7,12 @@ use Rattle.lab_history.specs.declared.fault.FileFault.{FileFault}
 use Rattle.lab_history.specs.declared.fault.FileFault.TheVariants.{NoMemory}
 use Rattle.lab_history_file.specs.FileRead.{ReadsAs}
 use Rattle.lab_history_file.specs.Format.{history_in}
+use Rattle.lab_history_file.proofs.ReadIsFile.{read_is_file}
 use Rattle.lab_history_file.specs.HistoryFile.{HoldsHistory, IsFileFault, no_text, no_history, of_format}
 
 module _ (bytes : List ℕ) (short : length bytes ≤ max_file_bytes) where
   pub what_is_read_is_held : (result : Result History FileFault) → ReadsAs history_in bytes result → IfOk result (HoldsHistory bytes)
-  what_is_read_is_held (Ok history) (tree, spelled, held) = record { short = short; tree = tree; spelled = spelled; held = held }
+  what_is_read_is_held (Ok history) (tree, spelled, held) = record { short = short; tree = tree; spelled = spelled; held = read_is_file tree history held }
   what_is_read_is_held (Err fault) reads = tt
 
   pub what_is_told_is_first : (result : Result History FileFault) → ReadsAs history_in bytes result → IfErr result (λ fault. fault ≢ NoMemory → IsFileFault bytes fault)

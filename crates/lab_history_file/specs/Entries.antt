@@ -22,10 +22,11 @@ use Rattle.lab_history.specs.declared.operation.State.TheVariants.{Absent, Prese
 
 -- ---- numbers
 
--- a transaction's number, an operation's number
+-- a transaction's number
 abbrev pub txn_in_number : Data → Option ℕ
 txn_in_number d = whole_in 1 1000000 d
 
+-- an operation's number in its transaction
 abbrev pub op_in_number : Data → Option ℕ
 op_in_number d = whole_in 1 max_operations d
 
@@ -42,6 +43,7 @@ state_in (string s) = None
 state_in (array ds) = None
 state_in (object ms) = None
 
+-- the same as an option: the value, or none
 abbrev pub written_in : Data → Option (Option ℤ)
 written_in d = option_map state_value (state_in d)
 
@@ -96,18 +98,22 @@ installers_of index part None = Err (fault.WrongFormat (path.Part list.Installed
 installers_of index part (Some no_items) = Err (fault.WrongFormat (path.Part list.Installed index part))
 installers_of index part (Some (item d ds)) = items_from (installer_in index part) [] 0 (item d ds)
 
+-- the same of the part behind a member's key
 abbrev pub installers_in : FileVersion → ListPlace → ℕ → Items → Result (List ℕ) FileFault
 installers_in version place index behind = installers_of index (key_parts version) (option_and_then as_array (get_item 0 behind))
 
--- the lists
+-- rows with their values
 abbrev pub values_in : FileVersion → ListPlace → Data → Result (List (Row × ℤ)) FileFault
 values_in version place d = entries_in (entry_in 1 (one_in value_in) version place) place d
 
+-- rows with the states that were written
 abbrev pub writes_in : FileVersion → ListPlace → Data → Result (List (Row × State)) FileFault
 writes_in version place d = entries_in (entry_in 1 (one_in state_in) version place) place d
 
+-- rows with the versions that were seen
 abbrev pub view_in : FileVersion → ListPlace → Data → Result (List (Row × VersionName)) FileFault
 view_in version place d = entries_in (entry_in 2 version_name_in version place) place d
 
+-- rows with those who installed them
 abbrev pub installed_in : FileVersion → Data → Result (List (Row × List ℕ)) FileFault
 installed_in version d = entries_in (entry_in 1 installers_in version list.Installed) list.Installed d

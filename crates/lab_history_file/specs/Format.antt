@@ -43,6 +43,7 @@ are_keys [] (member k d ms) = false
 are_keys (key ∷ keys) no_members = false
 are_keys (key ∷ keys) (member k d ms) = bytes_eq k key && are_keys keys ms
 
+-- whether there is an object, with exactly these keys
 abbrev pub has_keys : List (List ℕ) → Option Members → Bool
 has_keys keys None = false
 has_keys keys (Some ms) = are_keys keys ms
@@ -62,6 +63,7 @@ abbrev pub spelled_in : ℕ → ℕ → Option Statement → Result Statement Fi
 spelled_in by op None = Err (fault.BadStatement by op)
 spelled_in by op (Some s) = Ok s
 
+-- an operation, or its first fault: of its keys, its statement, its view, its rows or its writes
 abbrev pub op_in : FileVersion → ℕ → ℕ → ℕ → Data → Result Op FileFault
 op_in version txn by index d =
     keyed (path.Operation txn index) op_keys d >>= λ _.
@@ -76,6 +78,7 @@ op_in version txn by index d =
 abbrev pub op_behind : FileVersion → ℕ → ℕ → List Op → ℕ → Data → Result Op FileFault
 op_behind version txn by before index d = op_in version txn by index d
 
+-- the outcome of this name
 abbrev pub outcome_named : List ℕ → Option Outcome
 outcome_named text = if bytes_eq text (codes "committed") then Some Committed else if bytes_eq text (codes "aborted") then Some Aborted else None
 
@@ -91,6 +94,7 @@ txn_in version before index d =
     items_from (op_behind version index number) [] 0 items >>= λ ops.
     Ok (record { no = number; outcome = outcome; ops = ops })
 
+-- the transactions of a list, or its first fault
 abbrev pub txns_in : FileVersion → Data → Result (List Txn) FileFault
 txns_in version d =
     required path.Transactions (as_array d) >>= λ items.
@@ -99,6 +103,7 @@ txns_in version d =
 
 -- ---- the whole
 
+-- whether the value says that it is such a file
 abbrev pub format_in : Data → Result ⊤ FileFault
 format_in d =
     required path.Root (as_object d) >>= λ _.
@@ -112,6 +117,7 @@ number_said d = option_and_then as_u64 (as_number (at_key (codes "version") d))
 abbrev pub numbered_version : ℕ → Result FileVersion FileFault
 numbered_version n = if n == 1 then Ok One else if n == 2 then Ok Two else Err (fault.WrongVersion n)
 
+-- the version that the value says, or why it says none
 abbrev pub version_in : Data → Result FileVersion FileFault
 version_in d = required path.Version (number_said d) >>= numbered_version
 
@@ -134,6 +140,7 @@ parts_of_version version d =
     values_in version list.End (at_key (codes "end") d) >>= λ end.
     Ok (record { initial = finite.from_sorted initial; txns = txns; installed = finite.from_sorted installed; end_table = finite.from_sorted end })
 
+-- the same of the version that the value says
 abbrev pub parts_in : Data → Result History FileFault
 parts_in d =
     format_in d >>= λ _.

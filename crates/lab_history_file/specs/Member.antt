@@ -38,13 +38,15 @@ id_in d = whole_in 1 999999 d
 abbrev pub name_in : List ℕ → Option (List ℕ)
 name_in text = if is_table_name text then Some text else None
 
+-- the name of a table, where a value is one
 abbrev pub table_in : Data → Option (List ℕ)
 table_in d = option_and_then name_in (as_str d)
 
--- the row of an id, and of a table's name and an id
+-- the row of an id
 abbrev pub plain_row : Option ℕ → Option Row
 plain_row id = option_map in_test id
 
+-- the row of a table's name and an id
 abbrev pub full_row : Option (List ℕ) → Option ℕ → Option Row
 full_row table id = option_and_then (λ name. option_map (numbered name) id) table
 
@@ -77,20 +79,22 @@ abbrev pub count : Items → ℕ
 count no_items = 0
 count (item d ds) = 1 + count ds
 
--- whether there is a list of so many items, and the list if it is
+-- whether there is a list of so many items
 abbrev pub has_size : ℕ → Option Items → Bool
 has_size n None = false
 has_size n (Some ds) = count ds == n
 
+-- the list, where it has so many items
 abbrev pub sized : ℕ → Option Items → Option Items
 sized n ds = if has_size n ds then ds else None
 
--- the row of a key, which has to be one
+-- the row of a key that is an id, or the fault of the part that is none
 abbrev pub plain_in : ListPlace → ℕ → Data → Result Row FileFault
 plain_in place index id =
     required (path.Part place index 0) (id_in id) >>= λ n.
     Ok (in_test n)
 
+-- the row of a key that is a table's name and an id, or the fault of the first part that is none
 abbrev pub full_in : ListPlace → ℕ → Data → Data → Result Row FileFault
 full_in place index table id =
     required (path.Part place index 0) (table_in table) >>= λ name.

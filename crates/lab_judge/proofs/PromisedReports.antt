@@ -1,10 +1,10 @@
 -- An exact judgement of the recording of a legal log says what its level promises.
-use Rattle.std.proofs.Common.{ℕ, List}
+use Rattle.std.proofs.Common.{ℕ, Bool, true, false, List}
 use Rattle.lab_table.specs.Table.{Table}
 use Rattle.lab_table.specs.Row.{Row}
 use Rattle.lab_history.specs.History.{History}
 use Rattle.lab_engine.specs.declared.event.Level.{Level}
-use Rattle.lab_engine.specs.declared.event.Level.TheVariants.{Locking, Snapshot, Committed as ReadCommitted}
+use Rattle.lab_engine.specs.RuleTable.{rules_of, keeps_reads, keeps_snapshots}
 use Rattle.lab_engine.specs.Recording.{IsLegalRecording}
 use Rattle.lab_engine.specs.RecordedLog.{RecordedLog, IsSoundRecord}
 use Rattle.lab_engine.specs.Log.{Past, past_of}
@@ -21,10 +21,10 @@ use Rattle.lab_judge.specs.declared.report.Grade.{Grade}
 use Rattle.lab_judge.specs.Judgement.{FindsWalk, FindsFault, JudgesAll, Judges, IsSerialVerdict, IsExactJudgement}
 use Rattle.lab_judge.specs.declared.serial.Serial.{Serial}
 use Rattle.lab_judge.specs.declared.serial.Serial.TheVariants as serial
-use Rattle.lab_judge.specs.Promises.{IsAbsent, IsPromised}
+use Rattle.lab_judge.specs.Promises.{KeepsBy, IsAbsent, PromisedBy, IsPromised}
 use Rattle.lab_judge.proofs.SoundRecordings.{is_sound}
 use Rattle.lab_judge.proofs.ExactJudgements.{yes_exactly, placed_exactly}
-use Rattle.lab_judge.proofs.KeptPromises.{no_g0, no_g1, no_walk, no_circle}
+use Rattle.lab_judge.proofs.KeptPromises.{keeps_promise}
 
 absent_walk : (is_one : List Edge → Type 0) → NoWalk is_one → (found : Finding) → FindsWalk is_one found → IsAbsent found
 absent_walk is_one none Absent finds = tt
@@ -53,13 +53,17 @@ judges_all h sound (serial.Yes order) is_true p grade judges = judges
 judges_all h sound (serial.NoCycle walk) is_true p grade judges = judges
 judges_all h sound (serial.NoFault fault) is_true p grade judges = absurd (sound fault is_true.0)
 
--- an exact judgement of a recording says what the level promises
+-- an exact judgement of a sound history says what the history keeps
+says : (h : History) (report : Report) → IsSound h → IsExactJudgement h report → (reads snapshots : Bool) → KeepsBy reads snapshots h → PromisedBy reads snapshots report
+says h report sound exact true snapshots none = (yes_exactly h report sound exact).1 none
+says h report sound exact false true none = (placed_exactly h report sound exact).1 none
+says h report sound exact false false (none_written, none_read) =
+    absent_all h sound none_written none_read report.phenomena report.level (judges_all h sound report.serial exact.judgement.serial report.phenomena report.level exact.judgement.found)
+
+-- so of a recording it says what the level promises
 pub promised : (level : Level) (setup : Table) (past : Past) (h : History) (report : Report) → IsLegalRecording level setup past h → IsExactJudgement h report → IsPromised level report
-promised Locking setup past h report recorded exact = (yes_exactly h report (is_sound recorded) exact).1 (no_walk recorded)
-promised ReadCommitted setup past h report recorded exact =
-    let sound = is_sound recorded in
-    absent_all h sound (no_g0 recorded) (no_g1 recorded) report.phenomena report.level (judges_all h sound report.serial exact.judgement.serial report.phenomena report.level exact.judgement.found)
-promised Snapshot setup past h report recorded exact = (placed_exactly h report (is_sound recorded) exact).1 (no_circle recorded)
+promised level setup past h report recorded exact =
+    says h report (is_sound recorded) exact (keeps_reads (rules_of level)) (keeps_snapshots (rules_of level)) (keeps_promise level setup past h recorded)
 
 -- so with a recording as contracts see it
 pub recording_promised : (r : RecordedLog) (report : Report) → IsSoundRecord r → IsExactJudgement r.history report → IsPromised r.level report

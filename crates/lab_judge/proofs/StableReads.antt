@@ -12,7 +12,6 @@ use Rattle.lab_history.specs.History.{History}
 use Rattle.lab_history.specs.Version as history
 use Rattle.lab_history.specs.declared.operation.Op.{Op}
 use Rattle.lab_engine.specs.declared.event.Level.{Level}
-use Rattle.lab_engine.specs.declared.event.Level.TheVariants.{Locking, Snapshot}
 use Rattle.lab_engine.specs.Log.{Past, Txn, commits, version_by, last_installed, initial_version}
 use Rattle.lab_engine.specs.Laws.{Untouched}
 use Rattle.lab_engine.specs.Recording.{IsLegalRecording}
@@ -26,7 +25,7 @@ use Rattle.lab_judge.specs.LogOrders.{commit_order}
 use Rattle.lab_judge.specs.Places.{is_anti, IsForwardOrder}
 use Rattle.lab_judge.specs.Phenomena.{IsClosedWalk, NoWalk}
 use Rattle.lab_judge.specs.Runs.{IsSerialRun}
-use Rattle.lab_judge.specs.Stable.{StaysTrue, ReadsStable, AllStayTrue, IsValidated, AllValidated}
+use Rattle.lab_judge.specs.Stable.{StaysTrue, ReadsStable}
 use Rattle.lab_judge.proofs.Suffixes.{suffix_of_suffix, same_suffix, head_same}
 use Rattle.lab_judge.proofs.Ranks.{rank-first, Installs}
 use Rattle.lab_judge.proofs.RecordedVersions.{installer_at, state_at-is}
@@ -144,26 +143,3 @@ module _ {level : Level} {setup : Table} {past : Past} {h : History} (recorded :
 
   pub stable_no_walk : NoWalk (IsClosedWalk h)
   stable_no_walk es walk = no_closed_walk h (commit_order past) es stable_forward walk
-
--- ---- who keeps the law of stable reads
--- locking does
-pub locking_stable : (setup : Table) (past : Past) → ReadsStable Locking setup past
-locking_stable setup past later txn earlier place front op ops ops_are ran = record { since = ran.since; since_is = ran.done_is; untouched = ran.untouched }
-
-true_at : (setup : Table) (front : List Op) (op : Op) (ops : List Op) (since base : List Txn) → AllStayTrue setup (front ++ op ∷ ops) since base → Untouched setup op.statement since base
-true_at setup [] op ops since base all = all.1
-true_at setup (first ∷ front) op ops since base all = true_at setup front op ops since base all.0
-
-validated_at : (setup : Table) (later : List Txn) (txn : Txn) (earlier : List Txn) → AllValidated setup (later ++ txn ∷ earlier) → IsValidated setup earlier txn
-validated_at setup [] txn earlier all = all.1
-validated_at setup (first ∷ later) txn earlier all = validated_at setup later txn earlier all.0
-
--- at snapshot validation does
-pub validated_stable : (setup : Table) (past : Past) → AllValidated setup (commits past) → ReadsStable Snapshot setup past
-validated_stable setup past all later txn earlier place front op ops ops_are ran =
-    let valid : IsValidated setup earlier txn = validated_at setup later txn earlier (subst (AllValidated setup) place all) in
-    record {
-      since = valid.since;
-      since_is = valid.since_is;
-      untouched = true_at setup front op ops valid.since (commits txn.before) (subst (λ k. AllStayTrue setup k valid.since (commits txn.before)) ops_are valid.true_still);
-    }

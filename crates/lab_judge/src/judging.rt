@@ -78,8 +78,8 @@ pub fn judge_bytes(alloc: Global, bytes: &[u8]) -> Result<Report, FileFault>
     }
 }
 
-/// Judges the history of a recording, which has what its level promises: at locking it is serializable, at committed it
-/// has no G0, G1a, G1b and G1c, at snapshot it is a snapshot run. NoMemory where an allocation was refused.
+/// Judges the history of a recording, which has what its level promises: at locking and optimistic it is serializable, at
+/// committed it has no G0, G1a, G1b and G1c, at snapshot it is a snapshot run. NoMemory where an allocation was refused.
 pub fn judge_recording(alloc: Global, recording: &Recording) -> Result<Report, NoMemory>
     ensures exact { IfOk result (IsExactJudgement recording.now.history) }
     ensures serial { IfOk result (λ report. IsSerialVerdict recording.now.history report.serial) }

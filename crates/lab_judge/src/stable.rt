@@ -1,17 +1,20 @@
 //! What a legal log's recording keeps where what was read stays true up to the commit. The functions have nothing to do:
 //! their contracts are the laws.
 
+ghost use Rattle.std.specs.Prelude.{IsTrue};
 ghost use Rattle.lab_table.specs.Table.{Table};
 ghost use Rattle.lab_history.specs.History.{History};
 ghost use Rattle.lab_engine.specs.declared.event.Level.{Level};
-ghost use Rattle.lab_engine.specs.declared.event.Level.TheVariants.{Locking, Snapshot};
-ghost use Rattle.lab_engine.specs.Log.{Past, commits};
+ghost use Rattle.lab_engine.specs.declared.event.Level.TheVariants.{Locking};
+ghost use Rattle.lab_engine.specs.RuleTable.{rules_of, keeps_reads};
+ghost use Rattle.lab_engine.specs.Log.{Past};
+ghost use Rattle.lab_engine.specs.Rules.{IsLegal};
 ghost use Rattle.lab_engine.specs.Recording.{IsLegalRecording};
 ghost use Rattle.lab_judge.specs.Runs.{IsSerialRun};
 ghost use Rattle.lab_judge.specs.Places.{IsForwardOrder};
 ghost use Rattle.lab_judge.specs.Phenomena.{NoWalk, IsClosedWalk};
 ghost use Rattle.lab_judge.specs.LogOrders.{commit_order};
-ghost use Rattle.lab_judge.specs.Stable.{ReadsStable, AllValidated};
+ghost use Rattle.lab_judge.specs.Stable.{ReadsStable};
 
 /// Where what each operation saw stays true up to its transaction's commit, every dependency follows the order of commits,
 /// whatever the level; so that order is a serial run.
@@ -21,8 +24,9 @@ pub fn stable_reads_are_serial()
     ensures no_walk { (level : Level) (setup : Table) (past : Past) (h : History) → IsLegalRecording level setup past h → ReadsStable level setup past → NoWalk (IsClosedWalk h) }
 {}
 
-/// Locking keeps reads stable, and so does a log at snapshot of which each commit was validated.
+/// Locking keeps reads stable, and so does each level by whose rules what a transaction has read is kept: who would change
+/// it waits, or the commit is refused.
 pub fn who_keeps_reads_stable()
     ensures locking { (setup : Table) (past : Past) → ReadsStable Locking setup past }
-    ensures validated { (setup : Table) (past : Past) → AllValidated setup (commits past) → ReadsStable Snapshot setup past }
+    ensures kept { (level : Level) (setup : Table) (past : Past) → IsTrue (keeps_reads (rules_of level)) → IsLegal level setup past → ReadsStable level setup past }
 {}

@@ -1,25 +1,27 @@
 -- A case's play at a level, in the words of the matrix.
 use Rattle.std.proofs.Common.{◌≡◌, ◌<◌, ℕ, suc, inl, inr, Ok, refl, sym, ap, ◌∙◌, subst, arith}
-use Rattle.std.specs.Prelude.{◌==◌, if◌then◌else◌}
+use Rattle.std.specs.Prelude.{◌==◌, Bool, true, false, if◌then◌else◌}
 use Rattle.std.proofs.lemmas.Bool.{cases_lt}
 use Rattle.lab_table.specs.Table.{Table}
 use Rattle.lab_script.specs.declared.script.Script.{Script}
 use Rattle.lab_history.specs.FirstPartsFault.{checked}
 use Rattle.lab_engine.specs.declared.event.Level.{Level}
-use Rattle.lab_engine.specs.declared.event.Level.TheVariants as level
+use Rattle.lab_engine.specs.RuleTable.{rules_of, keeps_reads, keeps_snapshots}
 use Rattle.lab_engine.specs.RecordedLog.{RecordedLog}
 use Rattle.lab_engine.specs.Log.{past_of}
 use Rattle.lab_engine.specs.Recording.{IsRecording}
 use Rattle.lab_session.specs.Play.{given_lines, IsLegalPlay, IsScriptedFault}
 use Rattle.lab_session.specs.declared.fault.PlayFault.{PlayFault}
 use Rattle.lab_judge.specs.Judgement.{IsExactJudgement}
-use Rattle.lab_judge.specs.Promises.{IsPromised}
+use Rattle.lab_judge.specs.Promises.{IsPromised, PromisedBy}
 use Rattle.lab_judge.specs.declared.report.Report.{Report}
 use Rattle.lab_matrix.specs.Listings.{usual_setup, case_script, listing}
-use Rattle.lab_matrix.specs.Matrix.{IsCell, IsRow, AreCells, KeepsPromises, IsRecorded, case_place, level_place, Precedes, IsCellFault, IsRowFault, IsMatrixFault, cell_of}
-use Rattle.lab_matrix.specs.EnginePromise.{Says, promise_of}
+use Rattle.lab_matrix.specs.Matrix.{IsCell, IsRow, AreCells, KeepsPromises, IsRecorded, case_place, column_place, level_of, Precedes, IsCellFault, IsRowFault, IsMatrixFault, cell_of}
+use Rattle.lab_matrix.specs.EnginePromise.{Says, promise_by, promise_of}
 use Rattle.lab_matrix.specs.declared.filling.MatrixFault.{MatrixFault}
 use Rattle.lab_matrix.specs.declared.filling.MatrixFault.TheVariants.{NoMemory, Play}
+use Rattle.lab_matrix.specs.declared.cells.Column.{Column}
+use Rattle.lab_matrix.specs.declared.cells.Column.TheVariants as column
 use Rattle.lab_matrix.specs.declared.cells.Row.{Row}
 use Rattle.lab_matrix.specs.declared.cells.Matrix.{Matrix}
 use Rattle.lab_matrix.specs.declared.name.CaseName.{CaseName}
@@ -53,11 +55,12 @@ module _ (case : CaseName) (at kind : Level) (opening : Table) (script : Script)
   pub fault_is : (fault : PlayFault) → IsScriptedFault kind opening (given_lines script.lines) fault → IsScriptedFault at usual_setup (given_lines (listing case)) fault
   fault_is fault faulty = moved (λ k t s. IsScriptedFault k t (given_lines s.lines) fault) faulty
 
--- a row whose cells are those of a case at the three levels
-pub each_level : (case : CaseName) (row : Row) → IsCell case level.Locking row.locking → IsCell case level.Committed row.committed → IsCell case level.Snapshot row.snapshot → IsRow case row
-each_level case row locking committed snapshot level.Locking = locking
-each_level case row locking committed snapshot level.Committed = committed
-each_level case row locking committed snapshot level.Snapshot = snapshot
+-- a row whose cells are those of a case in the columns
+pub each_column : (case : CaseName) (row : Row) → IsCell case (level_of column.Locking) row.locking → IsCell case (level_of column.Committed) row.committed
+    → IsCell case (level_of column.Snapshot) row.snapshot → IsRow case row
+each_column case row locking committed snapshot column.Locking = locking
+each_column case row locking committed snapshot column.Committed = committed
+each_column case row locking committed snapshot column.Snapshot = snapshot
 
 -- a matrix whose rows are those of the ten cases
 pub each_case : (m : Matrix) → IsRow name.G0 m.g0 → IsRow name.G1a m.g1a → IsRow name.G1b m.g1b → IsRow name.G1c m.g1c → IsRow name.Otv m.otv → IsRow name.Pmp m.pmp → IsRow name.P4 m.p4
@@ -73,40 +76,45 @@ each_case m g0 g1a g1b g1c otv pmp p4 g_single g2_item g2 name.GSingle at = g_si
 each_case m g0 g1a g1b g1c otv pmp p4 g_single g2_item g2 name.G2Item at = g2_item at
 each_case m g0 g1a g1b g1c otv pmp p4 g_single g2_item g2 name.G2 at = g2 at
 
--- the cells of a matrix say what is promised
-said : (at : Level) (report : Report) → IsPromised at report → Says (promise_of at) report
-said level.Locking report promised = promised
-said level.Committed report promised = promised
-said level.Snapshot report promised = promised
+-- a report says what is promised
+said_by : (reads snapshots : Bool) (report : Report) → PromisedBy reads snapshots report → Says (promise_by reads snapshots) report
+said_by true snapshots report promised = promised
+said_by false true report promised = promised
+said_by false false report promised = promised
 
+pub said : (at : Level) (report : Report) → IsPromised at report → Says (promise_of at) report
+said at report = said_by (keeps_reads (rules_of at)) (keeps_snapshots (rules_of at)) report
+
+-- so do the cells of a matrix
 pub promises_kept : (m : Matrix) → AreCells m → KeepsPromises m
-promises_kept m cells case at = said at (cell_of m case at) (cells case at).promised
+promises_kept m cells case at = said (level_of at) (cell_of m case at) (cells case at).promised
 
 -- a cell's play has a recording
 pub recorded : (case : CaseName) (at : Level) (report : Report) → IsCell case at report → IsRecorded case at
 recorded case at report cell = record { log = cell.recording.log; told = cell.recording.history; play = cell.play; history = cell.history; whole = cell.whole }
 
--- a refusal of a cell is the first of its row, where the levels before it have their recordings
-pub first_of_row : (case : CaseName) (at : Level) (fault : MatrixFault) → ((level : Level) → level_place level < level_place at → IsRecorded case level) → IsCellFault case at fault → IsRowFault case fault
-first_of_row case at NoMemory before is = tt
-first_of_row case at (Play own level fault) before (own_is, level_is, faulty) =
-    (own_is, faulty, subst (λ l. (k : Level) → level_place k < level_place l → IsRecorded case k) (sym level_is) before)
+-- a refusal of a cell is the first of its row, where the columns before it have their recordings
+pub first_of_row : (case : CaseName) (under : Column) (fault : MatrixFault) → ((at : Column) → column_place at < column_place under → IsRecorded case (level_of at))
+    → IsCellFault case (level_of under) fault → IsRowFault case fault
+first_of_row case under NoMemory before is = tt
+first_of_row case under (Play own level fault) before (own_is, level_is, faulty) = (under, level_is, own_is, faulty, before)
 
--- nothing stands before the first level
-pub none_before : (case : CaseName) (level : Level) → level_place level < 0 → IsRecorded case level
-none_before case level before = absurd (omega (arith, before))
+-- nothing stands before the first column
+pub none_before : (case : CaseName) (at : Column) → column_place at < 0 → IsRecorded case (level_of at)
+none_before case at before = absurd (omega (arith, before))
 
--- the first level stands before the second
-pub one_before : (case : CaseName) → IsRecorded case level.Locking → (at : Level) → level_place at < 1 → IsRecorded case at
-one_before case locking level.Locking before = locking
-one_before case locking level.Committed before = absurd (omega (arith, before))
-one_before case locking level.Snapshot before = absurd (omega (arith, before))
+-- the first column stands before the second
+pub one_before : (case : CaseName) → IsRecorded case (level_of column.Locking) → (at : Column) → column_place at < 1 → IsRecorded case (level_of at)
+one_before case locking column.Locking before = locking
+one_before case locking column.Committed before = absurd (omega (arith, before))
+one_before case locking column.Snapshot before = absurd (omega (arith, before))
 
 -- and both before the third
-pub two_before : (case : CaseName) → IsRecorded case level.Locking → IsRecorded case level.Committed → (at : Level) → level_place at < 2 → IsRecorded case at
-two_before case locking committed level.Locking before = locking
-two_before case locking committed level.Committed before = committed
-two_before case locking committed level.Snapshot before = absurd (omega (arith, before))
+pub two_before : (case : CaseName) → IsRecorded case (level_of column.Locking) → IsRecorded case (level_of column.Committed) → (at : Column) → column_place at < 2
+    → IsRecorded case (level_of at)
+two_before case locking committed column.Locking before = locking
+two_before case locking committed column.Committed before = committed
+two_before case locking committed column.Snapshot before = absurd (omega (arith, before))
 
 -- the case at a place
 case_at : ℕ → CaseName
@@ -135,27 +143,27 @@ at_its_place name.GSingle = refl
 at_its_place name.G2Item = refl
 at_its_place name.G2 = refl
 
--- the level at a place
-level_at : ℕ → Level
-level_at place = if place == 0 then level.Locking else if place == 1 then level.Committed else level.Snapshot
+-- the column at a place
+column_at : ℕ → Column
+column_at place = if place == 0 then column.Locking else if place == 1 then column.Committed else column.Snapshot
 
-level_at_its_place : (at : Level) → level_at (level_place at) ≡ at
-unfolding level_at
-level_at_its_place level.Locking = refl
-level_at_its_place level.Committed = refl
-level_at_its_place level.Snapshot = refl
+column_at_its_place : (at : Column) → column_at (column_place at) ≡ at
+unfolding column_at
+column_at_its_place column.Locking = refl
+column_at_its_place column.Committed = refl
+column_at_its_place column.Snapshot = refl
 
 -- a place is that of one case
 pub same_place : (case other : CaseName) → case_place case ≡ case_place other → case ≡ other
 same_place case other same = sym (at_its_place case) ∙ ap case_at same ∙ at_its_place other
 
--- and one of one level
-pub same_level : (at other : Level) → level_place at ≡ level_place other → at ≡ other
-same_level at other same = sym (level_at_its_place at) ∙ ap level_at same ∙ level_at_its_place other
+-- and one of one column
+pub same_column : (at other : Column) → column_place at ≡ column_place other → at ≡ other
+same_column at other same = sym (column_at_its_place at) ∙ ap column_at same ∙ column_at_its_place other
 
 -- the plays of all cases before a place have recordings
 abbrev pub RecordedBefore : ℕ → Type 0
-RecordedBefore place = (case : CaseName) (at : Level) → case_place case < place → IsRecorded case at
+RecordedBefore place = (case : CaseName) (at : Column) → case_place case < place → IsRecorded case (level_of at)
 
 pub before_first : RecordedBefore 0
 before_first case at before = absurd (omega (arith, before))
@@ -165,14 +173,15 @@ pub before_next : (own : CaseName) (row : Row) → RecordedBefore (case_place ow
 before_next own row before cells case at low = elim (cases_lt (case_place case) (case_place own)) [
   | inl less ↦ before case at less
   | inr above ↦
-      subst (λ c. IsRecorded c at) (sym (same_place case own (omega (arith, above, low)))) (recorded own at _ (cells at))
+      subst (λ c. IsRecorded c (level_of at)) (sym (same_place case own (omega (arith, above, low)))) (recorded own (level_of at) _ (cells at))
 ]
 
 -- a refusal that is the first of a row is the first of the matrix, where the rows before it have their recordings
 pub first_of_all : (own : CaseName) (fault : MatrixFault) → RecordedBefore (case_place own) → IsRowFault own fault → IsMatrixFault fault
 first_of_all own NoMemory before is = tt
-first_of_all own (Play case level fault) before (case_is, faulty, earlier) = (faulty, λ other at precedes. earlier_one other at precedes)
+first_of_all own (Play case level fault) before (under, level_is, case_is, faulty, earlier) =
+    (faulty, record { column = under; level_is = level_is; before = λ other at precedes. earlier_one other at precedes })
   where
-    earlier_one : (other : CaseName) (at : Level) → Precedes other at case level → IsRecorded other at
+    earlier_one : (other : CaseName) (at : Column) → Precedes other at case under → IsRecorded other (level_of at)
     earlier_one other at (inl less) = before other at (subst (λ c. case_place other < case_place c) case_is less)
-    earlier_one other at (inr (same, lower)) = subst (λ c. IsRecorded c at) (sym (same ∙ case_is)) (earlier at lower)
+    earlier_one other at (inr (same, lower)) = subst (λ c. IsRecorded c (level_of at)) (sym (same ∙ case_is)) (earlier at lower)

@@ -2,7 +2,6 @@
 use Rattle.std.proofs.Common.{◌≡◌, inl, inr, sym, ap, subst, ◌∙◌, arith}
 use Rattle.std.proofs.lemmas.Bool.{cases_lt}
 use Rattle.lab_engine.specs.declared.event.Level.{Level}
-use Rattle.lab_engine.specs.declared.event.Level.TheVariants as level
 use Rattle.lab_engine.specs.Log.{past_of}
 use Rattle.lab_engine.specs.Recording.{IsRecording}
 use Rattle.lab_engine.proofs.OneRecording.{one_recording}
@@ -13,16 +12,18 @@ use Rattle.lab_judge.specs.Judgement.{IsExactJudgement}
 use Rattle.lab_judge.specs.declared.report.Report.{Report}
 use Rattle.lab_judge.proofs.OneJudgement.{one_judgement}
 use Rattle.lab_matrix.specs.Listings.{usual_setup, listing}
-use Rattle.lab_matrix.specs.Matrix.{IsCell, IsRow, AreCells, IsRecorded, IsUnrecorded, Precedes, case_place, level_place, cell_of}
+use Rattle.lab_matrix.specs.Matrix.{IsCell, IsRow, AreCells, IsRecorded, IsUnrecorded, IsFirstCell, Precedes, case_place, column_place, level_of, cell_of}
 use Rattle.lab_matrix.specs.MatrixText.{matrix_text}
+use Rattle.lab_matrix.specs.declared.cells.Column.{Column}
+use Rattle.lab_matrix.specs.declared.cells.Column.TheVariants as column
 use Rattle.lab_matrix.specs.declared.cells.Matrix.{Matrix}
 use Rattle.lab_matrix.specs.declared.cells.Row.{Row}
 use Rattle.lab_matrix.specs.declared.name.CaseName.{CaseName}
 use Rattle.lab_matrix.specs.declared.name.CaseName.TheVariants as name
-use Rattle.lab_matrix.proofs.CasePlays.{recorded, same_place, same_level}
+use Rattle.lab_matrix.proofs.CasePlays.{recorded, same_place, same_column}
 
 -- a case has one report at a level
-one_cell : (case : CaseName) (at : Level) (one other : Report) → IsCell case at one → IsCell case at other → one ≡ other
+pub one_cell : (case : CaseName) (at : Level) (one other : Report) → IsCell case at one → IsCell case at other → one ≡ other
 one_cell case at one other c d =
     let log : d.recording.log ≡ c.recording.log = one_play at usual_setup (given_lines (listing case)) d.recording.log c.recording.log d.play c.play in
     let told : d.recording.history ≡ c.recording.history
@@ -32,9 +33,9 @@ one_cell case at one other c d =
 -- and one row
 one_row : (case : CaseName) (r s : Row) → IsRow case r → IsRow case s → r ≡ s
 one_row case r s x y =
-    ap (λ l. record { locking = l; committed = r.committed; snapshot = r.snapshot }) (one_cell case level.Locking r.locking s.locking (x level.Locking) (y level.Locking))
-    ∙ ap (λ c. record { locking = s.locking; committed = c; snapshot = r.snapshot }) (one_cell case level.Committed r.committed s.committed (x level.Committed) (y level.Committed))
-    ∙ ap (λ t. record { locking = s.locking; committed = s.committed; snapshot = t }) (one_cell case level.Snapshot r.snapshot s.snapshot (x level.Snapshot) (y level.Snapshot))
+    ap (λ l. record { locking = l; committed = r.committed; snapshot = r.snapshot }) (one_cell case (level_of column.Locking) r.locking s.locking (x column.Locking) (y column.Locking))
+    ∙ ap (λ c. record { locking = s.locking; committed = c; snapshot = r.snapshot }) (one_cell case (level_of column.Committed) r.committed s.committed (x column.Committed) (y column.Committed))
+    ∙ ap (λ t. record { locking = s.locking; committed = s.committed; snapshot = t }) (one_cell case (level_of column.Snapshot) r.snapshot s.snapshot (x column.Snapshot) (y column.Snapshot))
 
 -- matrices whose rows are the same have one text
 same_text : (m n : Matrix) → m.g0 ≡ n.g0 → m.g1a ≡ n.g1a → m.g1b ≡ n.g1b → m.g1c ≡ n.g1c → m.otv ≡ n.otv → m.pmp ≡ n.pmp → m.p4 ≡ n.p4 → m.g_single ≡ n.g_single
@@ -54,18 +55,20 @@ pub not_both : (case : CaseName) (at : Level) (fault : PlayFault) → IsRecorded
 not_both case at fault r (told, faulty) = no_fault at usual_setup (given_lines (listing case)) r.log r.told r.play r.history r.whole fault told faulty
 
 -- so a matrix excludes a refusal
-pub no_refusal : (m : Matrix) (case : CaseName) (at : Level) (fault : PlayFault) → AreCells m → IsUnrecorded case at fault → ⊥
-no_refusal m case at fault cells = not_both case at fault (recorded case at (cell_of m case at) (cells case at))
+pub no_refusal : (m : Matrix) (case : CaseName) (level : Level) (fault : PlayFault) → AreCells m → IsUnrecorded case level fault → IsFirstCell case level → ⊥
+no_refusal m case level fault cells unrecorded first =
+    let at : Column = first.column in
+    not_both case (level_of at) fault (recorded case (level_of at) (cell_of m case at) (cells case at)) (subst (λ l. IsUnrecorded case l fault) first.level_is unrecorded)
 
 -- A refusal that is the first.
-module _ (case other : CaseName) (at under : Level) (fault again : PlayFault) (faulty : IsUnrecorded case at fault) (told : IsUnrecorded other under again)
-    (before : (c : CaseName) (l : Level) → Precedes c l case at → IsRecorded c l) (earlier : (c : CaseName) (l : Level) → Precedes c l other under → IsRecorded c l) where
+module _ (case other : CaseName) (at under : Column) (fault again : PlayFault) (faulty : IsUnrecorded case (level_of at) fault) (told : IsUnrecorded other (level_of under) again)
+    (before : (c : CaseName) (l : Column) → Precedes c l case at → IsRecorded c (level_of l)) (earlier : (c : CaseName) (l : Column) → Precedes c l other under → IsRecorded c (level_of l)) where
   -- neither stands before the other
   not_before : Precedes case at other under → ⊥
-  not_before p = not_both case at fault (earlier case at p) faulty
+  not_before p = not_both case (level_of at) fault (earlier case at p) faulty
 
   not_behind : Precedes other under case at → ⊥
-  not_behind p = not_both other under again (before other under p) told
+  not_behind p = not_both other (level_of under) again (before other under p) told
 
   -- so they are of one case
   one_case : case ≡ other
@@ -77,18 +80,25 @@ module _ (case other : CaseName) (at under : Level) (fault again : PlayFault) (f
     ]
   ]
 
-  -- at one level
-  one_level : at ≡ under
-  one_level = elim (cases_lt (level_place at) (level_place under)) [
+  -- in one column
+  one_column : at ≡ under
+  one_column = elim (cases_lt (column_place at) (column_place under)) [
     | inl less ↦ absurd (not_before (inr (one_case, less)))
-    | inr above ↦ elim (cases_lt (level_place under) (level_place at)) [
+    | inr above ↦ elim (cases_lt (column_place under) (column_place at)) [
       | inl more ↦ absurd (not_behind (inr (sym one_case, more)))
-      | inr level ↦ same_level at under (omega (arith, above, level))
+      | inr level ↦ same_column at under (omega (arith, above, level))
     ]
   ]
 
   -- and one fault
-  pub one_refusal : fault ≡ again
-  one_refusal =
-      let moved : IsUnrecorded case at again = subst (λ c. IsUnrecorded c at again) (sym one_case) (subst (λ l. IsUnrecorded other l again) (sym one_level) told) in
-      one_fault at usual_setup (given_lines (listing case)) fault again faulty.0 moved.0 faulty.1 moved.1
+  one_fault_there : fault ≡ again
+  one_fault_there =
+      let moved : IsUnrecorded case (level_of at) again =
+      subst (λ c. IsUnrecorded c (level_of at) again) (sym one_case) (subst (λ l. IsUnrecorded other (level_of l) again) (sym one_column) told) in
+      one_fault (level_of at) usual_setup (given_lines (listing case)) fault again faulty.0 moved.0 faulty.1 moved.1
+
+pub one_refusal : (case other : CaseName) (level below : Level) (fault again : PlayFault) → IsUnrecorded case level fault → IsUnrecorded other below again
+    → IsFirstCell case level → IsFirstCell other below → fault ≡ again
+one_refusal case other level below fault again faulty told first earlier =
+    one_fault_there case other first.column earlier.column fault again (subst (λ l. IsUnrecorded case l fault) first.level_is faulty)
+    (subst (λ l. IsUnrecorded other l again) earlier.level_is told) first.before earlier.before

@@ -1,7 +1,7 @@
 -- What an engine promises of each of its runs.
-use Rattle.std.specs.Prelude.{ℕ, List, codes}
+use Rattle.std.specs.Prelude.{ℕ, Bool, true, false, List, codes}
 use Rattle.lab_engine.specs.declared.event.Level.{Level}
-use Rattle.lab_engine.specs.declared.event.Level.TheVariants as level
+use Rattle.lab_engine.specs.RuleTable.{rules_of, keeps_reads, keeps_snapshots}
 use Rattle.lab_judge.specs.Findings as found
 use Rattle.lab_judge.specs.Promises.{IsAbsent}
 use Rattle.lab_judge.specs.Verdicts.{IsYes, IsPlaced}
@@ -15,11 +15,15 @@ Says Serializable report = IsYes report.serial
 Says NoG1 report = IsAbsent (found.g0 report.phenomena) × IsAbsent (found.g1a report.phenomena) × IsAbsent (found.g1b report.phenomena) × IsAbsent (found.g1c report.phenomena)
 Says SnapshotRun report = IsPlaced report.snapshot
 
+-- what is promised where reads and snapshots are kept, or where they aren't
+abbrev pub promise_by : Bool → Bool → Promise
+promise_by true snapshots = Serializable
+promise_by false true = SnapshotRun
+promise_by false false = NoG1
+
 -- what the engine of each level promises
 abbrev pub promise_of : Level → Promise
-promise_of level.Locking = Serializable
-promise_of level.Committed = NoG1
-promise_of level.Snapshot = SnapshotRun
+promise_of level = promise_by (keeps_reads (rules_of level)) (keeps_snapshots (rules_of level))
 
 -- its name in the matrix: the level of Adya, Liskov and O'Neil that has no more, or SI, snapshot isolation
 abbrev pub promise_name : Promise → List ℕ

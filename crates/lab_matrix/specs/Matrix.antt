@@ -18,6 +18,8 @@ use Rattle.lab_matrix.specs.Listings.{usual_setup, listing}
 use Rattle.lab_matrix.specs.EnginePromise.{Says, promise_of}
 use Rattle.lab_matrix.specs.declared.name.CaseName.{CaseName}
 use Rattle.lab_matrix.specs.declared.name.CaseName.TheVariants as name
+use Rattle.lab_matrix.specs.declared.cells.Column.{Column}
+use Rattle.lab_matrix.specs.declared.cells.Column.TheVariants as column
 use Rattle.lab_matrix.specs.declared.cells.Row.{Row}
 use Rattle.lab_matrix.specs.declared.cells.Matrix.{Matrix}
 use Rattle.lab_matrix.specs.declared.filling.MatrixFault.{MatrixFault}
@@ -34,11 +36,17 @@ pub record IsCell (case : CaseName) (level : Level) (report : Report) : Type 0 w
   pub judged : IsExactJudgement recording.history report
   pub promised : IsPromised level report
 
--- the report of a row at a level
-abbrev pub report_at : Row → Level → Report
-report_at row level.Locking = row.locking
-report_at row level.Committed = row.committed
-report_at row level.Snapshot = row.snapshot
+-- the level of a column
+abbrev pub level_of : Column → Level
+level_of column.Locking = level.Locking
+level_of column.Committed = level.Committed
+level_of column.Snapshot = level.Snapshot
+
+-- the report of a row in a column
+abbrev pub report_at : Row → Column → Report
+report_at row column.Locking = row.locking
+report_at row column.Committed = row.committed
+report_at row column.Snapshot = row.snapshot
 
 -- the row of a case
 abbrev pub row_of : Matrix → CaseName → Row
@@ -53,21 +61,21 @@ row_of matrix name.GSingle = matrix.g_single
 row_of matrix name.G2Item = matrix.g2_item
 row_of matrix name.G2 = matrix.g2
 
--- the report of a case at a level
-abbrev pub cell_of : Matrix → CaseName → Level → Report
-cell_of matrix case level = report_at (row_of matrix case) level
+-- the report of a case in a column
+abbrev pub cell_of : Matrix → CaseName → Column → Report
+cell_of matrix case in_column = report_at (row_of matrix case) in_column
 
 -- each report of a row is the judgement of its case
 abbrev pub IsRow : CaseName → Row → Type 0
-IsRow case row = (level : Level) → IsCell case level (report_at row level)
+IsRow case row = (at : Column) → IsCell case (level_of at) (report_at row at)
 
 -- each cell is
 abbrev pub AreCells : Matrix → Type 0
-AreCells matrix = (case : CaseName) (level : Level) → IsCell case level (cell_of matrix case level)
+AreCells matrix = (case : CaseName) (at : Column) → IsCell case (level_of at) (cell_of matrix case at)
 
 -- each cell says what the engine of its level promises
 abbrev pub KeepsPromises : Matrix → Type 0
-KeepsPromises matrix = (case : CaseName) (level : Level) → Says (promise_of level) (cell_of matrix case level)
+KeepsPromises matrix = (case : CaseName) (at : Column) → Says (promise_of (level_of at)) (cell_of matrix case at)
 
 -- the play of a case at a level has a recording
 pub record IsRecorded (case : CaseName) (level : Level) : Type 0 where
@@ -90,15 +98,15 @@ case_place name.GSingle = 7
 case_place name.G2Item = 8
 case_place name.G2 = 9
 
--- the levels in their order
-abbrev pub level_place : Level → ℕ
-level_place level.Locking = 0
-level_place level.Committed = 1
-level_place level.Snapshot = 2
+-- the columns in their order
+abbrev pub column_place : Column → ℕ
+column_place column.Locking = 0
+column_place column.Committed = 1
+column_place column.Snapshot = 2
 
--- a cell stands before another: in the row of an earlier case, or at an earlier level of the same one
-abbrev pub Precedes : CaseName → Level → CaseName → Level → Type 0
-Precedes case at other level = (case_place case < case_place other) ⊎ ((case ≡ other) × (level_place at < level_place level))
+-- a cell stands before another: in the row of an earlier case, or in an earlier column of the same one
+abbrev pub Precedes : CaseName → Column → CaseName → Column → Type 0
+Precedes case at other under = (case_place case < case_place other) ⊎ ((case ≡ other) × (column_place at < column_place under))
 
 -- the play of a case at a level has no recording, and memory wasn't wanting for it
 abbrev pub IsUnrecorded : CaseName → Level → PlayFault → Type 0
@@ -112,9 +120,16 @@ IsCellFault own at (Play case level fault) = (case ≡ own) × (level ≡ at) ×
 -- a refusal is the first of a row
 abbrev pub IsRowFault : CaseName → MatrixFault → Type 0
 IsRowFault own NoMemory = Unit {0}
-IsRowFault own (Play case level fault) = (case ≡ own) × IsUnrecorded case level fault × ((at : Level) → level_place at < level_place level → IsRecorded own at)
+IsRowFault own (Play case level fault) = (under : Column) × (level ≡ level_of under) × (case ≡ own) × IsUnrecorded case level fault
+    × ((at : Column) → column_place at < column_place under → IsRecorded own (level_of at))
+
+-- the matrix has a column of a level, and the play of each cell before a case's cell in it has a recording
+pub record IsFirstCell (case : CaseName) (level : Level) : Type 0 where
+  pub column : Column
+  pub level_is : level ≡ level_of column
+  pub before : (other : CaseName) (at : Column) → Precedes other at case column → IsRecorded other (level_of at)
 
 -- a refusal is true: the play of that case at that level has no recording, and that of each cell before it has
 abbrev pub IsMatrixFault : MatrixFault → Type 0
 IsMatrixFault NoMemory = Unit {0}
-IsMatrixFault (Play case level fault) = IsUnrecorded case level fault × ((other : CaseName) (at : Level) → Precedes other at case level → IsRecorded other at)
+IsMatrixFault (Play case level fault) = IsUnrecorded case level fault × IsFirstCell case level

@@ -3,7 +3,6 @@ use Rattle.std.specs.Prelude.{ℕ, ◌-◌, List, [], ◌∷◌, ◌++◌, Optio
 use Rattle.std.specs.List.{find}
 use Rattle.std.specs.Str.{bytes_eq}
 use Rattle.lab_statement.specs.Printed.{newline}
-use Rattle.lab_engine.specs.declared.event.Level.TheVariants as level
 use Rattle.lab_judge.specs.ReportText.{grade_name}
 use Rattle.lab_judge.specs.declared.places.Places.{Places}
 use Rattle.lab_judge.specs.declared.places.Places.TheVariants as places
@@ -12,7 +11,10 @@ use Rattle.lab_matrix.specs.declared.name.CaseName.{CaseName}
 use Rattle.lab_matrix.specs.declared.name.CaseName.TheVariants as name
 use Rattle.lab_matrix.specs.declared.cells.Matrix.{Matrix}
 use Rattle.lab_matrix.specs.declared.cells.Row.{Row}
+use Rattle.lab_matrix.specs.declared.cells.Column.{Column}
+use Rattle.lab_matrix.specs.declared.cells.Column.TheVariants as column
 use Rattle.lab_matrix.specs.EnginePromise.{promise_name, promise_of}
+use Rattle.lab_matrix.specs.Matrix.{level_of}
 
 -- the name of a case
 abbrev pub case_name : CaseName → List ℕ
@@ -65,11 +67,14 @@ row_line case row = padded 10 (case_name case) ++ padded 12 (cell_text row.locki
 abbrev pub heading : List ℕ
 heading = codes "case      locking     committed   snapshot" ++ newline
 
--- the last line: what each engine promises of every run
+-- what the engine of a column promises of every run
+abbrev pub promised_in : Column → List ℕ
+promised_in column = promise_name (promise_of (level_of column))
+
+-- the last line: what each engine promises
 abbrev pub promised_line : List ℕ
 promised_line =
-    padded 10 (codes "promised") ++ padded 12 (promise_name (promise_of level.Locking)) ++ padded 12 (promise_name (promise_of level.Committed))
-    ++ promise_name (promise_of level.Snapshot) ++ newline
+    padded 10 (codes "promised") ++ padded 12 (promised_in column.Locking) ++ padded 12 (promised_in column.Committed) ++ promised_in column.Snapshot ++ newline
 
 -- the matrix: the line of the columns, a line for each case, and the line of what is promised
 abbrev pub matrix_text : Matrix → List ℕ

@@ -1,13 +1,34 @@
 //! The matrix: the judgement of each case on each engine.
 
 ghost use Rattle.std.specs.Prelude.{◌≡◌};
-ghost use Rattle.lab_matrix.specs.Matrix.{report_at, row_of, cell_of};
+ghost use Rattle.lab_matrix.specs.Matrix.{level_of, report_at, row_of, cell_of};
 
 use crate::name::CaseName;
 use lab_engine::Level;
 use lab_judge::Report;
 
-/// The judgements of one case, as each engine plays it.
+/// A column of the matrix: the engine of a level.
+#[derive(Clone, Copy, Debug, PartialEq, Eq)]
+pub enum Column {
+    Locking,
+    Committed,
+    Snapshot,
+}
+
+impl Column {
+    /// Its level.
+    pub fn level(self) -> Level
+        ensures { result ≡ level_of self }
+    {
+        match self {
+            Column::Locking => Level::Locking,
+            Column::Committed => Level::Committed,
+            Column::Snapshot => Level::Snapshot,
+        }
+    }
+}
+
+/// The judgements of one case, as each engine of the matrix plays it.
 #[derive(Drop)]
 pub struct Row {
     pub locking: Report,
@@ -31,14 +52,14 @@ pub struct Matrix {
 }
 
 impl Row {
-    /// The report at a level.
-    fn report(&self, level: Level) -> &Report
-        ensures { result.now ≡ report_at self.now level }
+    /// The report in a column.
+    fn report(&self, column: Column) -> &Report
+        ensures { result.now ≡ report_at self.now column }
     {
-        match level {
-            Level::Locking => &self.locking,
-            Level::Committed => &self.committed,
-            Level::Snapshot => &self.snapshot,
+        match column {
+            Column::Locking => &self.locking,
+            Column::Committed => &self.committed,
+            Column::Snapshot => &self.snapshot,
         }
     }
 }
@@ -62,10 +83,10 @@ impl Matrix {
         }
     }
 
-    /// The judgement of a case at a level.
-    pub fn cell(&self, case: CaseName, level: Level) -> &Report
-        ensures { result.now ≡ cell_of self.now case level }
+    /// The judgement of a case in a column.
+    pub fn cell(&self, case: CaseName, column: Column) -> &Report
+        ensures { result.now ≡ cell_of self.now case column }
     {
-        self.row(case).report(level)
+        self.row(case).report(column)
     }
 }

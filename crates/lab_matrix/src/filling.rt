@@ -8,10 +8,9 @@ use crate::cells::{Matrix, Row};
 use crate::name::{CaseName, case};
 use lab_engine::{Engine, Level};
 use lab_judge::{Report, judge_recording};
-use lab_locking::LockEngine;
+use lab_levels::on_engine;
 use lab_script::Script;
 use lab_session::{PlayFault, play_script};
-use lab_versions::{CommittedEngine, SnapshotEngine};
 use std::alloc::{AllocError, Global};
 
 /// Why there is no matrix.
@@ -63,34 +62,19 @@ fn judged<E: Engine + Drop>(
     }
 }
 
-/// The cell of a case on one engine: its script, played on an engine of a copy of its setup, and judged.
-macro_rules! cell {
-    ($alloc:ident, $name:ident, $engine:ident) => {{
-        let script = case($alloc, $name)?;
-        let engine = $engine::new($alloc, script.setup.copy($alloc)?);
-        judged($alloc, $name, &script, engine)
-    }};
-}
-
-fn at_locking(alloc: Global, name: CaseName) -> Result<Report, MatrixFault>
-    ensures cell { IfOk result (IsCell name Level.Locking) }
-    ensures fault { IfErr result (IsCellFault name Level.Locking) }
+/// The judgement of a case at a level: of the recording of a scripted play of its script on the engine of the level.
+pub fn cell_at(alloc: Global, name: CaseName, level: Level) -> Result<Report, MatrixFault>
+    ensures cell { IfOk result (IsCell name level) }
+    ensures fault { IfErr result (IsCellFault name level) }
 {
-    cell!(alloc, name, LockEngine)
-}
-
-fn at_committed(alloc: Global, name: CaseName) -> Result<Report, MatrixFault>
-    ensures cell { IfOk result (IsCell name Level.Committed) }
-    ensures fault { IfErr result (IsCellFault name Level.Committed) }
-{
-    cell!(alloc, name, CommittedEngine)
-}
-
-fn at_snapshot(alloc: Global, name: CaseName) -> Result<Report, MatrixFault>
-    ensures cell { IfOk result (IsCell name Level.Snapshot) }
-    ensures fault { IfErr result (IsCellFault name Level.Snapshot) }
-{
-    cell!(alloc, name, SnapshotEngine)
+    let script = case(alloc, name)?;
+    let setup = script.setup.copy(alloc)?;
+    on_engine!(
+        level,
+        alloc,
+        setup,
+        |engine| judged(alloc, name, &script, engine)
+    )
 }
 
 fn row_of_case(alloc: Global, name: CaseName) -> Result<Row, MatrixFault>
@@ -98,9 +82,9 @@ fn row_of_case(alloc: Global, name: CaseName) -> Result<Row, MatrixFault>
     ensures fault { IfErr result (IsRowFault name) }
 {
     Ok(Row {
-        locking: at_locking(alloc, name)?,
-        committed: at_committed(alloc, name)?,
-        snapshot: at_snapshot(alloc, name)?,
+        locking: cell_at(alloc, name, Level::Locking)?,
+        committed: cell_at(alloc, name, Level::Committed)?,
+        snapshot: cell_at(alloc, name, Level::Snapshot)?,
     })
 }
 

@@ -3,6 +3,8 @@
 
 mod cases;
 mod cells;
+mod columns;
+mod columns_text;
 mod engine_promise;
 mod filling;
 mod matrix_text;
@@ -10,7 +12,9 @@ mod name;
 mod parts;
 mod promised;
 
-pub use cells::{Matrix, Row};
+pub use cells::{Column, Matrix, Row};
+pub use columns::{CaseReports, columns_at};
+pub use columns_text::print_columns;
 pub use engine_promise::Promise;
 pub use filling::{MatrixFault, matrix};
 pub use matrix_text::print_matrix;

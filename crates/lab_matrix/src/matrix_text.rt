@@ -4,10 +4,9 @@ ghost use Rattle.std.specs.Prelude.{◌≡◌, ◌-◌, ◌++◌, IfOk, OnOk};
 ghost use Rattle.lab_statement.specs.Printed.{newline};
 ghost use Rattle.lab_matrix.specs.MatrixText.{cell_text, heading, matrix_text, padded, promised_line, row_line, snapshot_mark, spaces};
 
-use crate::cells::{Matrix, Row};
+use crate::cells::{Column, Matrix, Row};
 use crate::name::CaseName;
 use crate::promised::promise;
-use lab_engine::Level;
 use lab_judge::{Places, Report};
 use lab_table::NoMemory;
 use std::alloc::Global;
@@ -61,9 +60,9 @@ fn put_promised(out: &mut Vec<u8>) -> Result<(), NoMemory>
     ensures { OnOk result (out.new.items ≡ out.old.items ++ promised_line) }
 {
     put_padded(out, "promised", CASE_WIDTH)?;
-    put_padded(out, promise(Level::Locking).name(), CELL_WIDTH)?;
-    put_padded(out, promise(Level::Committed).name(), CELL_WIDTH)?;
-    out.extend_from_slice(promise(Level::Snapshot).name().as_bytes())?;
+    put_padded(out, promise(Column::Locking.level()).name(), CELL_WIDTH)?;
+    put_padded(out, promise(Column::Committed.level()).name(), CELL_WIDTH)?;
+    out.extend_from_slice(promise(Column::Snapshot.level()).name().as_bytes())?;
     out.push(b'\n')?;
     Ok(())
 }
@@ -76,7 +75,7 @@ fn put_padded(out: &mut Vec<u8>, text: &str, width: usize) -> Result<(), NoMemor
 }
 
 /// Spaces from one column up to another.
-fn put_spaces(out: &mut Vec<u8>, used: usize, width: usize) -> Result<(), NoMemory>
+pub fn put_spaces(out: &mut Vec<u8>, used: usize, width: usize) -> Result<(), NoMemory>
     ensures { OnOk result (out.new.items ≡ out.old.items ++ spaces (width - used)) }
 {
     for _column in used..width {
@@ -86,7 +85,7 @@ fn put_spaces(out: &mut Vec<u8>, used: usize, width: usize) -> Result<(), NoMemo
 }
 
 /// ` SI` where a history is a snapshot run, else nothing.
-fn mark(places: &Places) -> &'static str
+pub fn mark(places: &Places) -> &'static str
     ensures { result.now ≡ snapshot_mark places.now }
 {
     match places {

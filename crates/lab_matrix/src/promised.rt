@@ -8,15 +8,15 @@ ghost use Rattle.lab_matrix.specs.EnginePromise.{Says, promise_of};
 use crate::engine_promise::Promise;
 use lab_engine::Level;
 
-/// What the engine of a level promises: Serializable at locking, NoG1 at committed, SnapshotRun at snapshot. A report says
-/// so exactly where it says what `judge_recording` is proved to say of every recording of the level. It takes no memory
-/// and always answers.
+/// What the engine of a level promises: Serializable at locking and optimistic, NoG1 at committed, SnapshotRun at snapshot. A
+/// report says so exactly where it says what `judge_recording` is proved to say of every recording of the level. It takes no
+/// memory and always answers.
 pub fn promise(level: Level) -> Promise
     ensures value { result ≡ promise_of level }
     ensures meaning { (report : Report) → Says result report ↔ IsPromised level report }
 {
     match level {
-        Level::Locking => Promise::Serializable,
+        Level::Locking | Level::Optimistic => Promise::Serializable,
         Level::Committed => Promise::NoG1,
         Level::Snapshot => Promise::SnapshotRun,
     }

@@ -2,12 +2,11 @@
 
 use lab_engine::{Level, Recording};
 use lab_judge::{Finding, Places, Report, Serial, judge_recording};
-use lab_locking::LockEngine;
+use lab_levels::{LEVELS, on_engine};
 use lab_matrix::{CaseName, Promise, case, promise};
 use lab_script::{Script, parse_script};
 use lab_session::{Gate, play_free};
 use lab_table::Session;
-use lab_versions::{CommittedEngine, SnapshotEngine};
 use std::alloc::Global;
 use std::sync::Wait;
 use std::test::Fail;
@@ -45,19 +44,13 @@ fn played<T: Threads + Wait + Sync>(
     level: Level,
 ) -> Option<Recording> {
     let setup = script.setup.copy(alloc).ok()?;
-    match level {
-        Level::Locking => {
-            play_free(rt, alloc, LockEngine::new(alloc, setup), script, &OpenGate).ok()
-        }
-        Level::Committed => {
-            let engine = CommittedEngine::new(alloc, setup);
-            play_free(rt, alloc, engine, script, &OpenGate).ok()
-        }
-        Level::Snapshot => {
-            let engine = SnapshotEngine::new(alloc, setup);
-            play_free(rt, alloc, engine, script, &OpenGate).ok()
-        }
-    }
+    on_engine!(
+        level,
+        alloc,
+        setup,
+        |engine| play_free(rt, alloc, engine, script, &OpenGate)
+    )
+    .ok()
 }
 
 fn is_absent(finding: &Finding) -> bool {
@@ -119,12 +112,8 @@ fn is_kept_at_each<T: Threads + Wait + Sync>(
     rt: &T,
     alloc: Global,
     script: &Script,
-) -> [Option<bool>; 3] {
-    [
-        is_kept(rt, alloc, script, Level::Locking),
-        is_kept(rt, alloc, script, Level::Committed),
-        is_kept(rt, alloc, script, Level::Snapshot),
-    ]
+) -> [Option<bool>; 4] {
+    LEVELS.map(|level| is_kept(rt, alloc, script, level))
 }
 
 /// The same of the case of a name.
@@ -132,7 +121,7 @@ fn case_is_kept_at_each<T: Threads + Wait + Sync>(
     rt: &T,
     alloc: Global,
     name: CaseName,
-) -> Option<[Option<bool>; 3]> {
+) -> Option<[Option<bool>; 4]> {
     let script = case(alloc, name).ok()?;
     let kept = is_kept_at_each(rt, alloc, &script);
     drop(script);
@@ -145,7 +134,7 @@ fn free_plays_of_the_cases_keep_what_is_promised(rt: HostRuntime) -> Result<(), 
     for name in CaseName::ALL {
         assert_eq!(rt;
             case_is_kept_at_each(&rt, alloc, name),
-            Some([Some(true); 3]),
+            Some([Some(true); 4]),
             "of {}",
             name.name()
         );
@@ -159,6 +148,6 @@ fn free_plays_over_two_tables_keep_what_is_promised(rt: HostRuntime) -> Result<(
     let script = script.ok().ok_or("a script")?;
     let kept = is_kept_at_each(&rt, rt.alloc(), &script);
     drop(script);
-    assert_eq!(rt; kept, [Some(true); 3]);
+    assert_eq!(rt; kept, [Some(true); 4]);
     Ok(())
 }

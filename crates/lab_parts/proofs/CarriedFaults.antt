@@ -11,7 +11,7 @@ use Rattle.lab_history.specs.declared.transaction.Outcome.TheVariants.{Committed
 use Rattle.lab_history.specs.declared.operation.Op.{Op}
 use Rattle.lab_history.specs.declared.operation.VersionName.{VersionName}
 use Rattle.lab_history.specs.declared.operation.VersionName.TheVariants.{Initial, Of}
-use Rattle.lab_deps.specs.Soundness.{IsSound, IsCommittedOp, IsOpFault}
+use Rattle.lab_deps.specs.Soundness.{IsSound, IsCommittedOp, IsDangling, SeesAborted, SeesIntermediate, MissesOwn, SeesLater, ListsOther, WritesOther}
 use Rattle.lab_deps.specs.declared.kind.OpFault.{OpFault}
 use Rattle.lab_deps.specs.declared.kind.OpFault.TheVariants.{Dangling, AbortedRead, IntermediateRead, OwnWriteMissed, LaterThanOwn, RowsDiffer, WritesDiffer}
 use Rattle.lab_parts.specs.Whole.{above_all, moved, moved_version, moved_op, joined}
@@ -20,6 +20,16 @@ use Rattle.lab_parts.proofs.JoinedInstallers.{viewed-moved}
 use Rattle.lab_parts.proofs.JoinedStates.{LastInstaller, seam_of, viewed_first, viewed_second}
 use Rattle.lab_parts.proofs.SoundParts.{sees_below}
 use Rattle.lab_parts.proofs.JoinedInstalls.{first_at, second_at}
+
+-- a fault of this kind is true of an operation and a row
+abbrev pub IsOpFault : OpFault → History → ℕ → ℕ → Op → Row → Type 0
+IsOpFault Dangling h n k op row = IsDangling h n k op row
+IsOpFault AbortedRead h n k op row = SeesAborted h op row
+IsOpFault IntermediateRead h n k op row = SeesIntermediate h n op row
+IsOpFault OwnWriteMissed h n k op row = MissesOwn h n k op row
+IsOpFault LaterThanOwn h n k op row = SeesLater h n op row
+IsOpFault RowsDiffer h n k op row = ListsOther h op row
+IsOpFault WritesDiffer h n k op row = WritesOther h op row
 
 -- what a fault of an operation of the first part is there
 module _ (a b : History) (sound : IsSound a) (n k : ℕ) (op : Op) (row : Row) (less : n < above_all a.txns) (is_op : IsCommittedOp a n k op) where

@@ -5,12 +5,10 @@ use Rattle.lab_table.specs.Row.{Row}
 use Rattle.lab_history.specs.History.{History}
 use Rattle.lab_history.specs.Version.{installers}
 use Rattle.lab_history.specs.declared.operation.Op.{Op}
-use Rattle.lab_deps.specs.Soundness.{IsSound, IsCommittedOp, IsOpFault, IsRowFault, has_committed, is_writer}
+use Rattle.lab_deps.specs.Soundness.{IsSound, IsCommittedOp, InstallsOther, EndsOther, has_committed, is_writer}
 use Rattle.lab_deps.specs.declared.fault.LocalFault.TheVariants as fault
 use Rattle.lab_deps.specs.declared.kind.OpFault.{OpFault}
 use Rattle.lab_deps.specs.declared.kind.OpFault.TheVariants.{Dangling, AbortedRead, IntermediateRead, OwnWriteMissed, LaterThanOwn, RowsDiffer, WritesDiffer}
-use Rattle.lab_deps.specs.declared.kind.RowFault.{RowFault}
-use Rattle.lab_deps.specs.declared.kind.RowFault.TheVariants.{InstallOrder, EndDiffers}
 use Rattle.lab_deps.proofs.Places.{times, times_count}
 use Rattle.lab_parts.specs.Whole.{above_all, moved, joined}
 use Rattle.lab_parts.proofs.JoinedTxns.{first_or_second, outcome_first, outcome_second, op_first, op_from_second, writes_first, writes_second}
@@ -18,7 +16,7 @@ use Rattle.lab_parts.proofs.JoinedLists.{times_joined_low, times_joined_high}
 use Rattle.lab_parts.proofs.JoinedInstallers.{installers-joined}
 use Rattle.lab_parts.proofs.JoinedStates.{state_second}
 use Rattle.lab_parts.proofs.SoundParts.{counted, ended, installers_below}
-use Rattle.lab_parts.proofs.CarriedFaults.{first_fault, second_fault}
+use Rattle.lab_parts.proofs.CarriedFaults.{IsOpFault, first_fault, second_fault}
 
 -- in a sound history no fault of an operation stands
 no_fault : (h : History) → IsSound h → (kind : OpFault) (n k : ℕ) (op : Op) (row : Row) → IsCommittedOp h n k op → IsOpFault kind h n k op row → ⊥
@@ -31,16 +29,16 @@ no_fault h sound RowsDiffer n k op row is_op f = sound (fault.RowsDiffer n k row
 no_fault h sound WritesDiffer n k op row is_op f = sound (fault.WritesDiffer n k row) (op, is_op, f)
 
 -- where none stands, and none of a row, the history is sound
-sound_if : (h : History) → ((kind : OpFault) (n k : ℕ) (op : Op) (row : Row) → IsCommittedOp h n k op → IsOpFault kind h n k op row → ⊥) → ((kind : RowFault) (row : Row) → IsRowFault kind h row → ⊥) → IsSound h
-sound_if h ops rows (fault.Dangling n k row) (op, is_op, f) = ops Dangling n k op row is_op f
-sound_if h ops rows (fault.AbortedRead n k row) (op, is_op, f) = ops AbortedRead n k op row is_op f
-sound_if h ops rows (fault.IntermediateRead n k row) (op, is_op, f) = ops IntermediateRead n k op row is_op f
-sound_if h ops rows (fault.OwnWriteMissed n k row) (op, is_op, f) = ops OwnWriteMissed n k op row is_op f
-sound_if h ops rows (fault.LaterThanOwn n k row) (op, is_op, f) = ops LaterThanOwn n k op row is_op f
-sound_if h ops rows (fault.RowsDiffer n k row) (op, is_op, f) = ops RowsDiffer n k op row is_op f
-sound_if h ops rows (fault.WritesDiffer n k row) (op, is_op, f) = ops WritesDiffer n k op row is_op f
-sound_if h ops rows (fault.InstallOrder row) f = rows InstallOrder row f
-sound_if h ops rows (fault.EndDiffers row) f = rows EndDiffers row f
+sound_if : (h : History) → ((kind : OpFault) (n k : ℕ) (op : Op) (row : Row) → IsCommittedOp h n k op → IsOpFault kind h n k op row → ⊥) → ((row : Row) → InstallsOther h row → ⊥) → ((row : Row) → EndsOther h row → ⊥) → IsSound h
+sound_if h ops installs ends (fault.Dangling n k row) (op, is_op, f) = ops Dangling n k op row is_op f
+sound_if h ops installs ends (fault.AbortedRead n k row) (op, is_op, f) = ops AbortedRead n k op row is_op f
+sound_if h ops installs ends (fault.IntermediateRead n k row) (op, is_op, f) = ops IntermediateRead n k op row is_op f
+sound_if h ops installs ends (fault.OwnWriteMissed n k row) (op, is_op, f) = ops OwnWriteMissed n k op row is_op f
+sound_if h ops installs ends (fault.LaterThanOwn n k row) (op, is_op, f) = ops LaterThanOwn n k op row is_op f
+sound_if h ops installs ends (fault.RowsDiffer n k row) (op, is_op, f) = ops RowsDiffer n k op row is_op f
+sound_if h ops installs ends (fault.WritesDiffer n k row) (op, is_op, f) = ops WritesDiffer n k op row is_op f
+sound_if h ops installs ends (fault.InstallOrder row) f = installs row f
+sound_if h ops installs ends (fault.EndDiffers row) f = ends row f
 
 module _ (a b : History) (sound_a : IsSound a) (sound_b : IsSound b) (fit : a.end_table ≡ b.initial) where
   -- a committed writer stands once among the installers of both, and nobody else
@@ -68,12 +66,14 @@ module _ (a b : History) (sound_a : IsSound a) (sound_b : IsSound b) (fit : a.en
           no_fault b sound_b kind m k from.0 row (sym (outcome_second a b m) ∙ is_op.0, from.1)
           (second_fault a b sound_a fit m k from.0 row kind (subst (λ o. IsOpFault kind (joined a b) (moved a m) k o row) from.2 f))
 
-  rows_sound : (kind : RowFault) (row : Row) → IsRowFault kind (joined a b) row → ⊥
-  rows_sound InstallOrder row (n, differs) = differs (sym (times_count n (installers (joined a b) row)) ∙ counted_joined row n)
-  rows_sound EndDiffers row differs =
+  installs_sound : (row : Row) → InstallsOther (joined a b) row → ⊥
+  installs_sound row (n, differs) = differs (sym (times_count n (installers (joined a b) row)) ∙ counted_joined row n)
+
+  ends_sound : (row : Row) → EndsOther (joined a b) row → ⊥
+  ends_sound row differs =
       differs (ended b sound_b row ∙ sym (state_second a b sound_a row fit (length (installers (joined a b) row)) (length (installers b row))
       (ap length (installers-joined a b row) ∙ length-append (installers a row) (map (moved a) (installers b row)) ∙ ap (λ l. length (installers a row) + l) (length-map (installers b row) (moved a)))))
 
   -- so both are sound together
   pub joined_sound : IsSound (joined a b)
-  joined_sound = sound_if (joined a b) ops_sound rows_sound
+  joined_sound = sound_if (joined a b) ops_sound installs_sound ends_sound

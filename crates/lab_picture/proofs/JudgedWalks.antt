@@ -3,7 +3,6 @@ use Rattle.std.proofs.Common.{◌≡◌, ℕ, ◌<◌, Bool, true, false, Option
 use Rattle.std.specs.Prelude.{nat_le}
 use Rattle.lab_table.specs.Row.{Row}
 use Rattle.lab_history.specs.History.{History}
-use Rattle.lab_deps.specs.FaultKinds.{parts_of}
 use Rattle.lab_deps.specs.FaultOrder.{IsFirst, kind_place}
 use Rattle.lab_deps.specs.Refusal.{is_uncommitted_read}
 use Rattle.lab_deps.specs.Soundness.{Stands, IsSound}
@@ -85,7 +84,7 @@ module _ (h : History) (report : Report) (walk : List Edge) where
   of_fault f first j p is = at (is_uncommitted_read f) refl j
     where
       at : (b : Bool) → is_uncommitted_read f ≡ b → JudgesAtRead b h report.phenomena report.level → IsFound h walk
-      at true read j = record { closed = of_reads j p is; installed = none_before f first (is_later (kind_place f) (sym (reads_last (parts_of f)) ∙ read)) }
+      at true read j = record { closed = of_reads j p is; installed = none_before f first (is_later (kind_place f) (sym (reads_last f) ∙ read)) }
       at false other j = absurd (of_nothing j p is)
 
   of_finding : (s : Serial) → IsSerialVerdict h s → RestsOnOrder h s → Judges h s report.phenomena report.level → (p : Phenomenon) → finding_of p report ≡ Walk walk → IsFound h walk

@@ -2,6 +2,7 @@ pub mod Operations
 pub mod FirstOps
 pub mod InstalledRows
 pub mod MadeArrows
+pub mod MadeDependencies
 pub mod JudgedWalks
 pub mod DrawnWalks
 mod NamedInstalls

@@ -5,9 +5,8 @@ use Rattle.std.proofs.lemmas.Bool.{false≢true, eqb-true, eq-eqb, and_parts, an
 use Rattle.std.proofs.lemmas.Option.{none-some, same_Some}
 use Rattle.lab_table.specs.Row.{Row}
 use Rattle.lab_history.specs.History.{History}
-use Rattle.lab_history.specs.Version.{find_txn, installers, outcome_of, place_in, writes_row}
+use Rattle.lab_history.specs.Version.{find_txn, installers, outcome_of, place_in, writes_row, is_at, is_missing}
 use Rattle.lab_history.specs.declared.transaction.Txn.{Txn}
-use Rattle.lab_deps.specs.Passes.{is_at, is_missing}
 use Rattle.lab_deps.specs.FaultOrder.{IsFirst}
 use Rattle.lab_deps.specs.Soundness.{InstallsOther, has_committed, is_writer}
 use Rattle.lab_deps.specs.declared.fault.LocalFault.TheVariants.{InstallOrder}

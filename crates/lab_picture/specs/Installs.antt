@@ -4,9 +4,8 @@ use Rattle.std.specs.Option.{option_or}
 use Rattle.std.specs.Fmt.{decimal}
 use Rattle.lab_table.specs.Row.{Row}
 use Rattle.lab_history.specs.History.{History}
-use Rattle.lab_history.specs.Version.{installers, place_in}
+use Rattle.lab_history.specs.Version.{installers, place_in, is_at, is_missing}
 use Rattle.lab_history.specs.declared.transaction.Txn.{Txn}
-use Rattle.lab_deps.specs.Passes.{is_at, is_missing}
 use Rattle.lab_deps.specs.Soundness.{is_writer}
 use Rattle.lab_picture.specs.declared.installs.Misplaced.{Misplaced}
 use Rattle.lab_picture.specs.declared.installs.Why.{Why}

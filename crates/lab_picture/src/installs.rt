@@ -1,8 +1,7 @@
 //! Who is out of place among a row's installers.
 
 ghost use Rattle.std.specs.Prelude.{◌≡◌, ◌++◌, OnOk};
-ghost use Rattle.lab_history.specs.Version.{outcome_of, installers};
-ghost use Rattle.lab_deps.specs.Passes.{is_at};
+ghost use Rattle.lab_history.specs.Version.{outcome_of, installers, is_at};
 ghost use Rattle.lab_deps.specs.Soundness.{has_committed, is_writer};
 ghost use Rattle.lab_picture.specs.Installs.{is_left_out, first_left_out, wrong_at, first_wrong, misplaced_of, why_text, misplaced_text};
 

@@ -1,18 +1,20 @@
 //! Laws of drawings and of their texts. The functions have nothing to do: their contracts are the laws.
 
-ghost use Rattle.std.specs.Prelude.{◌≡◌, ℕ, true, Some, None, Option, List, Contains};
+ghost use Rattle.std.specs.Prelude.{◌≡◌, ◌≢◌, ◌↔◌, ℕ, true, Some, None, Option, List, Contains};
 ghost use Rattle.std.specs.List.{list_all};
 ghost use Rattle.lab_table.specs.Row.{Row};
 ghost use Rattle.lab_history.specs.History.{History as Held};
-ghost use Rattle.lab_deps.specs.Edges.{IsEdge};
+ghost use Rattle.lab_deps.specs.Edges.{Depends, IsEdge};
 ghost use Rattle.lab_deps.specs.Soundness.{IsSound, Stands};
 ghost use Rattle.lab_deps.specs.declared.edge.Edge.{Edge as Dependency};
+ghost use Rattle.lab_deps.specs.declared.edge.Kind.{Kind as Tied};
+ghost use Rattle.lab_deps.specs.declared.edge.Kind.TheVariants.{Write};
 ghost use Rattle.lab_deps.specs.declared.fault.LocalFault.TheVariants.{InstallOrder};
 ghost use Rattle.lab_judge.specs.Judgement.{IsExactJudgement};
 ghost use Rattle.lab_judge.specs.declared.report.Report.{Report};
 ghost use Rattle.lab_judge.specs.declared.serial.Serial.TheVariants.{NoCycle, NoFault};
 ghost use Rattle.lab_streams.specs.declared.ending.Ending.{Ending};
-ghost use Rattle.lab_picture.specs.ArrowLaws.{IsArrowOf, NamesWalk, DrawsArrow, DrawsWrites};
+ghost use Rattle.lab_picture.specs.ArrowLaws.{IsArrowOf, MakesAt, NamesWalk, DrawsArrow, DrawsWrites};
 ghost use Rattle.lab_picture.specs.Columns.{shown_columns};
 ghost use Rattle.lab_picture.specs.DrawnLaws.{IsDrawnAt, DrawsFew, IsLow};
 ghost use Rattle.lab_picture.specs.InstallLaws.{NamesOut};
@@ -41,6 +43,13 @@ pub fn each_dependency_has_its_arrow()
 /// The same of each history whose rows are installed by their committed writers, each once, whatever else is wrong with it.
 pub fn each_dependency_of_installed_rows_has_its_arrow()
     ensures { (h : Held) (e : Dependency) → ((row : Row) → ¬ Stands h (InstallOrder row)) → IsEdge h e → (a : Drawn) × (arrow_of h e ≡ Some a) × IsArrowOf h e a }
+{}
+
+/// A dependency that isn't a write after a write is one that an operation of the reader makes, and what one makes is a
+/// dependency.
+#[tactic(auto, using(crate::proofs::MadeDependencies::dependencies_made))]
+pub fn dependencies_are_made_by_operations()
+    ensures { (h : Held) (kind : Tied) (row : Row) (from to : ℕ) → kind ≢ Write → Depends h kind row from to ↔ ((k : ℕ) × MakesAt h kind row from to k) }
 {}
 
 /// In the picture of a walk that a judgement names, each dependency of the walk has its arrow. In that of a G0, which is

@@ -7,7 +7,7 @@ use Rattle.lab_table.specs.declared.statement.Statement.{Statement}
 use Rattle.lab_table.specs.declared.statement.Command.{Command}
 use Rattle.lab_table.specs.declared.statement.Command.TheVariants.{Begin, Commit, Abort, Run}
 use Rattle.lab_engine.specs.declared.event.Level.{Level}
-use Rattle.lab_engine.specs.declared.event.EngineFault.TheVariants.{DuplicateKey, OutOfRange, Deadlock, WriteConflict, NoTransaction, AlreadyBegun, Busy}
+use Rattle.lab_engine.specs.declared.event.EngineFault.TheVariants.{DuplicateKey, OutOfRange, Deadlock, WriteConflict, NoTransaction, AlreadyBegun, Busy, ReadConflict}
 use Rattle.lab_engine.specs.declared.event.Outcome.{Outcome}
 use Rattle.lab_engine.specs.declared.event.Outcome.TheVariants.{Begun, Rows as Listed, Committed, Aborted, Waits, Refused}
 use Rattle.lab_engine.specs.Log.{Past, Txn, asked, active, active_after, waiting, waiting_after}
@@ -36,6 +36,7 @@ module _ (level : Level) (setup : Table) (past : Past) (session : ℕ) (command 
   goes (Refused NoTransaction) p apart = inl (refl, refl)
   goes (Refused AlreadyBegun) p apart = inl (refl, refl)
   goes (Refused Busy) p apart = absurd (apart refl)
+  goes (Refused (ReadConflict row by)) p apart = inl (refl, refl)
 
   -- a session that isn't waiting isn't answered Busy
   pub not_busy : (outcome : Outcome) → Permitted level setup past session command outcome → waiting past session ≡ None → outcome ≢ Refused Busy
@@ -64,6 +65,7 @@ module _ (level : Level) (setup : Table) (past : Past) (session : ℕ) (command 
   retried (Refused NoTransaction) s is runs p apart = absurd (both_ways _ (ap is_some p.0) runs)
   retried (Refused AlreadyBegun) s is runs p apart = none_some _ (sym p.1.at_rest ∙ is)
   retried (Refused Busy) s is runs p apart = absurd (apart refl)
+  retried (Refused (ReadConflict row by)) s is runs p apart = none_some _ (sym p.1.at_rest ∙ is)
 
   -- an abort of an active session that isn't waiting is answered so
   pub aborted : (outcome : Outcome) → command ≡ Abort → waiting past session ≡ None → IsSome (active past session) → Permitted level setup past session command outcome → outcome ≡ Aborted
@@ -79,3 +81,4 @@ module _ (level : Level) (setup : Table) (past : Past) (session : ℕ) (command 
   aborted (Refused NoTransaction) is rest runs p = absurd (both_ways _ (ap is_some p.0) runs)
   aborted (Refused AlreadyBegun) is rest runs p = let not : Abort ≡ Begin = sym is ∙ p.1.command_is in cc
   aborted (Refused Busy) is rest runs p = absurd (both_ways _ (ap is_some rest) p)
+  aborted (Refused (ReadConflict row by)) is rest runs p = let not : Abort ≡ Commit = sym is ∙ p.1.command_is in cc

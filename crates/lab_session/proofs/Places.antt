@@ -8,7 +8,7 @@ use Rattle.lab_table.specs.declared.statement.Statement.{Statement}
 use Rattle.lab_table.specs.declared.statement.Command.{Command}
 use Rattle.lab_table.specs.declared.statement.Command.TheVariants.{Begin, Commit, Abort, Run}
 use Rattle.lab_engine.specs.declared.event.Level.{Level}
-use Rattle.lab_engine.specs.declared.event.EngineFault.TheVariants.{DuplicateKey, OutOfRange, Deadlock, WriteConflict, NoTransaction, AlreadyBegun, Busy}
+use Rattle.lab_engine.specs.declared.event.EngineFault.TheVariants.{DuplicateKey, OutOfRange, Deadlock, WriteConflict, NoTransaction, AlreadyBegun, Busy, ReadConflict}
 use Rattle.lab_engine.specs.declared.event.Outcome.{Outcome}
 use Rattle.lab_engine.specs.declared.event.Outcome.TheVariants.{Begun, Rows as Listed, Committed, Aborted, Waits, Refused}
 use Rattle.lab_engine.specs.Log.{Past, active, waiting}
@@ -47,6 +47,7 @@ module _ (level : Level) (setup : Table) (past : Past) (session : ℕ) (command 
   answered (Refused NoTransaction) rest runs p = absurd (both_ways _ (ap is_some p.0) runs)
   answered (Refused AlreadyBegun) rest runs p = absurd (not_begin p.1.command_is)
   answered (Refused Busy) rest runs p = absurd (both_ways _ (ap is_some rest) p)
+  answered (Refused (ReadConflict row by)) rest runs p = refl
 
 -- what ends a transaction is answered by an end
 pub ended : (level : Level) (setup : Table) (past : Past) (session : ℕ) (command : Command) (outcome : Outcome) → Ends past session command → Permitted level setup past session command outcome

@@ -14,7 +14,7 @@ use Rattle.lab_statement.specs.Limits.{CommandPrints, StatementPrints, IsDeep, I
 use Rattle.lab_script.specs.Limits.{ScriptPrints}
 use Rattle.lab_script.specs.Limits.{AllPrint as LinesPrint}
 use Rattle.lab_engine.specs.declared.event.Level.{Level}
-use Rattle.lab_engine.specs.declared.event.EngineFault.TheVariants.{DuplicateKey, OutOfRange, Deadlock, WriteConflict, NoTransaction, AlreadyBegun, Busy}
+use Rattle.lab_engine.specs.declared.event.EngineFault.TheVariants.{DuplicateKey, OutOfRange, Deadlock, WriteConflict, NoTransaction, AlreadyBegun, Busy, ReadConflict}
 use Rattle.lab_engine.specs.declared.event.Outcome.{Outcome}
 use Rattle.lab_engine.specs.declared.event.Outcome.TheVariants.{Begun, Rows as Listed, Committed, Aborted, Waits, Refused}
 use Rattle.lab_engine.specs.declared.event.LogEvent.{LogEvent}
@@ -50,6 +50,7 @@ module _ (s : Statement) (before : Option Statement) (keeps : before ≡ Some s 
   after_prints command (Refused NoTransaction) prints is = none_some _ is
   after_prints command (Refused AlreadyBegun) prints is = none_some _ is
   after_prints command (Refused Busy) prints is = keeps is
+  after_prints command (Refused (ReadConflict row by)) prints is = none_some _ is
 
 -- a statement that waits prints, where all commands so far do
 waiting_prints : (past : Past) (session : ℕ) (s : Statement) → AllPrint past → waiting past session ≡ Some s → StatementPrints s
@@ -91,6 +92,7 @@ module _ (level : Level) (setup : Table) (past : Past) (session : ℕ) (s : Stat
   after_waits (Refused NoTransaction) p is = none_some _ is
   after_waits (Refused AlreadyBegun) p is = none_some _ is
   after_waits (Refused Busy) p is = before is
+  after_waits (Refused (ReadConflict row by)) p is = none_some _ is
 
 waits_active : (level : Level) (setup : Table) (past : Past) → IsLegal level setup past → (session : ℕ) (s : Statement) → waiting past session ≡ Some s → is_some (active past session) ≡ true
 waits_active level setup [] legal session s is = none_some _ is
@@ -124,6 +126,7 @@ module _ (level : Level) (setup : Table) (past : Past) (session : ℕ) (command 
   retried_prints (Refused NoTransaction) p apart = absurd (both_ways _ (ap is_some p.0) runs)
   retried_prints (Refused AlreadyBegun) p apart = none_some _ (sym p.1.at_rest ∙ waits)
   retried_prints (Refused Busy) p apart = absurd (apart refl)
+  retried_prints (Refused (ReadConflict row by)) p apart = none_some _ (sym p.1.at_rest ∙ waits)
 
 -- the next line of a script prints
 line_prints : (past : Past) (passed : List Line) (lines : List ScriptLine) (line : Line) → LinesPrint lines → next_line past passed (given_lines lines) ≡ Some line → CommandPrints line.1

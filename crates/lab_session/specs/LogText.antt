@@ -28,6 +28,7 @@ refusal_text (fault.WriteConflict row by) = codes "WriteConflict row " ++ printe
 refusal_text fault.NoTransaction = codes "NoTransaction"
 refusal_text fault.AlreadyBegun = codes "AlreadyBegun"
 refusal_text fault.Busy = codes "Busy"
+refusal_text (fault.ReadConflict row by) = codes "ReadConflict row " ++ printed_row_name row ++ codes " by " ++ decimal by
 
 -- what an engine answered
 abbrev pub outcome_text : Outcome → List ℕ

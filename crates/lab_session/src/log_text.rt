@@ -1,6 +1,7 @@
 //! A log as a text. Each function appends; after NoMemory, part of what was to be appended may stand there.
 
-ghost use Rattle.std.specs.Prelude.{◌≢◌, ◌≡◌, ◌++◌, flat_map, map, Err, IfOk, OnOk};
+ghost use Rattle.std.specs.Prelude.{◌≢◌, ◌≡◌, ◌++◌, codes, flat_map, map, Err, IfOk, OnOk};
+ghost use Rattle.std.specs.Fmt.{decimal};
 ghost use Rattle.lab_statement.specs.Limits.{CommandPrints, IsDeep, IsLong};
 ghost use Rattle.lab_statement.specs.Printed.{joined, printed_row_name};
 ghost use Rattle.lab_session.specs.LogText.{AllPrint, SomeEvent, event_text, log_text, next_text, outcome_text, refusal_text, session_text};
@@ -8,7 +9,7 @@ ghost use Rattle.lab_session.specs.LogText.{AllPrint, SomeEvent, event_text, log
 use itoa::Buffer;
 use lab_engine::{EngineFault, LogEvent, Outcome, Recording};
 use lab_statement::{PrintFault, put_list, put_printable, put_row_name};
-use lab_table::{NoMemory, RowName, Session};
+use lab_table::{NoMemory, RowName, Session, TxnNo};
 use std::alloc::Global;
 
 /// The log of a recording, one line for each event, as `T1 commit: committed`, if each of its statements keeps the
@@ -28,7 +29,9 @@ pub fn print_log(alloc: Global, recording: &Recording) -> Result<Vec<u8>, PrintF
     Ok(text)
 }
 
-fn put_event(out: &mut Vec<u8>, event: &LogEvent) -> Result<(), PrintFault>
+/// Appends the line of an event, as `T1 commit: committed`, if its statement keeps the limits of a text. TooDeep and TooLong
+/// only where it breaks that limit.
+pub fn put_event(out: &mut Vec<u8>, event: &LogEvent) -> Result<(), PrintFault>
     ensures text { OnOk result (out.new.items ≡ out.old.items ++ event_text event.now) }
     ensures prints { OnOk result (CommandPrints event.now.command) }
     ensures too_deep { result ≡ Err PrintFault.TooDeep → IsDeep event.now.command }
@@ -44,7 +47,8 @@ fn put_event(out: &mut Vec<u8>, event: &LogEvent) -> Result<(), PrintFault>
     Ok(())
 }
 
-fn put_session(out: &mut Vec<u8>, session: Session) -> Result<(), NoMemory>
+/// Appends a session, as `T1`.
+pub fn put_session(out: &mut Vec<u8>, session: Session) -> Result<(), NoMemory>
     ensures { OnOk result (out.new.items ≡ out.old.items ++ session_text session) }
 {
     out.extend_from_slice(b"T")?;
@@ -77,7 +81,8 @@ fn put_circle(out: &mut Vec<u8>, circle: &[Session]) -> Result<(), NoMemory>
     Ok(())
 }
 
-fn put_outcome(out: &mut Vec<u8>, outcome: &Outcome) -> Result<(), NoMemory>
+/// Appends what an engine answered, as `waits T2`.
+pub fn put_outcome(out: &mut Vec<u8>, outcome: &Outcome) -> Result<(), NoMemory>
     ensures { OnOk result (out.new.items ≡ out.old.items ++ outcome_text outcome.now) }
 {
     match outcome {
@@ -110,6 +115,15 @@ fn put_reason(out: &mut Vec<u8>, reason: &[u8], id: RowName) -> Result<(), NoMem
     put_row_name(out, id)
 }
 
+/// Appends why a commit was refused, for which row, and whose install of it conflicts.
+fn put_conflict(out: &mut Vec<u8>, reason: &[u8], row: RowName, by: TxnNo) -> Result<(), NoMemory>
+    ensures { OnOk result (out.new.items ≡ out.old.items ++ (reason.now ++ printed_row_name row ++ codes " by " ++ decimal by)) }
+{
+    put_reason(out, reason, row)?;
+    out.extend_from_slice(b" by ")?;
+    out.extend_from_slice(Buffer::new().format(by.number()).as_bytes())
+}
+
 fn put_refusal(out: &mut Vec<u8>, fault: &EngineFault) -> Result<(), NoMemory>
     ensures { OnOk result (out.new.items ≡ out.old.items ++ refusal_text fault.now) }
 {
@@ -121,14 +135,14 @@ fn put_refusal(out: &mut Vec<u8>, fault: &EngineFault) -> Result<(), NoMemory>
             put_circle(out, circle.as_slice())?;
         }
         EngineFault::WriteConflict { row, by } => {
-            out.extend_from_slice(b"WriteConflict row ")?;
-            put_row_name(out, *row)?;
-            out.extend_from_slice(b" by ")?;
-            out.extend_from_slice(Buffer::new().format(by.number()).as_bytes())?;
+            put_conflict(out, b"WriteConflict row ", *row, *by)?;
         }
         EngineFault::NoTransaction => out.extend_from_slice(b"NoTransaction")?,
         EngineFault::AlreadyBegun => out.extend_from_slice(b"AlreadyBegun")?,
         EngineFault::Busy => out.extend_from_slice(b"Busy")?,
+        EngineFault::ReadConflict { row, by } => {
+            put_conflict(out, b"ReadConflict row ", *row, *by)?;
+        }
     }
     Ok(())
 }

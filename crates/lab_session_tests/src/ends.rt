@@ -4,17 +4,16 @@ ghost use Rattle.std.specs.Prelude.{◌≡◌, []};
 
 use crate::refused::lines_submitted;
 use lab_engine::{Engine, EngineFault, Level, Outcome};
-use lab_locking::LockEngine;
+use lab_levels::{LockEngine, on_engine};
 use lab_refusal_tests::{refuse, was_refused};
 use lab_script::{Line, parse_script};
 use lab_session::{Bench, Lab, Seat};
 use lab_table::{Command, Session, Table};
-use lab_versions::{CommittedEngine, SnapshotEngine};
 use std::alloc::Global;
 use std::sync::Wait;
 use std::test::Fail;
 
-/// Session 1 has two rows pending, and at snapshot session 2 has installed one of them since session 1's begin. Before
+/// Session 1 has two rows pending, and where nobody waits session 2 has installed one of them since session 1's begin. Before
 /// the end stand eleven events, so that any other event needs an allocation in the log.
 const SNAPSHOT: &[u8] = b"setup (1, 10), (2, 20);
 begin; -- T1
@@ -45,6 +44,21 @@ commit; -- T2
 commit; -- T2
 ";
 
+/// The same, but that session 1 has read a row that session 2 has installed, and written others.
+const READ: &[u8] = b"setup (1, 10), (2, 20), (4, 40);
+begin; -- T1
+begin; -- T2
+update test set value = 42 where id = 4; -- T2
+commit; -- T2
+update test set value = 11 where id = 1; -- T1
+select * from test where id = 4; -- T1
+insert into test (id, value) values (3, 30); -- T1
+commit; -- T2
+commit; -- T2
+commit; -- T2
+commit; -- T2
+";
+
 /// Session 1 has rows pending and session 2 waits for one of them, after eleven events.
 const HELD: &[u8] = b"setup (1, 10), (2, 20);
 begin; -- T1
@@ -66,9 +80,10 @@ enum End {
     Committed,
     Aborted,
     Conflict,
+    ReadConflict,
 }
 
-const ENDS: [(Level, &[u8], End); 7] = [
+const ENDS: [(Level, &[u8], End); 11] = [
     (Level::Locking, HELD, End::Committed),
     (Level::Locking, HELD, End::Aborted),
     (Level::Committed, HELD, End::Committed),
@@ -76,6 +91,10 @@ const ENDS: [(Level, &[u8], End); 7] = [
     (Level::Snapshot, SNAPSHOT, End::Conflict),
     (Level::Snapshot, SNAPSHOT, End::Aborted),
     (Level::Snapshot, APART, End::Committed),
+    (Level::Optimistic, SNAPSHOT, End::Conflict),
+    (Level::Optimistic, READ, End::ReadConflict),
+    (Level::Optimistic, READ, End::Aborted),
+    (Level::Optimistic, APART, End::Committed),
 ];
 
 fn command_of(end: End) -> Command {
@@ -91,6 +110,7 @@ fn end_of(outcome: &Outcome) -> Option<End> {
         Outcome::Committed => Some(End::Committed),
         Outcome::Aborted => Some(End::Aborted),
         Outcome::Refused(EngineFault::WriteConflict { .. }) => Some(End::Conflict),
+        Outcome::Refused(EngineFault::ReadConflict { .. }) => Some(End::ReadConflict),
         _ => None,
     }
 }
@@ -142,11 +162,12 @@ fn ended_at(
     lines: &[Line],
     end: End,
 ) -> Option<(Option<End>, bool)> {
-    match level {
-        Level::Locking => ended_after(alloc, LockEngine::new(alloc, setup), lines, end),
-        Level::Committed => ended_after(alloc, CommittedEngine::new(alloc, setup), lines, end),
-        Level::Snapshot => ended_after(alloc, SnapshotEngine::new(alloc, setup), lines, end),
-    }
+    on_engine!(
+        level,
+        alloc,
+        setup,
+        |engine| ended_after(alloc, engine, lines, end)
+    )
 }
 
 fn end_made(alloc: Global, level: Level, before: &[u8], end: End) -> Option<(Option<End>, bool)> {

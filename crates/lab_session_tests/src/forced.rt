@@ -2,11 +2,10 @@
 
 use crate::instrumented::{Counts, Refusals, comes_to, play_instrumented};
 use lab_engine::{Level, Recording};
-use lab_locking::LockEngine;
+use lab_levels::on_engine;
 use lab_script::{Script, parse_script};
 use lab_session::{Gate, PlayFault, print_log};
 use lab_table::{NoMemory, Session, Table};
-use lab_versions::{CommittedEngine, SnapshotEngine};
 use std::alloc::Global;
 use std::sync::atomic::{AtomicU32, Ordering};
 use std::sync::{Arc, Wait};
@@ -77,9 +76,9 @@ commit; -- T2
 ";
 
 /// At each level the events before session 1's commit, and the log. A pending update is in the way of a select and an
-/// update of its row at locking, of an update alone at committed, and of nothing at snapshot, where the second commit
-/// is refused in place of that.
-const ALL_DUE: [(Level, u32, &[u8]); 3] = [
+/// update of its row at locking, of an update alone at committed, and of nothing at snapshot and optimistic, where the
+/// second commit is refused in place of that.
+const ALL_DUE: [(Level, u32, &[u8]); 4] = [
     (
         Level::Locking,
         4,
@@ -118,6 +117,18 @@ T1 commit: committed
 T2 commit: refused WriteConflict row 1 by 1
 ",
     ),
+    (
+        Level::Optimistic,
+        5,
+        b"T1 begin: begun 1
+T1 update test set value = value + 1 where id = 1: rows (1, 10)
+T2 begin: begun 2
+T2 select * from test where id = 1: rows (1, 10)
+T2 update test set value = value + 2 where id = 1: rows (1, 10)
+T1 commit: committed
+T2 commit: refused WriteConflict row 1 by 1
+",
+    ),
 ];
 
 /// A free play of the script on the engine of a level.
@@ -130,20 +141,12 @@ fn play_on<R: Threads + Wait + Sync>(
     script: &Script,
     gate: &Forcing,
 ) -> Result<Recording, PlayFault> {
-    match level {
-        Level::Locking => {
-            let engine = LockEngine::new(alloc, setup);
-            play_instrumented(rt, alloc, engine, refusals, &gate.counts, script, gate)
-        }
-        Level::Committed => {
-            let engine = CommittedEngine::new(alloc, setup);
-            play_instrumented(rt, alloc, engine, refusals, &gate.counts, script, gate)
-        }
-        Level::Snapshot => {
-            let engine = SnapshotEngine::new(alloc, setup);
-            play_instrumented(rt, alloc, engine, refusals, &gate.counts, script, gate)
-        }
-    }
+    on_engine!(
+        level,
+        alloc,
+        setup,
+        |engine| play_instrumented(rt, alloc, engine, refusals, &gate.counts, script, gate)
+    )
 }
 
 /// The same of the script above, with so many of the first retries refused.

@@ -4,12 +4,11 @@
 ghost use Rattle.std.specs.Prelude.{◌≡◌, []};
 
 use lab_engine::{Engine, Level, Recording};
-use lab_locking::LockEngine;
+use lab_levels::on_engine;
 use lab_refusal_tests::{refuse, was_refused};
 use lab_script::{Line, Script, parse_script};
 use lab_session::{CloseFault, Lab, LabFault, Seat, print_log};
 use lab_table::{Command, Table};
-use lab_versions::{CommittedEngine, SnapshotEngine};
 use std::alloc::Global;
 use std::sync::Wait;
 use std::test::Fail;
@@ -63,6 +62,16 @@ T2 select * from test: rows (1, 10), (2, 20)
 T2 commit: committed
 ";
 
+const INTERMEDIATE_OPTIMISTIC: &[u8] = b"T1 begin: begun 1
+T2 begin: begun 2
+T1 update test set value = 101 where id = 1: rows (1, 10)
+T2 select * from test: rows (1, 10), (2, 20)
+T1 update test set value = 11 where id = 1: rows (1, 101)
+T1 commit: committed
+T2 select * from test: rows (1, 10), (2, 20)
+T2 commit: refused ReadConflict row 1 by 1
+";
+
 /// The listing of G1c.
 const CIRCULAR: &[u8] = b"setup (1, 10), (2, 20);
 begin; -- T1
@@ -85,6 +94,16 @@ T1 commit: committed
 T2 commit: committed
 ";
 
+const CIRCULAR_OPTIMISTIC: &[u8] = b"T1 begin: begun 1
+T2 begin: begun 2
+T1 update test set value = 11 where id = 1: rows (1, 10)
+T2 update test set value = 22 where id = 2: rows (2, 20)
+T1 select * from test where id = 2: rows (2, 20)
+T2 select * from test where id = 1: rows (1, 10)
+T1 commit: committed
+T2 commit: refused ReadConflict row 1 by 1
+";
+
 const ALONE: &[u8] = b"setup (1, 10);
 begin; -- T1
 update test set value = value + 1 where id = 1; -- T1
@@ -97,7 +116,7 @@ T1 commit: committed
 ";
 
 /// The runs: the level, the script and its log.
-const RUNS: [(Level, &[u8], &[u8]); 9] = [
+const RUNS: [(Level, &[u8], &[u8]); 13] = [
     (Level::Committed, PREDICATE, PREDICATE_LOG),
     (Level::Snapshot, PREDICATE, PREDICATE_LOG),
     (Level::Committed, INTERMEDIATE, INTERMEDIATE_COMMITTED),
@@ -107,6 +126,10 @@ const RUNS: [(Level, &[u8], &[u8]); 9] = [
     (Level::Locking, ALONE, ALONE_LOG),
     (Level::Committed, ALONE, ALONE_LOG),
     (Level::Snapshot, ALONE, ALONE_LOG),
+    (Level::Optimistic, PREDICATE, PREDICATE_LOG),
+    (Level::Optimistic, INTERMEDIATE, INTERMEDIATE_OPTIMISTIC),
+    (Level::Optimistic, CIRCULAR, CIRCULAR_OPTIMISTIC),
+    (Level::Optimistic, ALONE, ALONE_LOG),
 ];
 
 /// An allocation of a call: the call's place in the run, and which of its allocations, or none at 0.
@@ -276,24 +299,12 @@ fn recorded_at<R: Wait>(
     refused: Refused,
     was: &mut bool,
 ) -> Option<Recording> {
-    match level {
-        Level::Locking => recorded(
-            rt,
-            alloc,
-            LockEngine::new(alloc, setup),
-            lines,
-            refused,
-            was,
-        ),
-        Level::Committed => {
-            let engine = CommittedEngine::new(alloc, setup);
-            recorded(rt, alloc, engine, lines, refused, was)
-        }
-        Level::Snapshot => {
-            let engine = SnapshotEngine::new(alloc, setup);
-            recorded(rt, alloc, engine, lines, refused, was)
-        }
-    }
+    on_engine!(
+        level,
+        alloc,
+        setup,
+        |engine| recorded(rt, alloc, engine, lines, refused, was)
+    )
 }
 
 /// Whether an allocation was refused in a run of a script; None where its log isn't what is due.

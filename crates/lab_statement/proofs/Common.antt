@@ -19,7 +19,7 @@ pub use Rattle.lab_statement.specs.Each.{Each}
 pub use Rattle.lab_statement.specs.Fault.{IsFirstInText, IsStatementFault, SaysOfStatement, refusal_at}
 unfoldable pub use Rattle.lab_statement.specs.FirstFaults.{delete_read, end_read, expr_read, insert_read, select_read, statement_read, update_read, whole_statement_read}
 pub use Rattle.lab_statement.specs.FirstFaults.{StopsFirst, fault_of, fifth_table, in_predicate, nothing_read, placed_kind, refusal_as, statement_fault}
-pub use Rattle.lab_statement.specs.Grammar.{A, IsAtom, IsEnd, IsExpr, IsId, IsNumber, IsNumberList, IsNumbers, IsPred, IsRow, IsStatement, IsWhere, IsWholeStatement, Kind, N, P, cmp_token, col_token, over}
+pub use Rattle.lab_statement.specs.Grammar.{A, IsAtom, IsEnd, IsExpr, IsId, IsNumber, IsNumberList, IsPred, IsRow, IsStatement, IsWhere, IsWholeStatement, Kind, N, P, cmp_token, col_token, over}
 pub use Rattle.lab_statement.specs.Limits.{StatementPrints, max_statement_bytes}
 pub use Rattle.lab_statement.specs.Printed.{is_and, is_or, joined, parenthesized, printed_cmp, printed_col, printed_expr, printed_kind, printed_numbers, printed_pred, printed_row, printed_rows, printed_statement, printed_where, rows_or}
 pub use Rattle.lab_statement.specs.Ranges.{ExprInRange, KindInRange, PredInRange, RowInRange, StatementInRange, ValueInRange, WhereInRange}
@@ -27,7 +27,7 @@ pub use Rattle.lab_statement.specs.Reading.{after, is_token}
 unfoldable pub use Rattle.lab_statement.specs.Stopping.{atom_read, cmp_read, col_read, compare_read, conj_read, digits_read, joined_read, magnitude_read, more_read, name_read, number_list_read, number_read, numbers_read, one_of_read, positive_read, pred_read, remainder_read, row_read, term_read, where_read}
 pub use Rattle.lab_statement.specs.Stopping.{Reading, Reads, Stops, StopsAt, cmp_in, cmp_of, if_found, name_of, one_more, read_value, token_read, tokens_read, ◌>>=◌}
 pub use Rattle.lab_statement.specs.Text.{AreStatementTokens, BeginsLongStatement, HasWhere, SpellsStatement, begins_remark, code_of, is_code_byte, remark_of}
-pub use Rattle.lab_statement.specs.Token.{Part, begun, ended, is_blank, is_letter, letters, longer, longer_token, mark, tokens, tokens_from, whole, with_digit, word_token}
+pub use Rattle.lab_statement.specs.Token.{Part, begun, ended, is_blank, is_known, is_letter, letters, longer, longer_token, mark, tokens, tokens_from, whole, with_digit, word_token}
 pub use Rattle.lab_statement.specs.declared.fault.Refusal.{Refusal}
 pub use Rattle.lab_statement.specs.declared.fault.ScriptFaultKind.{ScriptFaultKind}
 pub use Rattle.lab_statement.specs.declared.fault.ScriptFaultKind.TheVariants.{NumberOutOfRange, TooManyTables, UnknownStatement}

@@ -2,6 +2,8 @@ pub mod Common
 pub mod Tokens
 pub mod SameTokens
 pub mod BlankTexts
+pub mod LongestTokens
+pub mod FirstTokens
 pub mod Takes
 pub mod StatementTaken
 pub mod ReadNumbers
@@ -9,6 +11,7 @@ pub mod Joined
 pub mod Appended
 pub mod PutTexts
 pub mod ReadRows
+pub mod Numbers
 pub mod AtomParts
 pub mod ReadPredicates
 pub mod ReadStatements

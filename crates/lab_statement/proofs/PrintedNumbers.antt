@@ -1,5 +1,5 @@
 -- Printed numbers: their tokens, and that all of them is code.
-use Rattle.lab_statement.proofs.Common.{◌≡◌, ℕ, zero, suc, ◌/◌, ◌%◌, ◌≤◌, ◌<◌, Bool, true, false, cond, List, [], ◌∷◌, ◌++◌, length, refl, ap, ◌∙◌, arith, subst, ◌&&◌, ◌==◌, ℤ, pos, negsuc, ◌-ℤ◌, codes, list_all, digits, digits_onto, digit_glyph, decimal, signed_decimal, nat_tests, decimal_nonempty, Token, IsNumber, IsNumbers, IsNumberList, joined, printed_numbers, Each, ValueInRange, ◌+◌, ◌-◌, ◌*◌, append_assoc, decimal_by_steps, length-decimal-le, is_ascii_digit, whole, is_letter, is_blank, with_digit, tokens, tokens_from}
+use Rattle.lab_statement.proofs.Common.{◌≡◌, ℕ, zero, suc, ◌/◌, ◌%◌, ◌≤◌, ◌<◌, Bool, true, false, cond, List, [], ◌∷◌, ◌++◌, length, refl, ap, ◌∙◌, arith, subst, ◌&&◌, ◌==◌, ℤ, pos, negsuc, ◌-ℤ◌, codes, list_all, digits, digits_onto, digit_glyph, decimal, signed_decimal, nat_tests, decimal_nonempty, Token, IsNumber, IsNumberList, joined, printed_numbers, Each, ValueInRange, ◌+◌, ◌-◌, ◌*◌, append_assoc, decimal_by_steps, length-decimal-le, is_ascii_digit, whole, is_letter, is_blank, with_digit, tokens, tokens_from}
 use Rattle.std.proofs.lemmas.Int.{ints}
 use Rattle.lab_statement.specs.declared.token.Token.TheVariants as token
 use Rattle.lab_statement.specs.Grammar as grammar
@@ -105,12 +105,8 @@ list_reads [] r = empty_reads
 list_reads (z ∷ []) r = number_reads z r.0
 list_reads (z ∷ y ∷ zs) r = reads_between (number_reads z r.0) comma_leads (λ rest. refl) (list_reads (y ∷ zs) r.1)
 
--- the tokens of one number or more are in the grammar
-numbers_fit : (z : ℤ) (zs : List ℤ) → Each ValueInRange (z ∷ zs) → IsNumbers (list_tokens (z ∷ zs)) (z ∷ zs)
-numbers_fit z [] r = grammar.last (number_fits z r.0)
-numbers_fit z (y ∷ zs) r = grammar.more (number_fits z r.0) (numbers_fit y zs r.1)
-
 -- the tokens of a printed list of numbers are in the grammar
 pub list_fits : (zs : List ℤ) → Each ValueInRange zs → IsNumberList (list_tokens zs) zs
 list_fits [] r = grammar.none
-list_fits (z ∷ zs) r = grammar.some (numbers_fit z zs r)
+list_fits (z ∷ []) r = grammar.last (number_fits z r.0)
+list_fits (z ∷ y ∷ zs) r = grammar.more (number_fits z r.0) (list_fits (y ∷ zs) r.1)

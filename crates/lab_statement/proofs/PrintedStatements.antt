@@ -11,6 +11,8 @@ use Rattle.lab_statement.proofs.PrintedNames.{name_reads}
 use Rattle.lab_statement.proofs.PrintedNumbers.{comma_leads, number_tokens, number_reads, number_fits, decimal_reads}
 use Rattle.lab_statement.proofs.PrintedTokens.{pred_tokens, pred_fits}
 use Rattle.lab_statement.proofs.PrintedPreds.{pred_reads, open_leads, closed_leads}
+use Rattle.lab_statement.proofs.Remarks.{code_undashed}
+use Rattle.lab_statement.proofs.KnownTokens.{as_spelled}
 
 -- the tokens behind a statement
 abbrev pub where_tokens : Option Predicate → List Token
@@ -120,17 +122,11 @@ statement_fits s h le = kind_fits s.table h.0 s.kind h.1 le
 pub statement_spells : (s : Statement) → StatementInRange s → StatementPrints s → SpellsStatement (printed_statement s) s
 statement_spells s h prints =
     let reads = statement_reads s h in
+    let tokens_are = reads_all (printed_statement s) (statement_tokens s) reads ∙ sym (append-nil (statement_tokens s)) in
     record {
       bytes = omega arith;
       ascii = reads.plain.ascii;
-      no_remark = plain_code (printed_statement s) reads.plain;
-      parts = (
-        statement_tokens s,
-        [],
-        reads_all (printed_statement s) (statement_tokens s) reads
-            ∙ sym (append-nil (statement_tokens s)),
-        statement_fits s h prints.shallow,
-        grammar.open_end,
-      );
+      no_remark = code_undashed (printed_statement s) (plain_code (printed_statement s) reads.plain);
+      parts = as_spelled (printed_statement s) s (record { parts = (statement_tokens s, [], tokens_are, statement_fits s h prints.shallow, grammar.open_end); printed = prints.short });
       printed = prints.short;
     }

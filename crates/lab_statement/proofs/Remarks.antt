@@ -1,5 +1,6 @@
 -- The code and the remark of a line, by where two dashes stand in it.
-use Rattle.lab_statement.proofs.Common.{◌≡◌, ℕ, ◌+◌, ◌<◌, ◌≤◌, true, false, List, [], ◌∷◌, length, take, drop, get_or, refl, sym, ap, ◌∙◌, arith, zero, suc, ◌==◌, eqb-true, false≢true, false_from_ne_true, and_parts, begins_remark, code_of, remark_of}
+use Rattle.lab_statement.proofs.Common.{◌≡◌, ℕ, ◌+◌, ◌<◌, ◌≤◌, Bool, true, false, List, [], ◌∷◌, length, take, drop, get_or, refl, sym, ap, ◌∙◌, arith, zero, suc, ◌==◌, Some, cases_Bool, inl, inr, cond, same_Some, eqb-true, false≢true, false_from_ne_true, and_parts, begins_remark, code_of, remark_of}
+use Rattle.std.specs.Prelude.{slice_get}
 use Rattle.bstr.specs.Find.{OccursAt}
 
 -- two dashes
@@ -55,3 +56,38 @@ no_cut [] none = (refl, refl)
 no_cut (b ∷ bytes) none =
     let behind = no_cut bytes (λ k low before here. none (suc k) (omega arith) (omega (arith, before)) (further b bytes k here)) in
     rw (begins_not (b ∷ bytes) (none 0 (omega arith) (omega arith))) (ap (λ (code : List ℕ). b ∷ code) behind.0, behind.1)
+
+-- a text without two dashes side by side is code, and so are no others
+abbrev pub IsUndashed : List ℕ → Type 0
+IsUndashed text = (n : ℕ) → slice_get text n ≡ Some 45 → slice_get text (n + 1) ≡ Some 45 → ⊥
+
+next_byte : (b n : ℕ) (bytes : List ℕ) → slice_get (b ∷ bytes) (suc n + 1) ≡ slice_get bytes (n + 1)
+next_byte b n bytes = let next : suc n + 1 ≡ suc (n + 1) = omega arith in ap (λ (k : ℕ). slice_get (b ∷ bytes) k) next
+
+none_begins : (b : ℕ) (bytes : List ℕ) → IsUndashed (b ∷ bytes) → begins_remark (b ∷ bytes) ≡ false
+none_begins b [] none = refl
+none_begins b (c ∷ bytes) none = false_from_ne_true _ (λ is. let both = and_parts (b == 45) (c == 45) is in none 0 (ap Some (eqb-true b 45 both.0)) (ap Some (eqb-true c 45 both.1)))
+
+pub undashed_code : (text : List ℕ) → IsUndashed text → code_of text ≡ text
+undashed_code [] none = refl
+undashed_code (b ∷ bytes) none =
+    ap (λ (v : Bool). cond v [] (b ∷ code_of bytes)) (none_begins b bytes none)
+    ∙ ap (λ (bs : List ℕ). b ∷ bs) (undashed_code bytes (λ n one other. none (suc n) one (next_byte b n bytes ∙ other)))
+
+begun_there : (b : ℕ) (bytes : List ℕ) → b ≡ 45 → slice_get bytes 0 ≡ Some 45 → begins_remark (b ∷ bytes) ≡ true
+begun_there b [] one other = absurd cc
+begun_there b (c ∷ bytes) one other = rw (one, same_Some c 45 other) refl
+
+pub code_undashed : (text : List ℕ) → code_of text ≡ text → IsUndashed text
+code_undashed [] all n one other = absurd cc
+code_undashed (b ∷ bytes) all n one other =
+    elim (cases_Bool (begins_remark (b ∷ bytes))) [
+      | inl is ↦ let none : [] ≡ b ∷ bytes = sym (ap (λ (v : Bool). cond v [] (b ∷ code_of bytes)) is) ∙ all in absurd cc
+      | inr isnt ↦
+          let same : b ∷ code_of bytes ≡ b ∷ bytes = sym (ap (λ (v : Bool). cond v [] (b ∷ code_of bytes)) isnt) ∙ all in
+          at isnt (cc) (code_undashed bytes) n one other
+    ]
+  where
+    at : begins_remark (b ∷ bytes) ≡ false → code_of bytes ≡ bytes → (code_of bytes ≡ bytes → IsUndashed bytes) → (k : ℕ) → slice_get (b ∷ bytes) k ≡ Some 45 → slice_get (b ∷ bytes) (k + 1) ≡ Some 45 → ⊥
+    at isnt code behind zero here there = false≢true (sym isnt ∙ begun_there b bytes (same_Some b 45 here) there)
+    at isnt code behind (suc k) here there = behind code k here (sym (next_byte b k bytes) ∙ there)

@@ -3,6 +3,8 @@ use Rattle.lab_statement.proofs.Common.{◌≡◌, ℕ, true, List, length, Some
 use Rattle.lab_statement.specs.declared.fault.ScriptFault.{ScriptFault}
 use Rattle.lab_statement.specs.declared.fault.ScriptFault.TheVariants as fault
 use Rattle.lab_statement.specs.StatementText.{is_code_alone, statement_in}
+use Rattle.lab_statement.proofs.Remarks.{code_undashed, undashed_code}
+use Rattle.lab_statement.proofs.KnownTokens.{as_spelled, as_whole}
 use Rattle.lab_statement.proofs.Readings.{valued}
 use Rattle.lab_statement.proofs.ReadStatements.{whole_again, whole_takes}
 use Rattle.lab_statement.proofs.StatementText.{all_code}
@@ -12,8 +14,8 @@ use Rattle.lab_table.proofs.Tests.{under_condition}
 pub spells_in : (text : List ℕ) (s : Statement) → SpellsStatement text s → statement_in text ≡ Some s
 unfolding statement_in
 spells_in text s h =
-    let alone : is_code_alone text ≡ true = and_from _ _ (le-leb (length text) 4000 h.bytes) (and_from _ _ h.ascii (eq-eqb (length (code_of text)) (length text) (ap length h.no_remark))) in
-    rw (alone, whole_again (record { parts = h.parts; printed = h.printed })) refl
+    let alone : is_code_alone text ≡ true = and_from _ _ (le-leb (length text) 4000 h.bytes) (and_from _ _ h.ascii (eq-eqb (length (code_of text)) (length text) (ap length (undashed_code text h.no_remark)))) in
+    rw (alone, whole_again (as_whole text s h)) refl
 
 -- what is read from a text it spells
 pub in_spells : (text : List ℕ) (s : Statement) → statement_in text ≡ Some s → SpellsStatement text s
@@ -24,7 +26,7 @@ in_spells text s read =
     let code = and_parts (list_all is_code_byte text) _ short.1 in
     let len : length (code_of text) ≡ length text = eqb-true _ _ code.1 in
     let whole = whole_takes (tokens text) s (valued (whole_statement_read (tokens text)) s found.1) in
-    record { bytes = leb-true _ _ short.0; ascii = code.0; no_remark = all_code text (omega arith); parts = whole.parts; printed = whole.printed }
+    record { bytes = leb-true _ _ short.0; ascii = code.0; no_remark = code_undashed text (all_code text (omega arith)); parts = as_spelled text s whole; printed = whole.printed }
 
 -- from a text that spells nothing nothing is read
 pub none_in : (text : List ℕ) → ((s : Statement) → SpellsStatement text s → ⊥) → statement_in text ≡ None

@@ -1,5 +1,5 @@
 -- What is read as a statement, or as a part of one, is one of the grammar, and reading stops with few kinds of faults.
-use Rattle.lab_statement.proofs.Common.{◌≡◌, ℕ, zero, suc, ◌≤◌, Some, List, [], ◌∷◌, ◌++◌, length, refl, subst, sym, ap, ◌∙◌, append_assoc, append-nil, arith, inl, inr, ℤ, pos, ◌⊎◌, ◌==◌, ◌&&◌, nat_le, leb-true, leb-false, eqb-true, and_parts, nil_from_length, Col, Token, ScriptFaultKind, over, P, A, N, col_token, cmp_token, IsNumber, IsNumbers, IsAtom, IsPred, IsWhere, IsExpr, IsRow, IsStatement, IsEnd, IsWholeStatement, max_statement_bytes, printed_statement, Reading, digits_read, magnitude_read, number_read, more_read, positive_read, row_read, name_of, name_read, col_read, cmp_read, one_more, numbers_read, number_list_read, compare_read, remainder_read, one_of_read, atom_read, joined_read, term_read, conj_read, pred_read, where_read, expr_read, select_read, update_read, insert_read, delete_read, statement_read, end_read, nothing_read, whole_statement_read, BeginsLongStatement}
+use Rattle.lab_statement.proofs.Common.{◌≡◌, ℕ, zero, suc, ◌≤◌, Some, List, [], ◌∷◌, ◌++◌, length, refl, subst, sym, ap, ◌∙◌, append_assoc, append-nil, arith, inl, inr, ℤ, pos, ◌⊎◌, ◌==◌, ◌&&◌, nat_le, leb-true, leb-false, eqb-true, and_parts, nil_from_length, Col, Token, ScriptFaultKind, over, P, A, N, col_token, cmp_token, IsNumber, IsAtom, IsPred, IsWhere, IsExpr, IsRow, IsStatement, IsEnd, IsWholeStatement, max_statement_bytes, printed_statement, Reading, digits_read, magnitude_read, number_read, more_read, positive_read, row_read, name_of, name_read, col_read, cmp_read, one_more, numbers_read, number_list_read, compare_read, remainder_read, one_of_read, atom_read, joined_read, term_read, conj_read, pred_read, where_read, expr_read, select_read, update_read, insert_read, delete_read, statement_read, end_read, nothing_read, whole_statement_read, BeginsLongStatement}
 use Rattle.lab_table.specs.Predicate as predicate
 use Rattle.lab_table.specs.declared.statement.StatementKind.TheVariants as kind
 use Rattle.lab_table.specs.declared.statement.Expr.TheVariants as expr
@@ -7,6 +7,8 @@ use Rattle.lab_table.specs.declared.word.Word.TheVariants as word
 use Rattle.lab_statement.specs.declared.token.Token.TheVariants as token
 use Rattle.lab_statement.specs.declared.fault.ScriptFaultKind.TheVariants as kinds
 use Rattle.lab_statement.specs.Grammar as grammar
+use Rattle.lab_statement.proofs.Numbers.{IsNumbers, are_list}
+use Rattle.lab_statement.proofs.Numbers as numbers
 use Rattle.lab_statement.proofs.Takes.{Gives, gives, stops, Takes, then_gives, if_gives, found_gives, taken, each_taken, behind, behind_spelled, made, found, behind_token, behind_tokens, token_gives}
 
 -- an end behind which nothing is left
@@ -16,8 +18,8 @@ end_is ts rest (inr is) none = subst IsEnd (sym (is ∙ ap (λ (us : List Token)
 
 -- one number behind others
 one_behind : {ts rest : List Token} {zs : List ℤ} {z : ℤ} → IsNumbers ts zs → IsNumber rest z → IsNumbers (ts ++ token.Comma ∷ rest) (zs ++ z ∷ [])
-one_behind (grammar.last n) m = grammar.more n (grammar.last m)
-one_behind {rest} (grammar.more {ts} {rest = others} n ns) m = rw (append_assoc ts (token.Comma ∷ others) (token.Comma ∷ rest)) (grammar.more n (one_behind ns m))
+one_behind (numbers.one n) m = numbers.others n (numbers.one m)
+one_behind {rest} (numbers.others {ts} {rest = others} n ns) m = rw (append_assoc ts (token.Comma ∷ others) (token.Comma ∷ rest)) (numbers.others n (one_behind ns m))
 
 -- members with a connective between two of them
 module _ {Fault : ScriptFaultKind → Type 0} {A X : Type 0} (first : X → A) (member : List Token → Reading (X × List Token)) (connective : Token) (join : A → X → A)
@@ -111,13 +113,13 @@ module _ {Fault : ScriptFaultKind → Type 0} (unknown : Fault kinds.UnknownStat
 
     numbers_taken : (ts : List Token) → Takes Fault IsNumbers ts (numbers_read ts)
     unfolding numbers_read
-    numbers_taken ts = joined_taken (λ z. z ∷ []) number_read token.Comma one_more IsNumber IsNumbers number_taken (λ us z n. grammar.last n) (λ us rest zs z ns n. one_behind ns n) ts
+    numbers_taken ts = joined_taken (λ z. z ∷ []) number_read token.Comma one_more IsNumber IsNumbers number_taken (λ us z n. numbers.one n) (λ us rest zs z ns n. one_behind ns n) ts
 
     one_of_taken : (c : Col) (ts : List Token) → Takes Fault (λ front p. IsAtom (col_token c ∷ token.Word word.In ∷ front) p) ts (one_of_read c ts)
     unfolding one_of_read number_list_read
     one_of_taken c ts = made (λ zs. predicate.OneOf c zs)
         (behind_token unknown token.Open _ (λ a. found token.Close a _ _ (λ rest. taken [] refl (grammar.one_of c grammar.none))
-        (behind _ (numbers_taken a) (λ zs ns n b. behind_token unknown token.Close _ (λ rest. taken [] refl (grammar.one_of c (grammar.some n)))))))
+        (behind _ (numbers_taken a) (λ zs ns n b. behind_token unknown token.Close _ (λ rest. taken [] refl (grammar.one_of c (are_list n)))))))
         (λ zs front is. is)
 
     remainder_taken : (c : Col) (ts : List Token) → Takes Fault (λ front p. IsAtom (col_token c ∷ token.Percent ∷ front) p) ts (remainder_read c ts)

@@ -3,7 +3,8 @@ use Rattle.lab_statement.proofs.Common.{◌≡◌, ℕ, ◌≤◌, Bool, true, c
 use Rattle.lab_statement.specs.declared.fault.Refusal.TheVariants as refusal
 use Rattle.lab_statement.proofs.GrammarFaults.{no_statement_fault}
 use Rattle.lab_statement.proofs.FaultKinds.{statement_kinds}
-use Rattle.lab_statement.proofs.KnownTokens.{closed_known, long_before_last, where_before_last}
+use Rattle.lab_statement.proofs.Remarks.{code_undashed, undashed_code}
+use Rattle.lab_statement.proofs.KnownTokens.{as_spelled, as_whole, closed_known, long_before_last, where_before_last}
 
 -- code that is as long as the text is the text
 pub all_code : (text : List ℕ) → length text ≤ length (code_of text) → code_of text ≡ text
@@ -25,13 +26,13 @@ module _ (text : List ℕ) (short : length text ≤ 4000) (ascii : list_all is_c
   pub text_spells : (ts : List Token) → AreStatementTokens text ts → (s : Statement) → IsWholeStatement ts s → SpellsStatement text s
   text_spells ts (inl (all, is)) s closed =
       let whole = subst (λ (us : List Token). IsWholeStatement us s) is closed in
-      record { bytes = short; ascii = ascii; no_remark = all; parts = whole.parts; printed = whole.printed }
+      record { bytes = short; ascii = ascii; no_remark = code_undashed text all; parts = as_spelled text s whole; printed = whole.printed }
   text_spells ts (inr (cut, is)) s closed = absurd (closed_known (tokens (code_of text)) s (subst (λ (us : List Token). IsWholeStatement us s) is closed))
 
   -- what the text spells, these tokens spell
   spelled_tokens : (ts : List Token) → AreStatementTokens text ts → (s : Statement) → SpellsStatement text s → IsWholeStatement ts s
-  spelled_tokens ts (inl (all, is)) s spells = subst (λ (us : List Token). IsWholeStatement us s) (sym is) (record { parts = spells.parts; printed = spells.printed })
-  spelled_tokens ts (inr (cut, is)) s spells = absurd (cut spells.no_remark)
+  spelled_tokens ts (inl (all, is)) s spells = subst (λ (us : List Token). IsWholeStatement us s) (sym is) (as_whole text s spells)
+  spelled_tokens ts (inr (cut, is)) s spells = absurd (cut (undashed_code text spells.no_remark))
 
   -- a where of these tokens stands in the text
   where_of : (ts : List Token) → AreStatementTokens text ts → HasWhere ts → HasWhere (tokens (code_of text))

@@ -65,7 +65,7 @@ others b n p q =
 pub comma_begins : (b : ℕ) (bs : List ℕ) → b ≡ 44 → tokens (b ∷ bs) ≡ token.Comma ∷ tokens bs
 comma_begins b bs is = rw is (whole_run token.Comma bs (λ n. refl))
 
-isnt_eq : (a b : ℕ) → (a ≡ b → ⊥) → (a == b) ≡ false
+pub isnt_eq : (a b : ℕ) → (a ≡ b → ⊥) → (a == b) ≡ false
 isnt_eq a b h = false_from_ne_true (a == b) (λ e. h (eqb-true a b e))
 
 -- the same of other marks, as the code meets them

@@ -22,15 +22,11 @@ pub data IsNumber : List Token → ℤ → Type 0 where
   positive : (n : ℕ) → n ≤ 1000000000 → IsNumber (token.Digits n ∷ []) (pos n)
   negative : (n : ℕ) → n ≤ 1000000000 → IsNumber (token.Minus ∷ token.Digits n ∷ []) (pos 0 -ℤ pos n)
 
--- number { ',' number }
-pub data IsNumbers : List Token → List ℤ → Type 0 where
-  last : {ts : List Token} {z : ℤ} → IsNumber ts z → IsNumbers ts (z ∷ [])
-  more : {ts rest : List Token} {z : ℤ} {zs : List ℤ} → IsNumber ts z → IsNumbers rest zs → IsNumbers (ts ++ token.Comma ∷ rest) (z ∷ zs)
-
 -- [ number { ',' number } ]
 pub data IsNumberList : List Token → List ℤ → Type 0 where
   none : IsNumberList [] []
-  some : {ts : List Token} {zs : List ℤ} → IsNumbers ts zs → IsNumberList ts zs
+  last : {ts : List Token} {z : ℤ} → IsNumber ts z → IsNumberList ts (z ∷ [])
+  more : {ts rest : List Token} {y z : ℤ} {zs : List ℤ} → IsNumber ts y → IsNumberList rest (z ∷ zs) → IsNumberList (ts ++ token.Comma ∷ rest) (y ∷ z ∷ zs)
 
 -- col := 'id' | 'value'
 abbrev pub col_token : Col → Token

@@ -1,4 +1,5 @@
 pub mod Token
+pub mod TokensOf
 pub mod Grammar
 pub mod Printed
 pub mod Sink

@@ -1,11 +1,12 @@
 -- Which text spells a statement.
-use Rattle.std.specs.Prelude.{◌≡◌, ℕ, ◌≤◌, ◌<◌, ◌⊎◌, Bool, true, false, ◌&&◌, ◌||◌, ◌==◌, nat_le, if◌then◌else◌, List, [], ◌∷◌, ◌++◌, length, drop}
+use Rattle.std.specs.Prelude.{◌≡◌, ℕ, ◌≤◌, ◌<◌, ◌⊎◌, Bool, true, false, ◌&&◌, ◌||◌, ◌==◌, nat_le, if◌then◌else◌, List, [], ◌∷◌, ◌++◌, length, drop, slice_get, Some, ◌+◌}
 use Rattle.std.specs.List.{list_all}
 use Rattle.lab_table.specs.declared.statement.Statement.{Statement}
 use Rattle.lab_table.specs.declared.word.Word.TheVariants as word
 use Rattle.lab_statement.specs.declared.token.Token.{Token}
 use Rattle.lab_statement.specs.declared.token.Token.TheVariants as token
 use Rattle.lab_statement.specs.Token.{tokens}
+use Rattle.lab_statement.specs.TokensOf.{AreTokens}
 use Rattle.lab_statement.specs.Grammar.{IsStatement, IsEnd}
 use Rattle.lab_statement.specs.Printed.{printed_statement}
 use Rattle.lab_statement.specs.Limits.{max_line_bytes, max_statement_bytes}
@@ -49,10 +50,10 @@ pub record BeginsLongStatement (ts : List Token) : Type 0 where
   pub spelled : IsStatement front statement
   pub long : max_statement_bytes < length (printed_statement statement)
 
--- the text spells the statement: all of it is code
+-- the text spells the statement: it has no two dashes side by side, behind which a remark would stand, and its tokens are those of the statement
 pub record SpellsStatement (text : List ℕ) (s : Statement) : Type 0 where
   pub bytes : length text ≤ max_line_bytes
   pub ascii : list_all is_code_byte text ≡ true
-  pub no_remark : code_of text ≡ text
-  pub parts : (ts end : _) × (tokens text ≡ ts ++ end) × IsStatement ts s × IsEnd end
+  pub no_remark : (n : ℕ) → slice_get text n ≡ Some 45 → slice_get text (n + 1) ≡ Some 45 → ⊥
+  pub parts : (ts end : List Token) × AreTokens text (ts ++ end) × IsStatement ts s × IsEnd end
   pub printed : length (printed_statement s) ≤ max_statement_bytes

@@ -1,4 +1,4 @@
--- The tokens of a text: each is as long as it can be, and spaces and tabs only separate.
+-- The tokens of a text, as they are read: byte after byte, with what has been read of a token so far.
 use Rattle.std.specs.Prelude.{ℕ, ◌+◌, ◌-◌, ◌*◌, Bool, true, false, ◌||◌, ◌==◌, if◌then◌else◌, List, [], ◌∷◌, ◌++◌, Option, Some, None, is_some, option_map, unwrap_or, min}
 use Rattle.std.specs.Char.{to_ascii_lowercase, is_ascii_alphabetic, is_ascii_digit}
 use Rattle.lab_table.specs.TableName.{is_table_name}
@@ -20,6 +20,11 @@ is_word (token.Word w) = true
 is_word (token.Name n) = true
 is_word token.OtherWord = true
 is_word t = false
+
+-- whether a token is one of the grammar
+abbrev pub is_known : Token → Bool
+is_known token.Unknown = false
+is_known t = true
 
 -- the word that letters in lower case spell: a reserved one, or else the name of a table, or another
 abbrev pub word_token : List ℕ → Token

@@ -6,7 +6,9 @@ ghost use Rattle.lab_table.specs.TableName.{is_table_name};
 ghost use Rattle.lab_table.specs.Words.{is_reserved};
 ghost use Rattle.lab_table.specs.declared.statement.Statement.{Statement};
 ghost use Rattle.lab_statement.specs.Text.{SpellsStatement};
-ghost use Rattle.lab_statement.specs.Token.{is_blank, tokens, word_token};
+ghost use Rattle.lab_statement.specs.Token.{is_blank, is_known, tokens, word_token};
+ghost use Rattle.lab_statement.specs.TokensOf.{AreTokens};
+ghost use Rattle.lab_statement.specs.declared.token.Token.{Token};
 ghost use Rattle.lab_statement.specs.declared.token.Token.TheVariants as token;
 ghost use Rattle.lab_table.specs.declared.word.Word.{Word};
 ghost use Rattle.lab_statement.specs.StatementText.{statement_in};
@@ -22,6 +24,13 @@ pub fn statement_is_read_from_its_text()
 pub fn words_are_reserved()
     ensures word { (text : List ℕ) → IsTrue (is_reserved text) ↔ ((word : Word) × (word_token text ≡ token.Word word)) }
     ensures name { (text name : List ℕ) → (word_token text ≡ token.Name name) ↔ ((name ≡ text) × (is_table_name text ≡ true)) }
+{}
+
+/// The tokens that are read from a text, where none of them is unknown, are those that it has by the rule of the longest
+/// match.
+#[tactic(auto, using(crate::proofs::FirstTokens::tokens_are))]
+pub fn tokens_are_those_of_the_text()
+    ensures { (text : List ℕ) (ts : List Token) → AreTokens text ts ↔ ((tokens text ≡ ts) × (list_all is_known ts ≡ true)) }
 {}
 
 /// A text has no token exactly where it is nothing but spaces and tabs.

@@ -1,5 +1,5 @@
 -- The reserved words of scripts.
-use Rattle.std.specs.Prelude.{ℕ, Bool, if◌then◌else◌, List, [], ◌∷◌, Option, Some, None, is_some, codes}
+use Rattle.std.specs.Prelude.{ℕ, Bool, List, [], ◌∷◌, find, Option, is_some, option_map, codes}
 use Rattle.std.specs.Str.{bytes_eq}
 use Rattle.lab_table.specs.declared.word.Word.{Word}
 use Rattle.lab_table.specs.declared.word.Word.TheVariants as word
@@ -13,14 +13,9 @@ spellings =
     ∷ (codes "begin", word.Begin) ∷ (codes "commit", word.Commit) ∷ (codes "abort", word.Abort) ∷ (codes "rollback", word.Rollback)
     ∷ (codes "setup", word.Setup) ∷ (codes "transaction", word.Transaction) ∷ (codes "isolation", word.Isolation) ∷ (codes "level", word.Level) ∷ []
 
--- the word of the first of these spellings that a text is
-abbrev pub word_in : List (List ℕ × Word) → List ℕ → Option Word
-word_in [] text = None
-word_in (s ∷ more) text = if bytes_eq text s.0 then Some s.1 else word_in more text
-
 -- the word that a text in lower case spells
 abbrev pub word_named : List ℕ → Option Word
-word_named = word_in spellings
+word_named text = option_map (λ s. s.1) (find (λ s. bytes_eq text s.0) spellings)
 
 -- whether it spells one
 abbrev pub is_reserved : List ℕ → Bool

@@ -1,66 +1,14 @@
--- Which rows of a transaction others have installed since its begin.
-use Rattle.std.proofs.Common.{◌≡◌, ℕ, refl, sym, ap, subst, ◌∙◌, List, [], ◌∷◌, ◌++◌, Option, Some, None, IsSome, append_assoc, length, length-append, arith, MatchOption, unwrap_or}
-use Rattle.lab_engine.proofs.Common.{none_some, same_Some, Row, Past, Txn, active, version_by, writers, commits, MayCommit, Conflicts, chain, first_since, chain_in, Describes, IsRunning, running_of}
-use Rattle.lab_engine.specs.declared.asker.Asker.{Asker}
+-- What the first row that was taken says of a commit at snapshot.
+use Rattle.std.proofs.Common.{refl, Option, Some, None, MatchOption}
+use Rattle.lab_engine.proofs.Common.{Table, Past, Txn, MayCommit}
 use Rattle.lab_engine.specs.declared.event.Level.TheVariants.{Snapshot}
 use Rattle.lab_engine.specs.declared.rules.Conflict.{Conflict}
-use Rattle.lab_engine.specs.Asker.{IsAsker}
-use Rattle.lab_engine.specs.Sight.{IsFirstConflict}
-use Rattle.lab_versions.specs.Conflict.{IsLeastTaken}
-use Rattle.lab_engine.proofs.InstalledChains.{SinceThen, since_begin, last_no}
+use Rattle.lab_engine.specs.Rules.{IsFirstConflict}
+use Rattle.lab_engine.specs.Taken.{IsFirstTaken}
+use Rattle.lab_engine.proofs.TakenRows.{first_by_write}
 
--- ---- who has installed a row since a begin
-
-none_newer : (newer : List Txn) → last_no newer ≡ None → newer ≡ []
-none_newer [] h = refl
-none_newer (t ∷ ts) h = none_some _ (sym h)
-
--- the last of a list, which has this number, and those before it
-last_of : (newer : List Txn) (by : ℕ) → last_no newer ≡ Some by → (first : Txn) × (more : List Txn) × (first.no ≡ by) × (newer ≡ more ++ first ∷ [])
-last_of [] by h = none_some _ h
-last_of (t ∷ ts) by h = at (last_no ts) refl (λ n is. last_of ts n is) (same_Some (unwrap_or (last_no ts) t.no) by h) where
-  at : (o : Option ℕ) → last_no ts ≡ o → ((n : ℕ) → last_no ts ≡ Some n → (first : Txn) × (more : List Txn) × (first.no ≡ n) × (ts ≡ more ++ first ∷ [])) → unwrap_or (last_no ts) t.no ≡ by
-      → (first : Txn) × (more : List Txn) × (first.no ≡ by) × (t ∷ ts ≡ more ++ first ∷ [])
-  at None is behind same = (t, [], sym (ap (λ o. unwrap_or o t.no) is) ∙ same, ap (λ (l : List Txn). t ∷ l) (none_newer ts is))
-  at (Some n) is behind same =
-      let b = behind n is in
-      (b.0, t ∷ b.1, b.2 ∙ sym (ap (λ o. unwrap_or o t.no) is) ∙ same, ap (λ (l : List Txn). t ∷ l) b.3)
-
-module _ (past : Past) (txn : Txn) (row : Row) (s : SinceThen row past txn.before) where
-  -- nobody has
-  untaken : first_since (length txn.before) (chain past row) ≡ None → writers row (commits past) ≡ writers row (commits txn.before)
-  untaken none = s.writers_are ∙ ap (λ (l : List Txn). l ++ writers row (commits txn.before)) (none_newer s.newer (sym s.first_is ∙ none))
-
-  -- this one was the first
-  conflicts : (by : ℕ) → IsSome (version_by txn row) → first_since (length txn.before) (chain past row) ≡ Some by → Conflicts past txn row by
-  conflicts by wrote some =
-      let l = last_of s.newer by (sym s.first_is ∙ some) in
-      (wrote, l.0, l.1, l.2, s.writers_are ∙ ap (λ (k : List Txn). k ++ writers row (commits txn.before)) l.3 ∙ append_assoc l.1 (l.0 ∷ []) (writers row (commits txn.before)))
-
-  no_conflict : (number : ℕ) → first_since (length txn.before) (chain past row) ≡ None → ¬ Conflicts past txn row number
-  no_conflict number none (wrote, first, newer, number_is, is) =
-      let longer : length (writers row (commits txn.before)) ≡ length (newer ++ first ∷ writers row (commits txn.before)) = ap length (sym (untaken none) ∙ is) in
-      absurd (omega (arith, longer, length-append newer (first ∷ writers row (commits txn.before))))
-
--- ---- what the rules ask
-
--- what is found among the rows that an active transaction wrote answers whether it may commit
-pub found_answers : (past : Past) (txn : Txn) (asker : Asker) (found : Option Conflict) → IsAsker Snapshot past txn asker
-    → IsLeastTaken (λ row. first_since asker.running.now.before (chain_in asker.situation.now.rows row)) asker.running.now.written.items found
-    → MatchOption found (MayCommit Snapshot past txn) (IsFirstConflict Snapshot past txn)
-found_answers past txn asker found asks least = at found least
-  where
-    taken_is : (row : Row) → first_since asker.running.now.before (chain_in asker.situation.now.rows row) ≡ first_since (length txn.before) (chain past row)
-    taken_is row = ap (λ n. first_since n (chain_in asker.situation.now.rows row)) asks.running.before ∙ ap (first_since (length txn.before)) (asks.situation.rows.chains row)
-
-    since : (row : Row) → SinceThen row past txn.before
-    since row = since_begin past asker.session txn row asks.active
-
-    at : (found : Option Conflict) → IsLeastTaken (λ row. first_since asker.running.now.before (chain_in asker.situation.now.rows row)) asker.running.now.written.items found
-        → MatchOption found (MayCommit Snapshot past txn) (IsFirstConflict Snapshot past txn)
-    at None l = λ row wrote. untaken past txn row (since row) (sym (taken_is row) ∙ l row (asks.running.written row ∙ wrote))
-    at (Some conflict) l = (
-      refl,
-      conflicts past txn conflict.row (since conflict.row) conflict.by (sym (asks.running.written conflict.row) ∙ l.0) (sym (taken_is conflict.row) ∙ l.1),
-      λ other number below c. no_conflict past txn other (since other) number (sym (taken_is other) ∙ l.2 other below (asks.running.written other ∙ c.0)) c,
-    )
+-- a transaction may commit, or it is its first conflict
+pub taken_answers : (setup : Table) (past : Past) (txn : Txn) (found : Option Conflict) → IsFirstTaken past txn found
+    → MatchOption found (MayCommit Snapshot setup past txn) (λ c. IsFirstConflict Snapshot setup past txn c.kind c.row c.by)
+taken_answers setup past txn None first = (first, tt)
+taken_answers setup past txn (Some c) taken = first_by_write Snapshot setup past txn c refl taken (λ _ _ _ clash. clash)

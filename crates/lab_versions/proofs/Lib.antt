@@ -1,2 +1,1 @@
-mod LeastTaken
 mod Conflicts

@@ -9,7 +9,6 @@
 #![tactic(auto)]
 
 mod committed;
-mod conflict;
 mod snapshot;
 
 pub use committed::CommittedEngine;

@@ -2,7 +2,6 @@
 
 ghost use Rattle.lab_engine.specs.declared.event.Level.TheVariants.{Snapshot};
 
-use crate::conflict::first_conflict;
 use lab_engine::{Asker, Conflict, Journal, Level, Rules, SessionSet};
 use lab_table::Statement;
 
@@ -25,16 +24,16 @@ impl Rules for SnapshotRules {
         false
     }
 
+    fn keeps_commits(&self) -> bool {
+        false
+    }
+
     fn blockers(&self, asker: &Asker, statement: &Statement) -> SessionSet {
         SessionSet::none()
     }
 
     fn conflict(&self, asker: &Asker) -> Option<Conflict> {
-        first_conflict(
-            &asker.running.written,
-            &asker.situation.rows,
-            asker.running.before,
-        )
+        asker.first_taken()
     }
 }
 

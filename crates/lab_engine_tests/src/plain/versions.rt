@@ -2,7 +2,8 @@
 
 use crate::plain::PlainEngine;
 use crate::plain::transactions::{Txn, committed_by};
-use lab_engine::{Level, LogEvent, Outcome};
+use crate::plain::waits::was_matched;
+use lab_engine::{LogEvent, Outcome};
 use lab_history::{State, VersionName};
 use lab_table::{RowName, Table, TxnNo, Value};
 
@@ -57,17 +58,45 @@ pub fn committed(setup: &Table, log: &[LogEvent], row: RowName) -> Version {
     }
 }
 
+/// The transaction that an event after these commits, if it commits one that wrote a row, with the row's state then.
+fn installed_by(past: &[LogEvent], event: &LogEvent, row: RowName) -> Option<(TxnNo, State)> {
+    if let Some(other) = committed_by(past, event) {
+        if let Some(version) = last_written(&other, row) {
+            return Some((other.number, version.state));
+        }
+    }
+    None
+}
+
 impl PlainEngine {
-    /// The version of a row that a transaction sees: its own last one, else the one committed by now, or at snapshot at
-    /// its begin.
+    /// The version of a row that a transaction sees: its own last one, else the one committed by now, or at its begin.
     pub fn seen(&self, txn: &Txn<'_>, row: RowName) -> Version {
         if let Some(own) = last_written(txn, row) {
             return own;
         }
-        match self.level {
-            Level::Locking | Level::Committed => committed(&self.setup, &self.log, row),
-            Level::Snapshot => committed(&self.setup, txn.before, row),
+        if self.sees_begin() {
+            committed(&self.setup, txn.before, row)
+        } else {
+            committed(&self.setup, &self.log, row)
         }
+    }
+
+    /// The first transaction to install a row, since the begin of one that has run a statement that matches the row as it
+    /// was before that, or as it was then.
+    pub fn changed_by(&self, txn: &Txn<'_>, row: RowName) -> Option<TxnNo> {
+        for (place, event) in self.log.iter().enumerate() {
+            if place < txn.before.len() {
+                continue;
+            }
+            let past = &self.log[..place];
+            if let Some((number, state)) = installed_by(past, event, row) {
+                let before = committed(&self.setup, past, row).state;
+                if was_matched(txn, row, &before) || was_matched(txn, row, &state) {
+                    return Some(number);
+                }
+            }
+        }
+        None
     }
 
     /// The first transaction to install a row since the begin of one that wrote it.

@@ -10,7 +10,7 @@ use lab_table::{Command, RowName, Session, Statement};
 use std::alloc::Global;
 
 /// Whether a transaction has run a statement that a row in this state matches.
-fn was_matched(txn: &Txn<'_>, row: RowName, state: &State) -> bool {
+pub fn was_matched(txn: &Txn<'_>, row: RowName, state: &State) -> bool {
     for event in txn.since {
         if event.session == txn.session && is_operation(&event.outcome) {
             if let Command::Run(ran) = &event.command {
@@ -65,7 +65,7 @@ impl PlainEngine {
                     || has_read(statement, other, found)
             }
             Level::Committed => holds_write(statement, other, found),
-            Level::Snapshot => false,
+            Level::Snapshot | Level::Optimistic => false,
         }
     }
 

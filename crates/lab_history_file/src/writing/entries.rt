@@ -5,8 +5,8 @@ ghost use Rattle.std.specs.List.{list_all};
 ghost use Rattle.std.specs.FinMap as finite;
 ghost use Rattle.serde_json.specs.View.{view};
 ghost use Rattle.lab_history.specs.HistoryRules.{is_listed, has_installer};
-ghost use Rattle.lab_history_file.specs.Entries.{value_in, written_in, txn_in_number};
-ghost use Rattle.lab_history_file.specs.FileOf.{IsMapOf, IsPair, IsVersion, IsInstalled};
+ghost use Rattle.lab_history_file.specs.Entries.{txn_in_number};
+ghost use Rattle.lab_history_file.specs.FileOf.{IsMapOf, IsPair, IsValue, IsState, IsVersion, IsInstalled};
 ghost use Rattle.lab_history_file.specs.Tree.{natural_tree, value_tree, written_tree, pair_tree, list_tree, map_tree, view_tree, version_tree};
 ghost use Rattle.lab_history_file.specs.declared.file_version.FileVersion.TheVariants.{Two};
 
@@ -24,7 +24,7 @@ impl<P: Part> ToJson for (RowName, P) {
 
     ghost tree = { pair_tree P.part_tree };
 
-    ghost Is = { IsPair Two P.part_in };
+    ghost Is = { IsPair Two (λ d x. P.part_in d ≡ Some x) };
 
     fn to_json(&self, alloc: Global) -> Result<Json, NoMemory> {
         let (table, id) = key_json(alloc, self.0)?;
@@ -83,7 +83,7 @@ impl ToJson for (RowName, Installers) {
 /// The rows of a table.
 pub fn table_json(alloc: Global, table: &Table) -> Result<Json, NoMemory>
     ensures value { IfOk result (λ v. view v ≡ map_tree value_tree table.now) }
-    ensures file { OnOk result (IsMapOf (IsPair Two value_in) (map_tree value_tree table.now) table.now) }
+    ensures file { OnOk result (IsMapOf (IsPair Two IsValue) (map_tree value_tree table.now) table.now) }
 {
     list_json(alloc, table.rows())
 }
@@ -92,7 +92,7 @@ pub fn table_json(alloc: Global, table: &Table) -> Result<Json, NoMemory>
 #[tactic(auto, using(crate::proofs::PlainWrites::write_trees))]
 pub fn writes_json(alloc: Global, writes: &Writes) -> Result<Json, NoMemory>
     ensures value { IfOk result (λ v. view v ≡ map_tree written_tree writes.now) }
-    ensures file { OnOk result (IsMapOf (IsPair Two written_in) (map_tree written_tree writes.now) writes.now) }
+    ensures file { OnOk result (IsMapOf (IsPair Two IsState) (map_tree written_tree writes.now) writes.now) }
 {
     list_json(alloc, writes.entries())
 }

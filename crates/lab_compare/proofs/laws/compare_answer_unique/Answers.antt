@@ -3,6 +3,6 @@ use Rattle.lab_compare.proofs.laws.compare_answer_unique.Goals as goal
 
 pub returns : goal.returns
 returns c = record {
-  text = λ engines input one other first again a b. (one_answer engines input one other first again a b).0;
-  ending = λ engines input one other first again a b. (one_answer engines input one other first again a b).1;
+  text = λ levels input one other first again a b. (one_answer levels input one other first again a b).0;
+  ending = λ levels input one other first again a b. (one_answer levels input one other first again a b).1;
 }

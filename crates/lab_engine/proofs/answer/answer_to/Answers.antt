@@ -1,5 +1,4 @@
-use Rattle.std.proofs.Common.{refl, sym, ap, subst, IfOk}
-use Rattle.lab_engine.proofs.Common.{Answers, AreWaits, MayAsk, Run, Situation, asked}
+use Rattle.lab_engine.proofs.Common.{Answers, ap, AreWaits, asked, conflict_fault, IfOk, MayAsk, MayCommit, refl, Refused, Run, Situation, subst, sym}
 use Rattle.lab_engine.proofs.Describing.{running_txn, running_none}
 use Rattle.lab_engine.proofs.Answering.{gives, may_ask, conflict_none, conflict_some, ran}
 use Rattle.lab_engine.proofs.answer.answer_to.Goals as goal
@@ -20,7 +19,7 @@ returns-in-None-clause-answer g c past d may h = let t = running_txn past c.args
   (
     t.0,
     gives _ _ _ _ t.0 c.in-Commit.is refl may t.1,
-    conflict_none _ _ t.0 _ c.in-None.is (c.conflict.ensures past t.0 (c.of-asker.ensures.is past t.0 d t.1 t.2)),
+    subst (λ table. MayCommit g.R.Rules.kind table past t.0) c.of-asker.ensures.setup (conflict_none _ _ past t.0 _ c.in-None.is (c.conflict.ensures past t.0 (c.of-asker.ensures.is past t.0 d t.1 t.2))),
   ),
   (λ eq. cc),
   λ s run circle eq. cc,
@@ -28,8 +27,12 @@ returns-in-None-clause-answer g c past d may h = let t = running_txn past c.args
 
 pub returns-in-Some-conflict-clause-answer : goal.returns-in-Some-conflict-clause-answer
 returns-in-Some-conflict-clause-answer g c past d may h = let t = running_txn past c.args.situation.now d c.args.session c.in-Some.running.now (sym c.in-Some.ensures) in
-    let p = conflict_some _ _ t.0 _ c.in-Some-conflict.conflict c.in-Some-conflict.is (c.conflict.ensures past t.0 (c.of-asker.ensures.is past t.0 d t.1 t.2)) in
-    ((t.0, gives _ _ _ _ t.0 c.in-Commit.is refl may t.1, p.0, p.1, p.2), (λ eq. cc), λ s run circle eq. cc)
+    let asker = c.of-asker.result in
+    subst (λ fault. Answers g.R.Rules.kind c.args.setup.now past c.args.session c.args.command.now (Refused fault)) (sym c.fault_of.ensures)
+    (subst (λ table. Answers g.R.Rules.kind table past c.args.session c.args.command.now (Refused (conflict_fault c.in-Some-conflict.conflict.kind c.in-Some-conflict.conflict.row c.in-Some-conflict.conflict.by)))
+    c.of-asker.ensures.setup
+    (conflict_some _ asker.setup.now past t.0 _ c.args.session _ c.in-Some-conflict.conflict c.in-Some-conflict.is (c.conflict.ensures past t.0 (c.of-asker.ensures.is past t.0 d t.1 t.2))
+    (gives _ _ _ _ t.0 c.in-Commit.is refl may t.1)))
 
 pub returns-in-Run-clause-answer : goal.returns-in-Run-clause-answer
 returns-in-Run-clause-answer g c past d may h = let t = running_txn past c.args.situation.now d c.args.session c.in-Some.running.now (sym c.in-Some.ensures) in

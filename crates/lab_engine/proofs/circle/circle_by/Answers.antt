@@ -1,5 +1,4 @@
-use Rattle.std.proofs.Common.{◌≡◌, ℕ, List, ◌-◌, ◌+◌, ◌<◌, ◌&&◌, get_or, length, refl, ap, sym, subst, ◌∙◌, arith}
-use Rattle.lab_engine.proofs.Common.{get_or_default_zero, has}
+use Rattle.lab_engine.proofs.Common.{ap, arith, get_or, get_or_default_zero, has, length, List, refl, subst, sym, ℕ, ◌&&◌, ◌+◌, ◌-◌, ◌<◌, ◌∙◌, ◌≡◌}
 use Rattle.lab_engine.proofs.WaitLayers.{GoesOn, goes_on_next, some_common}
 use Rattle.lab_engine.proofs.circle.circle_by.Goals as goal
 

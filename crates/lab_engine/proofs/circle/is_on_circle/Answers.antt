@@ -1,5 +1,4 @@
-use Rattle.std.proofs.Common.{refl, sym, ap, subst, not, ◌∙◌, List, ℕ, IsTrue, ◌↔◌}
-use Rattle.lab_engine.proofs.Common.{IsRound, both_ways, eq-eqb, none_of, or_left}
+use Rattle.lab_engine.proofs.Common.{ap, both_ways, eq-eqb, IsRound, IsTrue, List, none_of, not, or_left, refl, subst, sym, ℕ, ◌↔◌, ◌∙◌}
 use Rattle.lab_engine.proofs.Walks.{waited_for}
 use Rattle.lab_engine.proofs.WaitLayers.{found_round, round_found}
 use Rattle.lab_engine.proofs.circle.is_on_circle.Goals as goal

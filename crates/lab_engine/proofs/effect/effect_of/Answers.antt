@@ -1,5 +1,4 @@
-use Rattle.std.proofs.Common.{◌≡◌, false, sym, subst, MatchOption}
-use Rattle.lab_engine.proofs.Common.{AreMatching, IsEffectFault, Row, fails, seen_in}
+use Rattle.lab_engine.proofs.Common.{AreMatching, fails, false, IsEffectFault, MatchOption, Row, seen_in, subst, sym, ◌≡◌}
 use Rattle.lab_engine.proofs.effect.effect_of.Goals as goal
 
 pub returns-in-Some-clause-fault : goal.returns-in-Some-clause-fault

@@ -1,5 +1,4 @@
-use Rattle.std.proofs.Common.{◌≡◌, ◌∙◌, false, sym, subst, MatchOption}
-use Rattle.lab_engine.proofs.Common.{IsEffectFault, Row, fails}
+use Rattle.lab_engine.proofs.Common.{fails, false, IsEffectFault, MatchOption, Row, subst, sym, ◌∙◌, ◌≡◌}
 use Rattle.lab_engine.proofs.FailingRows.{all_run, update_fails, insert_fails}
 use Rattle.lab_engine.proofs.effect.fault_of.Goals as goal
 

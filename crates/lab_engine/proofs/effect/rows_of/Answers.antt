@@ -1,5 +1,4 @@
-use Rattle.std.proofs.Common.{◌∙◌, [], ap, sym}
-use Rattle.lab_engine.proofs.Common.{from_sorted, get, get-from_sorted, row_cmp, insert_is}
+use Rattle.lab_engine.proofs.Common.{ap, from_sorted, get, get-from_sorted, insert_is, row_cmp, sym, [], ◌∙◌}
 use Rattle.lab_engine.proofs.Effects.{lists_matched}
 use Rattle.lab_engine.proofs.effect.rows_of.Goals as goal
 

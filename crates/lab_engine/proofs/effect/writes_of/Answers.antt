@@ -1,5 +1,4 @@
-use Rattle.std.proofs.Common.{◌∙◌, ap}
-use Rattle.lab_engine.proofs.Common.{get, get-from_sorted, row_cmp, new_states}
+use Rattle.lab_engine.proofs.Common.{ap, get, get-from_sorted, new_states, row_cmp, ◌∙◌}
 use Rattle.lab_engine.proofs.effect.writes_of.Goals as goal
 
 pub returns : goal.returns

@@ -1,5 +1,4 @@
-use Rattle.std.proofs.Common.{sym, ◌∙◌}
-use Rattle.lab_engine.proofs.Common.{IfOk-weaker}
+use Rattle.lab_engine.proofs.Common.{IfOk-weaker, sym, ◌∙◌}
 use Rattle.lab_engine.proofs.Effects.{change_sorted, change_found}
 use Rattle.lab_engine.proofs.effect.written_states.Goals as goal
 

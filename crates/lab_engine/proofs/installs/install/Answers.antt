@@ -1,5 +1,4 @@
-use Rattle.std.proofs.Common.{sym, ap, ◌∙◌, ◌++◌, cond, Option, Bor, [], ◌∷◌, is_some, option_map}
-use Rattle.lab_engine.proofs.Common.{GatheredTxn, numbers_of, installs_by}
+use Rattle.lab_engine.proofs.Common.{ap, Bor, cond, GatheredTxn, installs_by, is_some, numbers_of, Option, option_map, sym, [], ◌++◌, ◌∙◌, ◌∷◌}
 use Rattle.lab_engine.proofs.Grouping.{noted}
 use Rattle.lab_engine.proofs.installs.install.Goals as goal
 

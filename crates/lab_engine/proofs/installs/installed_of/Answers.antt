@@ -1,5 +1,4 @@
-use Rattle.std.proofs.Common.{rules, sym, ap, subst, ◌∙◌, []}
-use Rattle.lab_engine.proofs.Common.{get, row_cmp, groups_from, IsSortedByKey, answers_always}
+use Rattle.lab_engine.proofs.Common.{answers_always, ap, get, groups_from, IsSortedByKey, row_cmp, rules, subst, sym, [], ◌∙◌}
 use Rattle.lab_history.specs.Installed.{Installed}
 use Rattle.lab_engine.proofs.Grouping.{groups_sorted, groups_found}
 use Rattle.lab_engine.proofs.installs.installed_of.Goals as goal

@@ -1,5 +1,4 @@
-use Rattle.std.proofs.Common.{ap, ◌∙◌}
-use Rattle.lab_engine.proofs.Common.{get, get-empty, row_cmp}
+use Rattle.lab_engine.proofs.Common.{ap, get, get-empty, row_cmp, ◌∙◌}
 use Rattle.lab_engine.specs.Sight.{Listed}
 use Rattle.lab_engine.proofs.installs.last_versions.Goals as goal
 

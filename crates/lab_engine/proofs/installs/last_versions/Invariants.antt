@@ -1,5 +1,4 @@
-use Rattle.std.proofs.Common.{◌≡◌, reverse, take}
-use Rattle.lab_engine.proofs.Common.{get, Row, last_version}
+use Rattle.lab_engine.proofs.Common.{get, last_version, reverse, Row, take, ◌≡◌}
 use Rattle.lab_engine.proofs.installs.last_versions.Given as goal
 
 -- what the operations so far wrote

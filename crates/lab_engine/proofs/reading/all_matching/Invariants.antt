@@ -1,6 +1,4 @@
-use Rattle.std.proofs.Common.{◌≡◌, ◌++◌}
-use Rattle.lab_engine.proofs.Common.{each_row, entries, laid_over, matching_entries, seen_of}
-use Rattle.lab_engine.specs.KeptRows.{entries_in}
+use Rattle.lab_engine.proofs.Common.{each_row, entries, entries_in, laid_over, matching_entries, seen_of, ◌++◌, ◌≡◌}
 use Rattle.lab_engine.proofs.reading.all_matching.Given as goal
 
 -- the rows so far and those that match of what is left of both lists are those of the whole

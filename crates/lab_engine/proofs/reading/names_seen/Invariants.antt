@@ -1,5 +1,4 @@
-use Rattle.std.proofs.Common.{◌≡◌, ◌≤◌, ◌+◌, ◌++◌, length, vec_capacity}
-use Rattle.lab_engine.proofs.Common.{each_row, name_over, seen_of}
+use Rattle.lab_engine.proofs.Common.{each_row, length, name_over, seen_of, vec_capacity, ◌++◌, ◌+◌, ◌≡◌, ◌≤◌}
 use Rattle.lab_engine.proofs.reading.names_seen.Given as goal
 
 -- there is room for the rows that are left, and the names so far and theirs are those of all

@@ -1,5 +1,4 @@
-use Rattle.std.proofs.Common.{◌≡◌, ◌∙◌, [], true, ap, subst, IfSome}
-use Rattle.lab_engine.proofs.Common.{IfOk-weaker, Row, cons_option, may_match, seen_in, with_row}
+use Rattle.lab_engine.proofs.Common.{ap, cons_option, IfOk-weaker, IfSome, may_match, Row, seen_in, subst, true, with_row, [], ◌∙◌, ◌≡◌}
 use Rattle.lab_table.specs.Statement.{matched}
 use Rattle.lab_engine.proofs.Overlaid.{named_matching}
 use Rattle.lab_engine.proofs.reading.rows_matching.Goals as goal

@@ -1,5 +1,4 @@
-use Rattle.std.proofs.Common.{◌≡◌, length, reverse}
-use Rattle.lab_engine.proofs.Common.{option_or, first_since}
+use Rattle.lab_engine.proofs.Common.{first_since, length, option_or, reverse, ◌≡◌}
 use Rattle.lab_engine.proofs.row_state.first_from.Given as goal
 
 -- what is left, else what was found so far, answers as all

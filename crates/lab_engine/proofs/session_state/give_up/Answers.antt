@@ -1,5 +1,4 @@
-use Rattle.std.proofs.Common.{◌==◌, ◌&&◌, cond, None, ap, subst, ◌∙◌}
-use Rattle.lab_engine.proofs.Common.{list_any, row_eq, pending_in, Agree}
+use Rattle.lab_engine.proofs.Common.{Agree, ap, cond, list_any, None, pending_in, row_eq, subst, ◌&&◌, ◌==◌, ◌∙◌}
 use Rattle.lab_engine.proofs.SessionStates.{all_settled, none_settled}
 use Rattle.lab_engine.proofs.session_state.give_up.Goals as goal
 

@@ -1,5 +1,4 @@
-use Rattle.std.proofs.Common.{◌==◌, ◌&&◌, cond, None, ap, subst, ◌∙◌}
-use Rattle.lab_engine.proofs.Common.{list_any, row_eq, longer, chain_in, pending_in, Agree}
+use Rattle.lab_engine.proofs.Common.{Agree, ap, chain_in, cond, list_any, longer, None, pending_in, row_eq, subst, ◌&&◌, ◌==◌, ◌∙◌}
 use Rattle.lab_engine.proofs.SessionStates.{all_settled, none_settled, installs_all, installs_none}
 use Rattle.lab_engine.proofs.session_state.install.Goals as goal
 

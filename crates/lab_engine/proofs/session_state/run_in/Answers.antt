@@ -1,5 +1,4 @@
-use Rattle.std.proofs.Common.{Some, None, cond, sym, ap, subst, ◌∙◌}
-use Rattle.lab_engine.proofs.Common.{Agree, Command, Listed, active_after, asked, keeps_statements, pending_in}
+use Rattle.lab_engine.proofs.Common.{active_after, Agree, ap, asked, Command, cond, keeps_statements, Listed, None, pending_in, Some, subst, sym, ◌∙◌}
 use Rattle.lab_engine.proofs.SessionStates.{runs_agree}
 use Rattle.lab_engine.proofs.session_state.run_in.Goals as goal
 

@@ -1,6 +1,6 @@
 use Rattle.std.proofs.Common.{refl, sym, subst, ap, is_some, ◌∙◌}
 use Rattle.lab_engine.specs.Situation.{DescribesSession, HasRoom, HoldsOutcome}
-use Rattle.lab_engine.proofs.States.{room_at, sessions_stay, states_go_on, running_there}
+use Rattle.lab_engine.proofs.States.{described_there, own_there, room_at, sessions_stay, states_go_on, running_there}
 use Rattle.lab_engine.proofs.situation.advance_session.Goals as goal
 
 pub take_in-requires-clause-few : goal.take_in-requires-clause-few
@@ -25,3 +25,12 @@ returns-clause-goes_on c = λ level past kept at all rows.
     states_go_on c.args.states.now c.args.event.now.session c.place.result c.index-states-place.result c.requires.sessions c.place.ensures.low c.place.ensures.high c.place.ensures.value c.index-states-place.is
     level past c.args.event.now c.take_in.new.self refl all
     (λ d own. c.take_in.ensures.goes_on level past kept (own ∙ ap (λ s. s.session) c.index-states-place.is) at (subst (λ s. DescribesSession level past s) c.index-states-place.is d, rows))
+
+pub returns-clause-installed : goal.returns-clause-installed
+returns-clause-installed c = λ level past all.
+    c.take_in.ensures.installed level past
+    (own_there c.args.states.now c.args.event.now.session c.place.result c.index-states-place.result c.requires.sessions c.place.ensures.low c.place.ensures.high c.place.ensures.value c.index-states-place.is
+    c.args.event.now.session refl ∙ ap (λ s. s.session) c.index-states-place.is)
+    (subst (λ s. DescribesSession level past s) c.index-states-place.is
+    (described_there c.args.states.now c.args.event.now.session c.place.result c.index-states-place.result c.requires.sessions c.place.ensures.low c.place.ensures.high c.place.ensures.value c.index-states-place.is
+    level past all))

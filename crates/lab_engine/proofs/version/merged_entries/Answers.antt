@@ -1,5 +1,4 @@
-use Rattle.std.proofs.Common.{arith, ◌≡◌, ◌∙◌, ◌∷◌, ◌++◌, ◌+◌, [], take, drop, ap, sym}
-use Rattle.lab_engine.proofs.Common.{drop_more, merged, without_row}
+use Rattle.lab_engine.proofs.Common.{ap, arith, drop, drop_more, merged, sym, take, without_row, [], ◌++◌, ◌+◌, ◌∙◌, ◌∷◌, ◌≡◌}
 use Rattle.lab_engine.proofs.Merging.{merge_step}
 use Rattle.lab_engine.proofs.version.merged_entries.Goals as goal
 

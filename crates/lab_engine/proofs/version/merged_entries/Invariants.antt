@@ -1,5 +1,4 @@
-use Rattle.std.proofs.Common.{◌≡◌, ◌++◌, drop}
-use Rattle.lab_engine.proofs.Common.{merged}
+use Rattle.lab_engine.proofs.Common.{drop, merged, ◌++◌, ◌≡◌}
 use Rattle.lab_engine.proofs.version.merged_entries.Given as goal
 
 -- the entries so far and what is left to merge make the whole

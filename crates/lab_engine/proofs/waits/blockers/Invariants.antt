@@ -1,5 +1,4 @@
-use Rattle.std.proofs.Common.{◌≡◌, take, filter}
-use Rattle.lab_engine.proofs.Common.{has}
+use Rattle.lab_engine.proofs.Common.{filter, has, take, ◌≡◌}
 use Rattle.lab_engine.proofs.Rising.{sessions_of}
 use Rattle.lab_engine.proofs.waits.blockers.Given as goal
 

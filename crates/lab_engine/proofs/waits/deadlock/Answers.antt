@@ -1,5 +1,4 @@
-use Rattle.std.proofs.Common.{◌==◌, ap, sym, subst, ◌∙◌}
-use Rattle.lab_engine.proofs.Common.{AreWaits, list_any}
+use Rattle.lab_engine.proofs.Common.{ap, AreWaits, list_any, subst, sym, ◌==◌, ◌∙◌}
 use Rattle.lab_engine.proofs.Circles.{deadlock_is}
 use Rattle.lab_engine.proofs.Waiting.{waits_with}
 use Rattle.lab_engine.proofs.waits.deadlock.Goals as goal

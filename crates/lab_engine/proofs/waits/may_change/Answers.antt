@@ -1,5 +1,4 @@
-use Rattle.std.proofs.Common.{sym, ap, subst, inl, inr, ◌∙◌, ◌⊎◌}
-use Rattle.lab_engine.proofs.Common.{WaitsOn, both_ways, is_over}
+use Rattle.lab_engine.proofs.Common.{ap, both_ways, inl, inr, is_over, subst, sym, WaitsOn, ◌∙◌, ◌⊎◌}
 use Rattle.lab_engine.proofs.AfterReads.{Unasked}
 use Rattle.lab_engine.proofs.WaitsAfter.{LeavesWaiter, leaves_waiter, same_waits}
 use Rattle.lab_engine.proofs.waits.may_change.Goals as goal

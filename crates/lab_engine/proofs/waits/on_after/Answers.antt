@@ -1,5 +1,4 @@
-use Rattle.std.proofs.Common.{sym, ◌∙◌}
-use Rattle.lab_engine.proofs.Common.{eqb-false}
+use Rattle.lab_engine.proofs.Common.{eqb-false, sym, ◌∙◌}
 use Rattle.lab_engine.proofs.waits.on_after.Goals as goal
 
 pub returns : goal.returns

@@ -1,5 +1,4 @@
-use Rattle.std.proofs.Common.{ℕ, take, IsTrue, ◌==◌}
-use Rattle.lab_engine.proofs.Common.{list_any, Level, Table, Past, Describes, AreWaits, IsRetryable}
+use Rattle.lab_engine.proofs.Common.{AreWaits, Describes, IsRetryable, IsTrue, Level, list_any, Past, Table, take, ℕ, ◌==◌}
 use Rattle.lab_engine.proofs.waits.retryable.Given as goal
 
 -- none of the sessions so far is retryable

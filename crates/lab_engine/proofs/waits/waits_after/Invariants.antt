@@ -1,5 +1,4 @@
-use Rattle.std.proofs.Common.{take, ◌∷◌}
-use Rattle.lab_engine.proofs.Common.{Past, Describes, IsLegal, AreWaits}
+use Rattle.lab_engine.proofs.Common.{AreWaits, Describes, IsLegal, Past, take, ◌∷◌}
 use Rattle.lab_engine.proofs.Waiting.{AreWaitsOf}
 use Rattle.lab_engine.proofs.waits.waits_after.Given as goal
 

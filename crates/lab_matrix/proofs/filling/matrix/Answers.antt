@@ -11,6 +11,11 @@ returns-clause-cells c =
 pub returns-clause-promised : goal.returns-clause-promised
 returns-clause-promised c = promises_kept _ (returns-clause-cells c)
 
+pub returns-in_err-row_of_case-clause-fault : goal.returns-in_err-row_of_case-clause-fault
+returns-in_err-row_of_case-clause-fault c =
+    let p = err_from_is_err_and c.from_residual.result c.from_residual.ensures.1 in
+    rw (p.1, p.2) (first_of_all name.G0 _ before_first c.in_err-row_of_case.ensures.fault)
+
 pub returns-in_err-row_of_case-2-clause-fault : goal.returns-in_err-row_of_case-2-clause-fault
 returns-in_err-row_of_case-2-clause-fault c =
     let p = err_from_is_err_and c.from_residual-in_err-row_of_case-2.result c.from_residual-in_err-row_of_case-2.ensures.1 in

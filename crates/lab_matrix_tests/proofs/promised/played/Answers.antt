@@ -5,8 +5,11 @@ use Rattle.lab_matrix_tests.proofs.promised.played.Goals as goal
 pub play_free-requires-send-E : goal.play_free-requires-send-E
 play_free-requires-send-E c κs = search (sendable, journal)
 
-pub play_free-requires-in-Committed-send-E : goal.play_free-requires-in-Committed-send-E
-play_free-requires-in-Committed-send-E c κs = search (sendable, journal)
+pub play_free-requires-2-send-E : goal.play_free-requires-2-send-E
+play_free-requires-2-send-E c κs = search (sendable, journal)
 
-pub play_free-requires-in-Snapshot-send-E : goal.play_free-requires-in-Snapshot-send-E
-play_free-requires-in-Snapshot-send-E c κs = search (sendable, journal)
+pub play_free-requires-3-send-E : goal.play_free-requires-3-send-E
+play_free-requires-3-send-E c κs = search (sendable, journal)
+
+pub play_free-requires-4-send-E : goal.play_free-requires-4-send-E
+play_free-requires-4-send-E c κs = search (sendable, journal)

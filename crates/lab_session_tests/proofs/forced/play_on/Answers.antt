@@ -6,8 +6,11 @@ use Rattle.lab_session_tests.proofs.forced.play_on.Goals as goal
 pub play_instrumented-requires-send-E : goal.play_instrumented-requires-send-E
 play_instrumented-requires-send-E g c κs = search (sendable, journal)
 
-pub play_instrumented-requires-in-Committed-send-E : goal.play_instrumented-requires-in-Committed-send-E
-play_instrumented-requires-in-Committed-send-E g c κs = search (sendable, journal)
+pub play_instrumented-requires-2-send-E : goal.play_instrumented-requires-2-send-E
+play_instrumented-requires-2-send-E g c κs = search (sendable, journal)
 
-pub play_instrumented-requires-in-Snapshot-send-E : goal.play_instrumented-requires-in-Snapshot-send-E
-play_instrumented-requires-in-Snapshot-send-E g c κs = search (sendable, journal)
+pub play_instrumented-requires-3-send-E : goal.play_instrumented-requires-3-send-E
+play_instrumented-requires-3-send-E g c κs = search (sendable, journal)
+
+pub play_instrumented-requires-4-send-E : goal.play_instrumented-requires-4-send-E
+play_instrumented-requires-4-send-E g c κs = search (sendable, journal)

@@ -1,5 +1,4 @@
-use Rattle.std.proofs.Common.{rules}
-use Rattle.lab_engine.proofs.Common.{HoldsWrite, list_any, seen_in, would_write}
+use Rattle.lab_engine.proofs.Common.{HoldsWrite, list_any, rules, seen_in, would_write}
 use Rattle.lab_engine.proofs.Choosing.{others_are}
 use Rattle.lab_engine.proofs.OtherWriters.{written_holds}
 use Rattle.lab_engine.proofs.SeenRows.{writes_is}

@@ -1,5 +1,4 @@
-use Rattle.std.proofs.Common.{◌≡◌, ◌||◌, ℕ, Bool, drop}
-use Rattle.lab_engine.proofs.Common.{RunningTxn, has}
+use Rattle.lab_engine.proofs.Common.{Bool, drop, has, RunningTxn, ℕ, ◌||◌, ◌≡◌}
 use Rattle.lab_engine.specs.Chosen.{is_chosen}
 use Rattle.lab_engine.proofs.asker.Asker.others_that.Given as goal
 

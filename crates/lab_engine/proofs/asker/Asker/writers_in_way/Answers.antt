@@ -1,5 +1,4 @@
-use Rattle.std.proofs.Common.{◌≡◌, ◌∙◌, sym, false, IsTrue, IsSome}
-use Rattle.lab_engine.proofs.Common.{both_ways, would_write, seen, version_by, HoldsWrite}
+use Rattle.lab_engine.proofs.Common.{both_ways, false, HoldsWrite, IsSome, IsTrue, seen, sym, version_by, would_write, ◌∙◌, ◌≡◌}
 use Rattle.lab_engine.proofs.Choosing.{others_same}
 use Rattle.lab_engine.proofs.OtherWriters.{unwritten_free, named_holds}
 use Rattle.lab_engine.proofs.SeenRows.{writes_is}

@@ -1,5 +1,4 @@
-use Rattle.std.proofs.Common.{take}
-use Rattle.lab_engine.proofs.Common.{past_of, Gathers}
+use Rattle.lab_engine.proofs.Common.{Gathers, past_of, take}
 use Rattle.lab_engine.proofs.gathering.Gathering.of.Given as goal
 
 -- what the events so far tell

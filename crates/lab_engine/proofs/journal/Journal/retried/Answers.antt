@@ -1,5 +1,4 @@
-use Rattle.std.proofs.Common.{◌≡◌, Some, inr, ap, subst, ◌∙◌}
-use Rattle.lab_engine.proofs.Common.{Command, EngineRun, NamesLeastOfWaiting, Permitted, Run, past_of, waiting}
+use Rattle.lab_engine.proofs.Common.{ap, Command, EngineRun, inr, NamesLeastOfWaiting, past_of, Permitted, Run, Some, subst, waiting, ◌∙◌, ◌≡◌}
 use Rattle.lab_engine.proofs.journal.Journal.retried.Goals as goal
 
 pub returns-clause-of : goal.returns-clause-of

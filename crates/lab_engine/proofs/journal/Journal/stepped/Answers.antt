@@ -1,5 +1,4 @@
-use Rattle.std.proofs.Common.{sym, subst}
-use Rattle.lab_engine.proofs.Common.{Command, EngineRun, NamesLeastOf, Permitted, past_of}
+use Rattle.lab_engine.proofs.Common.{Command, EngineRun, NamesLeastOf, past_of, Permitted, subst, sym}
 use Rattle.lab_engine.proofs.journal.Journal.stepped.Goals as goal
 
 pub returns-clause-permitted : goal.returns-clause-permitted

@@ -1,5 +1,4 @@
-use Rattle.std.proofs.Common.{◌∷◌, ◌++◌, [], ap, subst, ◌∙◌}
-use Rattle.lab_engine.proofs.Common.{LogEvent, Permitted, on_ok_weaker, past_of}
+use Rattle.lab_engine.proofs.Common.{ap, LogEvent, on_ok_weaker, past_of, Permitted, subst, [], ◌++◌, ◌∙◌, ◌∷◌}
 use Rattle.lab_engine.proofs.journal.JournalEngine.log_retry.Goals as goal
 
 pub returns-clause-ok : goal.returns-clause-ok

@@ -1,5 +1,4 @@
-use Rattle.std.proofs.Common.{◌∷◌, ◌++◌, [], sym, ap, subst, ◌∙◌}
-use Rattle.lab_engine.proofs.Common.{IsRetry, LogEvent, NamesLeastOfWaiting, Outcome, Permitted, past_of}
+use Rattle.lab_engine.proofs.Common.{ap, IsRetry, LogEvent, NamesLeastOfWaiting, Outcome, past_of, Permitted, subst, sym, [], ◌++◌, ◌∙◌, ◌∷◌}
 use Rattle.lab_engine.proofs.journal.JournalEngine.retry.Goals as goal
 
 pub returns-clause-ok : goal.returns-clause-ok

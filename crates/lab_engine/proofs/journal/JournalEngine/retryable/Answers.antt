@@ -1,5 +1,4 @@
-use Rattle.std.proofs.Common.{subst}
-use Rattle.lab_engine.proofs.Common.{EngineRun, IsRetryChoice, past_of}
+use Rattle.lab_engine.proofs.Common.{EngineRun, IsRetryChoice, past_of, subst}
 use Rattle.lab_engine.proofs.journal.JournalEngine.retryable.Goals as goal
 
 pub returns : goal.returns

@@ -1,5 +1,4 @@
-use Rattle.std.proofs.Common.{◌∷◌, ◌++◌, [], sym, ap, subst, ◌∙◌}
-use Rattle.lab_engine.proofs.Common.{IsStep, LogEvent, NamesLeastOf, Outcome, Permitted, past_of}
+use Rattle.lab_engine.proofs.Common.{ap, IsStep, LogEvent, NamesLeastOf, Outcome, past_of, Permitted, subst, sym, [], ◌++◌, ◌∙◌, ◌∷◌}
 use Rattle.lab_engine.proofs.journal.JournalEngine.step.Goals as goal
 
 pub returns-clause-ok : goal.returns-clause-ok

@@ -1,6 +1,4 @@
-use Rattle.std.proofs.Common.{◌≤◌, ◌+◌, ◌-◌, subst, sym}
-use Rattle.lab_engine.proofs.Common.{length-reverse, IsReady}
-use Rattle.std.specs.Vec.{vec_capacity}
+use Rattle.lab_engine.proofs.Common.{IsReady, length-reverse, subst, sym, vec_capacity, ◌+◌, ◌-◌, ◌≤◌}
 use Rattle.lab_engine.proofs.PendingVersions.{roomy_held}
 use Rattle.lab_engine.proofs.row_state.RowState.hold.Goals as goal
 

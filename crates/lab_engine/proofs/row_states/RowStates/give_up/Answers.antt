@@ -1,6 +1,5 @@
-use Rattle.std.proofs.Common.{ap, sym, subst, refl, ◌∙◌, ◌==◌, None, IsSome, cond}
 use Rattle.std.specs.BTreeMap.{get}
-use Rattle.lab_engine.proofs.Common.{row_cmp, kept_at, chain_kept, pending_kept}
+use Rattle.lab_engine.proofs.Common.{ap, chain_kept, cond, IsSome, kept_at, None, pending_kept, refl, row_cmp, subst, sym, ◌==◌, ◌∙◌}
 use Rattle.lab_engine.proofs.RowChanges.{changed_if, unchanged, left_off}
 use Rattle.lab_engine.proofs.row_states.RowStates.give_up.Goals as goal
 

@@ -1,5 +1,4 @@
-use Rattle.std.proofs.Common.{◌≡◌, ℕ, drop, cond, ◌&&◌, ◌==◌, None}
-use Rattle.lab_engine.proofs.Common.{list_any, Row, row_eq, chain_in, pending_in}
+use Rattle.lab_engine.proofs.Common.{chain_in, cond, drop, list_any, None, pending_in, Row, row_eq, ℕ, ◌&&◌, ◌==◌, ◌≡◌}
 use Rattle.lab_engine.proofs.row_states.RowStates.give_up_each.Given as goal
 
 -- without those of the rows that are left it is what it is to be

@@ -1,5 +1,4 @@
-use Rattle.std.proofs.Common.{◌∙◌, ap, sym, subst, refl, get_or}
-use Rattle.lab_engine.proofs.Common.{Written, drop_all, Row, IsReadyAt, pending_in}
+use Rattle.lab_engine.proofs.Common.{ap, drop_all, get_or, IsReadyAt, pending_in, refl, Row, subst, sym, Written, ◌∙◌}
 use Rattle.lab_engine.proofs.RowWalks.{held, held_map, written_at}
 use Rattle.lab_engine.proofs.row_states.RowStates.hold_each.Goals as goal
 

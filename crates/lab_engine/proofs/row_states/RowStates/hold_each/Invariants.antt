@@ -1,5 +1,4 @@
-use Rattle.std.proofs.Common.{◌≡◌, ◌<◌, ℕ, length, drop, slice_index_or}
-use Rattle.lab_engine.proofs.Common.{Written, Row, chain_in, pending_in, IsReadyAt}
+use Rattle.lab_engine.proofs.Common.{chain_in, drop, IsReadyAt, length, pending_in, Row, slice_index_or, Written, ℕ, ◌<◌, ◌≡◌}
 use Rattle.lab_engine.proofs.RowWalks.{held}
 use Rattle.lab_engine.proofs.row_states.RowStates.hold_each.Given as goal
 

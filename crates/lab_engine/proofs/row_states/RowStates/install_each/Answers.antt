@@ -1,5 +1,4 @@
-use Rattle.std.proofs.Common.{◌≡◌, ◌∙◌, ◌+◌, ◌==◌, ◌&&◌, ◌∷◌, ap, sym, refl, drop, cond, None, eq-eqb}
-use Rattle.lab_engine.proofs.Common.{list_any, drop_more, row_eq, longer, chain_in, pending_in}
+use Rattle.lab_engine.proofs.Common.{ap, chain_in, cond, drop, drop_more, eq-eqb, list_any, longer, None, pending_in, refl, row_eq, sym, ◌&&◌, ◌+◌, ◌==◌, ◌∙◌, ◌∷◌, ◌≡◌}
 use Rattle.lab_engine.proofs.RowWalks.{let_go, installed_once}
 use Rattle.lab_engine.proofs.row_states.RowStates.install_each.Goals as goal
 

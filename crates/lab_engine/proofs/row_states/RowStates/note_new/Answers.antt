@@ -1,6 +1,5 @@
-use Rattle.std.proofs.Common.{◌∙◌, ◌++◌, ap, sym, arith, length, append-nil, is_none, Bool, List, map, filter, take_all}
 use Rattle.lab_history.proofs.CountedEntries.{length_new_states}
-use Rattle.lab_engine.proofs.Common.{Written, Row, list_any, row_eq, pending_in}
+use Rattle.lab_engine.proofs.Common.{ap, append-nil, arith, Bool, filter, is_none, length, List, list_any, map, pending_in, Row, row_eq, sym, take_all, Written, ◌++◌, ◌∙◌}
 use Rattle.lab_engine.proofs.RowWalks.{noted}
 use Rattle.lab_engine.proofs.row_states.RowStates.note_new.Goals as goal
 

@@ -1,5 +1,4 @@
-use Rattle.std.proofs.Common.{◌≡◌, ◌≤◌, ◌+◌, ◌++◌, length, map, filter, take, is_none, vec_capacity}
-use Rattle.lab_engine.proofs.Common.{pending_in}
+use Rattle.lab_engine.proofs.Common.{filter, is_none, length, map, pending_in, take, vec_capacity, ◌++◌, ◌+◌, ◌≡◌, ◌≤◌}
 use Rattle.lab_engine.proofs.row_states.RowStates.note_new.Given as goal
 
 -- there is room for the rows that are left, and those so far that are new stand behind the others

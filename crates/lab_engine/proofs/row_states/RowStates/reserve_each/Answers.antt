@@ -1,5 +1,4 @@
-use Rattle.std.proofs.Common.{◌≡◌, ◌∙◌, ap, subst, arith, inl, inr, get_or}
-use Rattle.lab_engine.proofs.Common.{Written, cases_lt, get_or_default, Row, IsReadyAt}
+use Rattle.lab_engine.proofs.Common.{ap, arith, cases_lt, get_or, get_or_default, inl, inr, IsReadyAt, Row, subst, Written, ◌∙◌, ◌≡◌}
 use Rattle.lab_engine.proofs.RowChanges.{same_then}
 use Rattle.lab_engine.proofs.RowWalks.{entry_of}
 use Rattle.lab_engine.proofs.row_states.RowStates.reserve_each.Goals as goal

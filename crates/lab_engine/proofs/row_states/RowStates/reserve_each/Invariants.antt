@@ -1,5 +1,4 @@
-use Rattle.std.proofs.Common.{ℕ, ◌<◌, slice_index_or}
-use Rattle.lab_engine.proofs.Common.{Written, Row, IsSame, IsReadyAt}
+use Rattle.lab_engine.proofs.Common.{IsReadyAt, IsSame, Row, slice_index_or, Written, ℕ, ◌<◌}
 use Rattle.lab_engine.proofs.row_states.RowStates.reserve_each.Given as goal
 
 -- nothing has changed, and there is room in the rows so far

@@ -1,5 +1,4 @@
-use Rattle.std.proofs.Common.{◌≡◌, ◌==◌, ℕ, take}
-use Rattle.lab_engine.proofs.Common.{list_any, has}
+use Rattle.lab_engine.proofs.Common.{has, list_any, take, ℕ, ◌==◌, ◌≡◌}
 use Rattle.lab_engine.proofs.session_set.SessionSet.of.Given as goal
 
 -- the set has the sessions so far

@@ -1,6 +1,5 @@
-use Rattle.std.proofs.Common.{refl, sym, subst}
 use Rattle.std.specs.Result.{OnOk}
-use Rattle.lab_engine.proofs.Common.{Outcome, HoldsOutcome, running_of, on_ok_weaker}
+use Rattle.lab_engine.proofs.Common.{HoldsOutcome, on_ok_weaker, Outcome, refl, running_of, subst, sym}
 use Rattle.lab_engine.proofs.Describing.{same_log, same_rows}
 use Rattle.lab_engine.proofs.situation.Situation.reserve_room.Goals as goal
 
@@ -9,12 +8,12 @@ reserve_places-requires c = c.requires.2.sessions
 
 pub returns-in_err-reserve_places-in-Rows-clause-same : goal.returns-in_err-reserve_places-in-Rows-clause-same
 returns-in_err-reserve_places-in-Rows-clause-same c level past is =
-    same_log past c.args.self.now _ is c.reserve_places.ensures.sessions (c.reserve_places.ensures.same level past is.states) is.rows refl refl
+    same_log past c.args.self.now _ is c.reserve_places.ensures.sessions (c.reserve_places.ensures.same level past is.states) is.rows refl refl refl
 
 pub returns-in_ok-reserve_places-in-Rows-clause-same : goal.returns-in_ok-reserve_places-in-Rows-clause-same
 returns-in_ok-reserve_places-in-Rows-clause-same c level past is =
     same_log past c.args.self.now _ is c.reserve_places.ensures.sessions (c.reserve_places.ensures.same level past is.states)
-    (same_rows past c.args.self.now.rows c.reserve_each.new.self c.reserve_each.ensures.same is.rows) refl refl
+    (same_rows past c.args.self.now.rows c.reserve_each.new.self c.reserve_each.ensures.same is.rows) refl refl refl
 
 pub returns-in_ok-reserve_places-in-Rows-clause-room : goal.returns-in_ok-reserve_places-in-Rows-clause-room
 returns-in_ok-reserve_places-in-Rows-clause-room c =

@@ -1,5 +1,4 @@
-use Rattle.std.proofs.Common.{◌∙◌, ap}
-use Rattle.lab_engine.proofs.Common.{entries, get, merged}
+use Rattle.lab_engine.proofs.Common.{ap, entries, get, merged, ◌∙◌}
 use Rattle.lab_engine.proofs.Merging.{maps_sorted, maps_found}
 use Rattle.lab_engine.proofs.version.Versions.overlaid_with.Goals as goal
 

@@ -1,5 +1,4 @@
-use Rattle.std.proofs.Common.{subst, sym, ap, ◌∙◌, T}
-use Rattle.lab_engine.proofs.Common.{is_sorted, entries_sorted, get, row_cmp}
+use Rattle.lab_engine.proofs.Common.{ap, entries_sorted, get, is_sorted, row_cmp, subst, sym, T, ◌∙◌}
 use Rattle.lab_engine.proofs.VersionLists.{written_sorted, written_found}
 use Rattle.lab_engine.proofs.version.Versions.written.Goals as goal
 

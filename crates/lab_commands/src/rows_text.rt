@@ -1,0 +1,18 @@
+//! Rows as a text.
+
+ghost use Rattle.std.specs.Prelude.{◌≡◌, ◌++◌, codes, OnOk};
+ghost use Rattle.lab_script.specs.Printed.{named_rows_or};
+
+use lab_statement::{append_result, spell_all};
+use lab_table::{NoMemory, RowName, Value};
+
+/// Appends rows with their values, as `(1, 10), stock (1, 5)`; `none` where there is none. After NoMemory, part of that may
+/// stand there.
+pub fn put_rows(out: &mut Vec<u8>, rows: &[(RowName, Value)]) -> Result<(), NoMemory>
+    ensures { OnOk result (out.new.items ≡ out.old.items ++ named_rows_or (codes "none") rows.now) }
+{
+    match rows {
+        [] => out.extend_from_slice(b"none"),
+        rows => append_result(spell_all(out, rows)),
+    }
+}

@@ -1,0 +1,6 @@
+mod LeastRows
+mod ChangedRows
+mod ReadConflicts
+mod FirstReads
+mod Decided
+mod LastReads
