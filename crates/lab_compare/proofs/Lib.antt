@@ -1,6 +1,6 @@
 mod Spaces
 mod Left
-mod Telling
+mod Standings
 mod FirstRefusals
 mod SidesSoFar
 mod OneComparison

@@ -1,7 +1,6 @@
 -- What each line of a script came to in a play.
-use Rattle.std.specs.Prelude.{ℕ, ℤ, ◌+◌, ◌-◌, ◌==◌, Bool, false, true, not, ◌&&◌, cond, Option, Some, None, unwrap_or, List, [], ◌∷◌, ◌++◌, length, drop, codes, if◌then◌else◌}
+use Rattle.std.specs.Prelude.{ℕ, ◌+◌, ◌-◌, ◌==◌, Bool, false, true, not, ◌&&◌, cond, Option, Some, None, unwrap_or, List, [], ◌∷◌, ◌++◌, length, drop, codes, if◌then◌else◌}
 use Rattle.std.specs.List.{prefix_len}
-use Rattle.lab_table.specs.Row.{Row}
 use Rattle.lab_table.specs.Sessions.{of_session}
 use Rattle.lab_script.specs.declared.script.Line.{Line}
 use Rattle.lab_compare.specs.declared.told.ToldEvent.{ToldEvent}
@@ -31,11 +30,6 @@ answers session event = event.session == session && event.is_answer
 -- how many events stand before the one that answers a session's next command
 abbrev pub answer_place : ℕ → List ToldEvent → ℕ
 answer_place session told = prefix_len (λ event. not (answers session event)) told
-
--- the rows that are told behind an event, if there is one
-abbrev pub rows_behind : Option ToldEvent → List (Row × ℤ)
-rows_behind None = []
-rows_behind (Some event) = event.rows
 
 -- what a session's next command comes to: its answers, and how many events there are from the one that answers it on to the end
 abbrev pub cell_of : ℕ → List ToldEvent → Cell

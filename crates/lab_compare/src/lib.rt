@@ -9,12 +9,14 @@
 #![tactic(auto)]
 
 mod alike;
+mod behind;
 mod cells;
 mod comparing;
 mod comparison;
 mod laws;
 mod playing;
 mod side;
+mod telling;
 mod told;
 
 pub use comparing::compare;

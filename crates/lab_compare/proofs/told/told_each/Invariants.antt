@@ -1,6 +1,7 @@
 use Rattle.std.proofs.Common.{◌≡◌, ◌++◌, drop}
-use Rattle.lab_compare.specs.Told.{told_each}
+use Rattle.std.specs.Prelude.{map}
+use Rattle.lab_compare.specs.Told.{told_of}
 use Rattle.lab_compare.proofs.told.told_each.Given as goal
 
 abbrev pub invariant-loop-event : goal.invariant-loop-event
-invariant-loop-event l = l.told.items ++ told_each l.history l.standing (drop l.event-index l.log) ≡ told_each l.history l.fn.first l.log
+invariant-loop-event l = l.told.items ++ map told_of (drop l.event-index l.log) ≡ map told_of l.log
