@@ -1,8 +1,10 @@
 -- What is tested of engines that tell the same.
-use Rattle.std.proofs.Common.{◌≡◌, ℤ, ℕ, true, false, List, [], refl, sym, ap, subst, ◌∙◌}
-use Rattle.std.specs.Prelude.{◌&&◌}
+use Rattle.std.proofs.Common.{◌≡◌, ℤ, ℕ, true, false, List, [], refl, sym, ap, subst}
+use Rattle.std.specs.Prelude.{⊤, ◌&&◌}
+use Rattle.std.specs.Str.{bytes_eq}
 use Rattle.std.specs.Bool.{Decides}
 use Rattle.std.specs.Ordering.{int_eq}
+use Rattle.std.proofs.lemmas.Bool.{false≢true}
 use Rattle.std.proofs.lemmas.Bool.Decides.{Decides-and, Decides-int_eq, Decides-like}
 use Rattle.std.proofs.lemmas.Slice.Eq.{bytes_eq-Decides, slice_eq-Decides}
 use Rattle.lab_table.specs.Row.{Row, row_test}
@@ -18,28 +20,35 @@ row_Decides a b = (tested_same a b, λ same. subst (λ row. row_test a row ≡ t
 entry_Decides : (a b : Row × ℤ) → Decides (row_test a.0 b.0 && int_eq a.1 b.1) (a ≡ b)
 entry_Decides a b = Decides-like _ (λ parts i. (parts.0 i, parts.1 i)) (λ same. (ap (λ e. e.0) same, ap (λ e. e.1) same)) (Decides-and _ _ (row_Decides a.0 b.0) (Decides-int_eq a.1 b.1))
 
+-- a test that always fails decides what never holds
+never : {P : Type 0} → (P → ⊥) → Decides false P
+never denied = (λ t. absurd (false≢true t), λ p. absurd (denied p))
+
 entries_Decides : (one other : List (Row × ℤ)) → Decides (same_entries one other) (one ≡ other)
 entries_Decides one other = slice_eq-Decides entry_Decides one other _ refl
 
 -- what stands in a content of either kind
-text_in : Content → List ℕ
+abbrev text_in : Content → List ℕ
 text_in (Text text) = text
 text_in (Rows rows) = []
 
-rows_in : Content → List (Row × ℤ)
+abbrev rows_in : Content → List (Row × ℤ)
 rows_in (Text text) = []
 rows_in (Rows rows) = rows
 
 -- a text isn't rows
-IsText : Content → Type 0
+abbrev IsText : Content → Type 0
 IsText (Text text) = ⊤
 IsText (Rows rows) = ⊥
 
+not_same : (text : List ℕ) (rows : List (Row × ℤ)) → Text text ≡ Rows rows → ⊥
+not_same text rows same = subst IsText same tt
+
 content_Decides : (one other : Content) → Decides (same_content one other) (one ≡ other)
-content_Decides (Text one) (Text other) = Decides-like _ (ap Text) (ap text_in) (bytes_eq-Decides one other)
-content_Decides (Text one) (Rows other) = (λ no. search, λ same. absurd (subst IsText same tt))
-content_Decides (Rows one) (Text other) = (λ no. search, λ same. absurd (subst IsText (sym same) tt))
-content_Decides (Rows one) (Rows other) = Decides-like _ (ap Rows) (ap rows_in) (entries_Decides one other)
+content_Decides (Text one) (Text other) = Decides-like (bytes_eq one other) (λ (is : one ≡ other). ap Text is) (λ (same : Text one ≡ Text other). ap text_in same) (bytes_eq-Decides one other)
+content_Decides (Text one) (Rows other) = never (not_same one other)
+content_Decides (Rows one) (Text other) = never (λ same. not_same other one (sym same))
+content_Decides (Rows one) (Rows other) = Decides-like (same_entries one other) (λ (is : one ≡ other). ap Rows is) (λ (same : Rows one ≡ Rows other). ap rows_in same) (entries_Decides one other)
 
 -- two engines are found alike where they tell the same, and only there
 pub alike_Decides : (one other : Telling) → Decides (alike one other) (TellSame one other)

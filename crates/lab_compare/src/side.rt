@@ -1,6 +1,6 @@
 //! What there is to say of one engine's play.
 
-ghost use Rattle.std.specs.Prelude.{◌≡◌, ◌++◌, map, slice_get, IfOk};
+ghost use Rattle.std.specs.Prelude.{◌≡◌, map, IfOk};
 ghost use Rattle.std.specs.Option.{option_copied};
 ghost use Rattle.lab_matrix.specs.MatrixText.{cell_text, snapshot_mark};
 ghost use Rattle.lab_reports.specs.Shortfall.{is_present, first_found};
