@@ -2,9 +2,7 @@
 use Rattle.std.proofs.Common.{◌≡◌, inl, inr, ℕ, List, sym, ap, ◌∙◌}
 use Rattle.lab_session.specs.PlayFaultText.{play_fault_text}
 use Rattle.lab_engine.specs.declared.event.Level.{Level}
-use Rattle.lab_matrix.specs.Columns.{columns_text}
-use Rattle.lab_matrix.proofs.OneMatrix.{one_text, no_refusal, one_refusal}
-use Rattle.lab_matrix.proofs.OneTextAt.{one_list, none_refused_at, one_first_among}
+use Rattle.lab_matrix.{specs.Columns.{columns_text}, proofs.{OneMatrix.{one_text, no_refusal, one_refusal}, OneTextAt.{one_list, none_refused_at, one_first_among}}}
 use Rattle.lab_streams.specs.declared.ending.Ending.{Ending}
 use Rattle.lab_case_commands.specs.Tabulating.{IsTabulated, IsUntabulated, IsMatrixAnswer, IsTabulatedAt, IsUntabulatedAt, IsColumnsAnswer}
 

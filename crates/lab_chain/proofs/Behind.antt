@@ -1,6 +1,5 @@
 -- What stands behind the front of a list.
-use Rattle.std.proofs.Common.{◌≡◌, ℕ, zero, suc, List, [], ◌∷◌, drop, length, refl, sym, ◌∙◌}
-use Rattle.std.specs.Prelude.{min}
+use Rattle.std.{proofs.Common.{◌≡◌, ℕ, zero, suc, List, [], ◌∷◌, drop, length, refl, sym, ◌∙◌}, specs.Prelude.{min}}
 use native.Mathlib.Numerals.{unary_clauses}
 
 -- an empty list has nothing to drop

@@ -1,19 +1,7 @@
 -- Where two tables say otherwise.
-use Rattle.std.proofs.Common.{◌≡◌, ◌≢◌, Bool, true, false, ◌&&◌, ℤ, T, cond, Some, None, List, [], ◌∷◌, refl, sym, ap, ◌∙◌, subst}
-use Rattle.std.specs.FinMap.{find, is_sorted, entries, entries_sorted, get-entries, same_entries_map}
-use Rattle.std.specs.FinMap.Entries.{below_all}
-use Rattle.std.specs.Cmp.{signed_Decides}
-use Rattle.std.specs.Ordering.{int_eq, is_eq, is_le}
-use Rattle.std.specs.declared.cmp.Ordering.{Ordering}
-use Rattle.std.specs.declared.cmp.Ordering.TheVariants.{Less, Equal, Greater}
-use Rattle.std.proofs.lemmas.Bool.{false≢true, and_parts}
-use Rattle.std.proofs.lemmas.Option.{none-some, same_Some}
-use Rattle.lab_table.specs.Row.{Row, row_cmp, row_eq, row_test, row_le, rows_total}
-use Rattle.lab_table.specs.Table.{Table}
-use Rattle.lab_table.proofs.Maps.{find_below, same_row, row_eq_self, tested_same, tests_itself}
-use Rattle.lab_table.proofs.Orderings.{turned}
-use Rattle.lab_table.proofs.SortedRows.{lower}
-use Rattle.lab_table.proofs.Tests.{both}
+use Rattle.std.proofs.{Common.{◌≡◌, ◌≢◌, Bool, true, false, ◌&&◌, ℤ, T, cond, Some, None, List, [], ◌∷◌, refl, sym, ap, ◌∙◌, subst}, lemmas.{Bool.{false≢true, and_parts}, Option.{none-some, same_Some}}}
+use Rattle.std.specs.{FinMap.{find, is_sorted, entries, entries_sorted, get-entries, same_entries_map, Entries.{below_all}}, Cmp.{signed_Decides}, Ordering.{int_eq, is_eq, is_le}, declared.cmp.Ordering.{Ordering, TheVariants.{Less, Equal, Greater}}}
+use Rattle.lab_table.{specs.{Row.{Row, row_cmp, row_eq, row_test, row_le, rows_total}, Table.{Table}}, proofs.{Maps.{find_below, same_row, row_eq_self, tested_same, tests_itself}, Orderings.{turned}, SortedRows.{lower}, Tests.{both}}}
 use Rattle.lab_chain.specs.Difference.{lesser, same_entry, parted, first_difference, IsLeastDifference}
 
 abbrev Entries : Type 0

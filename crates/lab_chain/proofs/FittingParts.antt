@@ -1,7 +1,5 @@
 -- Parts of a run of which a line is clear: they were judged, and fit.
-use Rattle.std.proofs.Common.{◌≡◌, ℕ, Option, Some, None, List, [], ◌∷◌, map, refl, sym, ap, ◌∙◌}
-use Rattle.std.specs.List.{All, AllZip}
-use Rattle.std.proofs.lemmas.List.Elements.{All-head, All-tail}
+use Rattle.std.{proofs.{Common.{◌≡◌, ℕ, Option, Some, None, List, [], ◌∷◌, map, refl, sym, ap, ◌∙◌}, lemmas.List.Elements.{All-head, All-tail}}, specs.List.{All, AllZip}}
 use Rattle.lab_table.specs.Row.{Row}
 use Rattle.lab_history.specs.History.{History}
 use Rattle.lab_judge.specs.declared.report.Report.{Report}
@@ -12,14 +10,8 @@ use Rattle.lab_chain.specs.Difference.{first_difference}
 use Rattle.lab_chain.specs.Lines.{line_joined}
 use Rattle.lab_chain.specs.Parts.{part_summary, unjudged_lines, IsOutcome}
 use Rattle.lab_chain.specs.Summary.{lines_joined, seam_at, seam_between}
-use Rattle.lab_chain.specs.declared.line.Line.{Line}
-use Rattle.lab_chain.specs.declared.line.Line.TheVariants.{Clear}
-use Rattle.lab_chain.specs.declared.part.Outcome.{Outcome}
-use Rattle.lab_chain.specs.declared.part.Outcome.TheVariants.{Judged, Refused, Unreadable}
-use Rattle.lab_chain.specs.declared.summary.Lines.{Lines}
-use Rattle.lab_chain.proofs.Differences.{same_tables}
-use Rattle.lab_chain.proofs.PartSummaries.{of_part}
-use Rattle.lab_chain.proofs.RunLines.{clear_apart, seam_of_parts}
+use Rattle.lab_chain.specs.declared.{line.Line.{Line, TheVariants.{Clear}}, part.Outcome.{Outcome, TheVariants.{Judged, Refused, Unreadable}}, summary.Lines.{Lines}}
+use Rattle.lab_chain.proofs.{Differences.{same_tables}, PartSummaries.{of_part}, RunLines.{clear_apart, seam_of_parts}}
 
 -- a part was judged
 abbrev pub WasJudged : Part → Type 0

@@ -3,11 +3,7 @@ use Rattle.std.proofs.Common.{◌≡◌, ℕ, zero, suc, refl, sym, ap, ◌∙�
 use Rattle.lab_chain.specs.Levels.{level_rank, worse}
 use Rattle.lab_chain.specs.Lines.{line_weight, line_joined}
 use Rattle.lab_chain.specs.Summary.{clear_lines, lines_joined}
-use Rattle.lab_chain.specs.declared.level.Level.{Level}
-use Rattle.lab_chain.specs.declared.level.Level.TheVariants.{Pl3, Pl299, Pl2, Pl1, NotJudged, BelowPl1, Unsound}
-use Rattle.lab_chain.specs.declared.line.Line.{Line}
-use Rattle.lab_chain.specs.declared.line.Line.TheVariants.{Clear, Unjudged, Found}
-use Rattle.lab_chain.specs.declared.summary.Lines.{Lines}
+use Rattle.lab_chain.specs.declared.{level.Level.{Level, TheVariants.{Pl3, Pl299, Pl2, Pl1, NotJudged, BelowPl1, Unsound}}, line.Line.{Line, TheVariants.{Clear, Unjudged, Found}}, summary.Lines.{Lines}}
 use Rattle.lab_chain.proofs.HeavierLaws.{heaviest_of_three, heavier_of_two}
 
 -- ---- lines

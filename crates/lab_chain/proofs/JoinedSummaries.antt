@@ -1,11 +1,6 @@
 -- What is said of several pieces of a run.
-use Rattle.std.proofs.Common.{◌≡◌, ℕ, ◌+◌, ◌-◌, ◌≤◌, min, Option, Some, None, List, [], ◌∷◌, ◌++◌, refl, sym, ap, ◌∙◌, subst, arith}
-use Rattle.std.specs.Prelude.{◌^◌, fold}
-use Rattle.lab_chain.specs.Levels.{worse}
-use Rattle.lab_chain.specs.Summary.{clear_lines, lines_joined, seam_at, seam_between, ends_joined, joined, nothing}
-use Rattle.lab_chain.specs.declared.seam.Seam.{Seam}
-use Rattle.lab_chain.specs.declared.summary.Ends.{Ends}
-use Rattle.lab_chain.specs.declared.summary.Summary.{Summary}
+use Rattle.std.{proofs.Common.{◌≡◌, ℕ, ◌+◌, ◌-◌, ◌≤◌, min, Option, Some, None, List, [], ◌∷◌, ◌++◌, refl, sym, ap, ◌∙◌, subst, arith}, specs.Prelude.{◌^◌, fold}}
+use Rattle.lab_chain.specs.{Levels.{worse}, Summary.{clear_lines, lines_joined, seam_at, seam_between, ends_joined, joined, nothing}, declared.{seam.Seam.{Seam}, summary.{Ends.{Ends}, Summary.{Summary}}}}
 use Rattle.lab_chain.proofs.JoinedLines.{all_clear_first, all_clear_last, five_pieces, no_lines_between, best_first, best_last, five_levels, no_level_between}
 
 -- ---- ends, and the seams between them

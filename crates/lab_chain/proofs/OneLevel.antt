@@ -1,16 +1,8 @@
 -- A history has one level.
-use Rattle.std.proofs.Common.{◌≡◌, ℕ, zero, suc, ◌<◌, ◌≤◌, Bool, cond, List, refl, sym, ap, ◌∙◌, arith, inl, inr}
-use Rattle.std.specs.Prelude.{not}
-use Rattle.std.proofs.lemmas.List.Sums.{sum_by-le-sum_by}
-use Rattle.std.proofs.lemmas.Bool.{cases_lt}
+use Rattle.std.{proofs.{Common.{◌≡◌, ℕ, zero, suc, ◌<◌, ◌≤◌, Bool, cond, List, refl, sym, ap, ◌∙◌, arith, inl, inr}, lemmas.{List.Sums.{sum_by-le-sum_by}, Bool.{cases_lt}}}, specs.Prelude.{not}}
 use Rattle.lab_history.specs.History.{History}
-use Rattle.lab_deps.specs.KindSets.{is_anti}
-use Rattle.lab_deps.specs.declared.edge.Edge.{Edge}
-use Rattle.lab_deps.specs.declared.edge.Kind.{Kind}
-use Rattle.lab_deps.specs.declared.edge.Kind.TheVariants.{Write, ItemRead, PredicateRead, ItemAnti, PredicateAnti}
-use Rattle.lab_judge.specs.Phenomena.{count_kind, is_write, is_item_anti, MeetsPl1, MeetsPl2, MeetsPl299, MeetsPl3, IsGrade}
-use Rattle.lab_judge.specs.declared.report.Grade.{Grade}
-use Rattle.lab_judge.specs.declared.report.Grade.TheVariants.{BelowPl1, Pl1, Pl2, Pl299, Pl3, Unsound}
+use Rattle.lab_deps.specs.{KindSets.{is_anti}, declared.edge.{Edge.{Edge}, Kind.{Kind, TheVariants.{Write, ItemRead, PredicateRead, ItemAnti, PredicateAnti}}}}
+use Rattle.lab_judge.specs.{Phenomena.{count_kind, is_write, is_item_anti, MeetsPl1, MeetsPl2, MeetsPl299, MeetsPl3, IsGrade}, declared.report.Grade.{Grade, TheVariants.{BelowPl1, Pl1, Pl2, Pl299, Pl3, Unsound}}}
 use Rattle.lab_parts.specs.WholeFindings.{grade_place}
 
 -- ---- each level is implied by those above it

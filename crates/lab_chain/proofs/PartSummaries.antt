@@ -1,14 +1,6 @@
 -- What is said of single parts, and of a run with them.
-use Rattle.std.proofs.Common.{◌≡◌, ℕ, ◌-◌, ◌≤◌, None, List, ◌∷◌, ◌++◌, sym, arith}
-use Rattle.std.specs.Prelude.{◌^◌}
-use Rattle.std.proofs.lemmas.Option.{none-some}
-use Rattle.lab_chain.specs.Chain.{Part, summary_of}
-use Rattle.lab_chain.specs.Parts.{part_summary}
-use Rattle.lab_chain.specs.Summary.{joined}
-use Rattle.lab_chain.specs.declared.part.Outcome.{Outcome}
-use Rattle.lab_chain.specs.declared.part.Outcome.TheVariants.{Judged, Refused, Unreadable}
-use Rattle.lab_chain.specs.declared.summary.Summary.{Summary}
-use Rattle.lab_chain.proofs.JoinedSummaries.{pieces_joined, first_joined}
+use Rattle.std.{proofs.{Common.{◌≡◌, ℕ, ◌-◌, ◌≤◌, None, List, ◌∷◌, ◌++◌, sym, arith}, lemmas.Option.{none-some}}, specs.Prelude.{◌^◌}}
+use Rattle.lab_chain.{specs.{Chain.{Part, summary_of}, Parts.{part_summary}, Summary.{joined}, declared.{part.Outcome.{Outcome, TheVariants.{Judged, Refused, Unreadable}}, summary.Summary.{Summary}}}, proofs.JoinedSummaries.{pieces_joined, first_joined}}
 
 -- a part is counted once
 counts_one : (name : List ℕ) (o : Outcome) → (part_summary name o).parts ≤ 2 ^ 64 - 1

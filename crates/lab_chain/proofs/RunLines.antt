@@ -8,13 +8,8 @@ use Rattle.lab_chain.specs.Difference.{first_difference}
 use Rattle.lab_chain.specs.Lines.{line_joined}
 use Rattle.lab_chain.specs.Parts.{part_summary}
 use Rattle.lab_chain.specs.Summary.{lines_joined, seam_at, seam_between, ends_joined}
-use Rattle.lab_chain.specs.declared.line.Line.{Line}
-use Rattle.lab_chain.specs.declared.line.Line.TheVariants.{Clear, Unjudged, Found}
-use Rattle.lab_chain.specs.declared.summary.Ends.{Ends}
-use Rattle.lab_chain.specs.declared.summary.Lines.{Lines}
-use Rattle.lab_chain.proofs.JoinedLines.{clear_first}
-use Rattle.lab_chain.proofs.JoinedSummaries.{seam_to}
-use Rattle.lab_chain.proofs.PartSummaries.{of_part, first_and_rest}
+use Rattle.lab_chain.specs.declared.{line.Line.{Line, TheVariants.{Clear, Unjudged, Found}}, summary.{Ends.{Ends}, Lines.{Lines}}}
+use Rattle.lab_chain.proofs.{JoinedLines.{clear_first}, JoinedSummaries.{seam_to}, PartSummaries.{of_part, first_and_rest}}
 
 -- a line of two is clear where each is
 both_clear : (a b : Line) → line_joined a b ≡ Clear → (a ≡ Clear) × (b ≡ Clear)

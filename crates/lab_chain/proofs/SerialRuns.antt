@@ -1,19 +1,9 @@
 -- A run that is said to be serializable.
-use Rattle.std.proofs.Common.{◌≡◌, ◌≢◌, ℕ, List, [], ◌∷◌, refl, sym, ap, ◌∙◌, subst}
-use Rattle.std.specs.List.{All, AllZip}
-use Rattle.std.proofs.lemmas.List.Elements.{All-nil, All-cons}
-use Rattle.lab_judge.specs.Judgement.{IsSerialVerdict}
-use Rattle.lab_judge.specs.Runs.{IsSerialRun}
-use Rattle.lab_judge.specs.declared.serial.Serial.{Serial}
+use Rattle.std.{proofs.{Common.{◌≡◌, ◌≢◌, ℕ, List, [], ◌∷◌, refl, sym, ap, ◌∙◌, subst}, lemmas.List.Elements.{All-nil, All-cons}}, specs.List.{All, AllZip}}
+use Rattle.lab_judge.specs.{Judgement.{IsSerialVerdict}, Runs.{IsSerialRun}, declared.serial.Serial.{Serial}}
 use Rattle.lab_judge.specs.declared.serial.Serial.TheVariants as serial
-use Rattle.lab_parts.specs.WholeRuns.{Ordered}
-use Rattle.lab_parts.proofs.WholeOrders.{whole_serial}
-use Rattle.lab_chain.specs.Chain.{Part, IsPart, summary_of}
-use Rattle.lab_chain.specs.ChainLaws.{IsYesOf, IsSerialInParts}
-use Rattle.lab_chain.specs.Parts.{part_summary, serial_line}
-use Rattle.lab_chain.specs.declared.line.Line.TheVariants.{Clear}
-use Rattle.lab_chain.proofs.FittingParts.{WasJudged, was_judged, AreFitting, fitting}
-use Rattle.lab_chain.proofs.PartSummaries.{of_part}
+use Rattle.lab_parts.{specs.WholeRuns.{Ordered}, proofs.WholeOrders.{whole_serial}}
+use Rattle.lab_chain.{specs.{Chain.{Part, IsPart, summary_of}, ChainLaws.{IsYesOf, IsSerialInParts}, Parts.{part_summary, serial_line}, declared.line.Line.TheVariants.{Clear}}, proofs.{FittingParts.{WasJudged, was_judged, AreFitting, fitting}, PartSummaries.{of_part}}}
 
 -- a clear line is that of a yes
 yes_is : (name : List ℕ) (s : Serial) → serial_line name s ≡ Clear → (order : List ℕ) × (s ≡ serial.Yes order)

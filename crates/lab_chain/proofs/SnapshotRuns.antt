@@ -1,19 +1,9 @@
 -- A run that is said to be a snapshot run.
-use Rattle.std.proofs.Common.{◌≡◌, ◌≢◌, ℕ, List, [], ◌∷◌, refl, sym, ap, ◌∙◌, subst}
-use Rattle.std.specs.List.{All, AllZip}
-use Rattle.std.proofs.lemmas.List.Elements.{All-nil, All-cons}
-use Rattle.lab_judge.specs.Judgement.{IsSnapshotVerdict}
-use Rattle.lab_judge.specs.Runs.{Span, IsSnapshotRun}
-use Rattle.lab_judge.specs.declared.places.Places.{Places}
+use Rattle.std.{proofs.{Common.{◌≡◌, ◌≢◌, ℕ, List, [], ◌∷◌, refl, sym, ap, ◌∙◌, subst}, lemmas.List.Elements.{All-nil, All-cons}}, specs.List.{All, AllZip}}
+use Rattle.lab_judge.specs.{Judgement.{IsSnapshotVerdict}, Runs.{Span, IsSnapshotRun}, declared.places.Places.{Places}}
 use Rattle.lab_judge.specs.declared.places.Places.TheVariants as places
-use Rattle.lab_parts.specs.WholeRuns.{Placed}
-use Rattle.lab_parts.proofs.WholeOrders.{whole_placed}
-use Rattle.lab_chain.specs.Chain.{Part, IsPart, summary_of}
-use Rattle.lab_chain.specs.ChainLaws.{IsPlacedOf, IsSnapshotInParts}
-use Rattle.lab_chain.specs.Parts.{part_summary, snapshot_line}
-use Rattle.lab_chain.specs.declared.line.Line.TheVariants.{Clear}
-use Rattle.lab_chain.proofs.FittingParts.{WasJudged, was_judged, AreFitting, fitting}
-use Rattle.lab_chain.proofs.PartSummaries.{of_part}
+use Rattle.lab_parts.{specs.WholeRuns.{Placed}, proofs.WholeOrders.{whole_placed}}
+use Rattle.lab_chain.{specs.{Chain.{Part, IsPart, summary_of}, ChainLaws.{IsPlacedOf, IsSnapshotInParts}, Parts.{part_summary, snapshot_line}, declared.line.Line.TheVariants.{Clear}}, proofs.{FittingParts.{WasJudged, was_judged, AreFitting, fitting}, PartSummaries.{of_part}}}
 
 -- a clear line is that of a yes
 yes_is : (name : List ℕ) (s : Places) → snapshot_line name s ≡ Clear → (spans : List Span) × (s ≡ places.Yes spans)

@@ -1,27 +1,12 @@
 -- What is said of parts that are sound and fit.
-use Rattle.std.proofs.Common.{◌≡◌, None, List, [], ◌∷◌, ap, ◌∙◌}
-use Rattle.std.specs.Prelude.{◌↔◌}
-use Rattle.std.specs.List.{All, AllZip}
-use Rattle.std.proofs.lemmas.List.Elements.{All-nil, All-cons, All-head, All-tail}
+use Rattle.std.{proofs.{Common.{◌≡◌, None, List, [], ◌∷◌, ap, ◌∙◌}, lemmas.List.Elements.{All-nil, All-cons, All-head, All-tail}}, specs.{Prelude.{◌↔◌}, List.{All, AllZip}}}
 use Rattle.lab_history.specs.History.{History}
 use Rattle.lab_deps.specs.Soundness.{IsSound}
-use Rattle.lab_judge.specs.Judgement.{IsSerialVerdict, IsExactJudgement, JudgesAll, Judges}
-use Rattle.lab_judge.specs.declared.report.Report.{Report}
-use Rattle.lab_judge.specs.declared.serial.Serial.{Serial}
+use Rattle.lab_judge.specs.{Judgement.{IsSerialVerdict, IsExactJudgement, JudgesAll, Judges}, declared.{report.Report.{Report}, serial.Serial.{Serial}}}
 use Rattle.lab_judge.specs.declared.serial.Serial.TheVariants as serial
 use Rattle.lab_parts.specs.Whole.{Fits}
-use Rattle.lab_chain.specs.Chain.{Part, summary_of}
-use Rattle.lab_chain.specs.ChainLaws.{IsJudgedAs}
-use Rattle.lab_chain.specs.Lines.{line_joined}
-use Rattle.lab_chain.specs.Summary.{clear_lines, lines_joined, seam_at, seam_between}
-use Rattle.lab_chain.specs.declared.line.Line.{Line}
-use Rattle.lab_chain.specs.declared.line.Line.TheVariants.{Clear}
-use Rattle.lab_chain.specs.declared.seam.Seam.{Seam}
-use Rattle.lab_chain.specs.declared.summary.Lines.{Lines}
-use Rattle.lab_chain.proofs.Differences.{no_difference}
-use Rattle.lab_chain.proofs.JoinedSummaries.{no_seam_behind}
-use Rattle.lab_chain.proofs.PartSummaries.{of_part}
-use Rattle.lab_chain.proofs.RunLines.{clear_apart, clear_together, seam_of_parts}
+use Rattle.lab_chain.specs.{Chain.{Part, summary_of}, ChainLaws.{IsJudgedAs}, Lines.{line_joined}, Summary.{clear_lines, lines_joined, seam_at, seam_between}, declared.{line.Line.{Line, TheVariants.{Clear}}, seam.Seam.{Seam}, summary.Lines.{Lines}}}
+use Rattle.lab_chain.proofs.{Differences.{no_difference}, JoinedSummaries.{no_seam_behind}, PartSummaries.{of_part}, RunLines.{clear_apart, clear_together, seam_of_parts}}
 
 -- a part was judged, as one with this history
 abbrev pub IsOneWith : Part → History → Type 0

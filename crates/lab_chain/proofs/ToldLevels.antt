@@ -1,28 +1,13 @@
 -- The level of a run whose parts are sound and fit.
-use Rattle.std.proofs.Common.{◌≡◌, ℕ, ◌+◌, ◌≤◌, ◌<◌, None, Bool, true, false, cond, List, [], ◌∷◌, map, refl, sym, ap, ◌∙◌, subst, arith}
-use Rattle.std.specs.Prelude.{◌↔◌, nat_le, nat_lt}
-use Rattle.std.specs.List.{All, AllZip}
-use Rattle.std.proofs.lemmas.Bool.Decides.{nat_tests}
-use Rattle.std.proofs.lemmas.List.Elements.{All-nil, All-cons, All-head, All-tail}
+use Rattle.std.{proofs.{Common.{◌≡◌, ℕ, ◌+◌, ◌≤◌, ◌<◌, None, Bool, true, false, cond, List, [], ◌∷◌, map, refl, sym, ap, ◌∙◌, subst, arith}, lemmas.{Bool.Decides.{nat_tests}, List.Elements.{All-nil, All-cons, All-head, All-tail}}}, specs.{Prelude.{◌↔◌, nat_le, nat_lt}, List.{All, AllZip}}}
 use Rattle.lab_history.specs.History.{History}
 use Rattle.lab_deps.specs.Soundness.{IsSound}
-use Rattle.lab_judge.specs.Phenomena.{IsGrade}
-use Rattle.lab_judge.specs.declared.report.Grade.{Grade}
+use Rattle.lab_judge.specs.{Phenomena.{IsGrade}, declared.report.Grade.{Grade}}
 use Rattle.lab_judge.specs.declared.report.Grade.TheVariants as grade
-use Rattle.lab_parts.specs.Whole.{whole, Fits}
-use Rattle.lab_parts.specs.WholeFindings.{Graded, grade_place, least_grade, least_of}
-use Rattle.lab_parts.proofs.WholeFree.{whole_level}
-use Rattle.lab_chain.specs.Chain.{Part, summary_of}
-use Rattle.lab_chain.specs.ChainLaws.{AreSound}
-use Rattle.lab_chain.specs.Levels.{level_of, level_rank, worse}
-use Rattle.lab_chain.specs.Parts.{part_summary}
-use Rattle.lab_chain.specs.Summary.{seam_at, seam_between}
-use Rattle.lab_chain.specs.declared.level.Level.{Level}
+use Rattle.lab_parts.{specs.{Whole.{whole, Fits}, WholeFindings.{Graded, grade_place, least_grade, least_of}}, proofs.WholeFree.{whole_level}}
+use Rattle.lab_chain.specs.{Chain.{Part, summary_of}, ChainLaws.{AreSound}, Levels.{level_of, level_rank, worse}, Parts.{part_summary}, Summary.{seam_at, seam_between}, declared.level.Level.{Level}}
 use Rattle.lab_chain.specs.declared.level.Level.TheVariants as level
-use Rattle.lab_chain.proofs.JoinedLines.{best_last}
-use Rattle.lab_chain.proofs.OneLevel.{one_level}
-use Rattle.lab_chain.proofs.PartSummaries.{of_part, first_and_rest}
-use Rattle.lab_chain.proofs.SoundSummaries.{IsOneWith, judges_all, none_behind, none_between}
+use Rattle.lab_chain.proofs.{JoinedLines.{best_last}, OneLevel.{one_level}, PartSummaries.{of_part, first_and_rest}, SoundSummaries.{IsOneWith, judges_all, none_behind, none_between}}
 
 -- ---- levels of runs and of parts
 -- the level of a part of which this is the level

@@ -1,30 +1,11 @@
 -- Lines about cycles in a run whose parts are sound and fit.
-use Rattle.std.proofs.Common.{◌≡◌, ℕ, Bool, List, refl, sym, ap, ◌∙◌}
-use Rattle.std.specs.Prelude.{◌↔◌}
-use Rattle.std.specs.List.{All}
-use Rattle.std.proofs.lemmas.List.Elements.{All-head, All-tail}
+use Rattle.std.{proofs.{Common.{◌≡◌, ℕ, Bool, List, refl, sym, ap, ◌∙◌}, lemmas.List.Elements.{All-head, All-tail}}, specs.{Prelude.{◌↔◌}, List.{All}}}
 use Rattle.lab_history.specs.History.{History}
-use Rattle.lab_deps.specs.Soundness.{IsSound}
-use Rattle.lab_deps.specs.declared.edge.Edge.{Edge}
-use Rattle.lab_deps.specs.declared.edge.Kind.{Kind}
-use Rattle.lab_judge.specs.Judgement.{FindsWalk, JudgesAll}
-use Rattle.lab_judge.specs.Phenomena.{NoWalk}
-use Rattle.lab_judge.specs.declared.report.Finding.{Finding}
-use Rattle.lab_judge.specs.declared.report.Finding.TheVariants.{Absent, Walk, At, NotJudged}
-use Rattle.lab_judge.specs.declared.report.Report.{Report}
-use Rattle.lab_parts.specs.Whole.{whole}
-use Rattle.lab_parts.proofs.SplitKinds.{IsCounted}
-use Rattle.lab_parts.proofs.WholeKinds.{free_of_counted}
-use Rattle.lab_chain.specs.Chain.{Part, summary_of}
-use Rattle.lab_chain.specs.ChainLaws.{AreSound, TellsOf}
-use Rattle.lab_chain.specs.Lines.{line_joined}
-use Rattle.lab_chain.specs.Parts.{part_summary, report_lines, finding_line}
-use Rattle.lab_chain.specs.Summary.{clear_lines, lines_joined}
-use Rattle.lab_chain.specs.declared.line.Line.{Line}
-use Rattle.lab_chain.specs.declared.line.Line.TheVariants.{Clear}
-use Rattle.lab_chain.specs.declared.summary.Lines.{Lines}
-use Rattle.lab_chain.proofs.PartSummaries.{of_part}
-use Rattle.lab_chain.proofs.SoundSummaries.{IsOneWith, judges_all, told_by_parts}
+use Rattle.lab_deps.specs.{Soundness.{IsSound}, declared.edge.{Edge.{Edge}, Kind.{Kind}}}
+use Rattle.lab_judge.specs.{Judgement.{FindsWalk, JudgesAll}, Phenomena.{NoWalk}, declared.report.{Finding.{Finding, TheVariants.{Absent, Walk, At, NotJudged}}, Report.{Report}}}
+use Rattle.lab_parts.{specs.Whole.{whole}, proofs.{SplitKinds.{IsCounted}, WholeKinds.{free_of_counted}}}
+use Rattle.lab_chain.specs.{Chain.{Part, summary_of}, ChainLaws.{AreSound, TellsOf}, Lines.{line_joined}, Parts.{part_summary, report_lines, finding_line}, Summary.{clear_lines, lines_joined}, declared.{line.Line.{Line, TheVariants.{Clear}}, summary.Lines.{Lines}}}
+use Rattle.lab_chain.proofs.{PartSummaries.{of_part}, SoundSummaries.{IsOneWith, judges_all, told_by_parts}}
 
 -- the line of an exact finding is clear where there is no such walk
 finding_tells : (name : List ℕ) (IsOne : List Edge → Type 0) (f : Finding) → FindsWalk IsOne f → TellsOf (finding_line name f) (NoWalk IsOne)

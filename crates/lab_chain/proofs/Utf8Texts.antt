@@ -1,7 +1,5 @@
 -- The value of a text is a string where the text is UTF-8, and else null.
-use Rattle.std.proofs.Common.{◌≡◌, ℕ, Bool, true, false, cond, List, refl, ap}
-use Rattle.std.specs.Str.{IsUtf8, is_utf8}
-use Rattle.std.proofs.lemmas.Str.{IsUtf8-from_is_utf8, is_utf8-from_IsUtf8}
+use Rattle.std.{proofs.{Common.{◌≡◌, ℕ, Bool, true, false, cond, List, refl, ap}, lemmas.Str.{IsUtf8-from_is_utf8, is_utf8-from_IsUtf8}}, specs.Str.{IsUtf8, is_utf8}}
 use Rattle.serde_json.specs.Data.{null, string}
 use Rattle.lab_chain.specs.ChainTree.{text_tree}
 

@@ -1,20 +1,11 @@
 -- The value of what is said of a run has no float, and nests no deeper than JSON is read.
-use Rattle.std.proofs.Common.{◌≡◌, ◌≤◌, ℕ, ℤ, pos, negsuc, Bool, true, false, cond, Option, Some, None, List, refl, arith}
+use Rattle.std.{proofs.Common.{◌≡◌, ◌≤◌, ℕ, ℤ, pos, negsuc, Bool, true, false, cond, Option, Some, None, List, refl, arith}, specs.Str.{is_utf8}}
 use Rattle.std.specs.FinMap as map
-use Rattle.std.specs.Str.{is_utf8}
-use Rattle.serde_json.specs.Data.{null, string, depth}
-use Rattle.serde_json.specs.Read.{max_depth}
-use Rattle.serde_json.specs.Written.{has_float}
-use Rattle.lab_table.specs.Row.{Row}
-use Rattle.lab_table.specs.Table.{Table}
+use Rattle.serde_json.specs.{Data.{null, string, depth}, Read.{max_depth}, Written.{has_float}}
+use Rattle.lab_table.specs.{Row.{Row}, Table.{Table}}
 use Rattle.lab_history_file.specs.Tree.{value_tree, pair_tree}
 use Rattle.lab_reports.proofs.WritableTree.{list_whole, list_flat}
-use Rattle.lab_chain.specs.ChainTree.{text_tree, said_tree, verdict_tree, presence_tree, phenomena_tree, rows_tree, first_tree, initial_of, last_of, chain_tree}
-use Rattle.lab_chain.specs.declared.line.Line.{Line}
-use Rattle.lab_chain.specs.declared.line.Line.TheVariants.{Clear, Unjudged, Found}
-use Rattle.lab_chain.specs.declared.summary.Ends.{Ends}
-use Rattle.lab_chain.specs.declared.summary.Lines.{Lines}
-use Rattle.lab_chain.specs.declared.summary.Summary.{Summary}
+use Rattle.lab_chain.specs.{ChainTree.{text_tree, said_tree, verdict_tree, presence_tree, phenomena_tree, rows_tree, first_tree, initial_of, last_of, chain_tree}, declared.{line.Line.{Line, TheVariants.{Clear, Unjudged, Found}}, summary.{Ends.{Ends}, Lines.{Lines}, Summary.{Summary}}}}
 
 -- ---- no float
 

@@ -1,20 +1,11 @@
 -- What was told of the first parts of a run, and then of others, is told of all of them.
 use Rattle.std.proofs.Common.{◌≡◌, ℕ, zero, suc, ◌≤◌, ◌-◌, refl, sym, ap, subst, ◌∙◌, List, [], ◌∷◌, ◌++◌, map, take, drop, Option, arith}
-use Rattle.std.specs.Prelude.{fold, max}
-use Rattle.std.specs.Io.KnownBytes.{Appends, Keeps}
+use Rattle.std.specs.{Prelude.{fold, max}, Io.KnownBytes.{Appends, Keeps}}
 use Rattle.std.proofs.KnownBytes.{Appends-nil, Appends-trans, Appends-kept}
-use Rattle.std.proofs.lemmas.List.{map-append, append-nil}
+use Rattle.std.proofs.lemmas.List.{map-append, append-nil, Concat.{flat_map-append}, Elements.{All-nil, All-append}}
 use Rattle.std.proofs.Math.Seq.{take-add}
-use Rattle.std.proofs.lemmas.List.Concat.{flat_map-append}
-use Rattle.std.proofs.lemmas.List.Elements.{All-nil, All-append}
-use Rattle.lab_chain.specs.Chain.{Part, IsPart, summary_of}
-use Rattle.lab_chain.specs.Summary.{joined, nothing}
-use Rattle.lab_chain.specs.declared.summary.Summary.{Summary}
-use Rattle.lab_chain.proofs.PartSummaries.{run_of_pieces}
-use Rattle.lab_chain_commands.specs.ChainAnswers.{AreParts, IsTold, IsBegun, IsChainAnswer, outcome_text, outcome_status, parts_text, parts_status, whole_text, whole_status}
-use Rattle.lab_chain_commands.specs.JudgedParts.{IsWindow}
-use Rattle.lab_chain_commands.specs.declared.asked.Asked.{Asked}
-use Rattle.lab_chain_commands.specs.declared.window.Window.{Window}
+use Rattle.lab_chain.{specs.{Chain.{Part, IsPart, summary_of}, Summary.{joined, nothing}, declared.summary.Summary.{Summary}}, proofs.PartSummaries.{run_of_pieces}}
+use Rattle.lab_chain_commands.specs.{ChainAnswers.{AreParts, IsTold, IsBegun, IsChainAnswer, outcome_text, outcome_status, parts_text, parts_status, whole_text, whole_status}, JudgedParts.{IsWindow}, declared.{asked.Asked.{Asked}, window.Window.{Window}}}
 
 -- ---- two lists of parts
 

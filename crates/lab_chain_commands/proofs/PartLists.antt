@@ -1,18 +1,7 @@
 -- Parts as the code has them, in a list, are parts of a run.
-use Rattle.std.proofs.Common.{◌≡◌, ℕ, refl, sym, ap, ◌∙◌, List, [], ◌∷◌, map, Ok, Result, IfOk, subst}
-use Rattle.std.specs.Prelude.{fold, max}
-use Rattle.std.specs.List.{All, AllZip, flat_map}
-use Rattle.std.proofs.lemmas.List.Elements.{All-nil, All-cons}
-use Rattle.std.proofs.lemmas.List.Folds.{fold-map, flat_map-map}
-use Rattle.lab_chain.specs.Chain.{Part, IsPart, with_part}
-use Rattle.lab_chain.specs.Summary.{nothing}
-use Rattle.lab_chain.specs.declared.summary.Summary.{Summary}
-use Rattle.lab_chain_commands.specs.ChainAnswers.{AreParts, outcome_text, outcome_status, parts_text}
-use Rattle.lab_chain_commands.specs.JudgedParts.{part_of, IsWindow}
-use Rattle.lab_chain_commands.specs.declared.asked.Asked.{Asked}
-use Rattle.lab_chain_commands.specs.declared.window.Window.{Window}
-use Rattle.lab_chain_commands.specs.declared.judged_part.Input.{Input}
-use Rattle.lab_chain_commands.specs.declared.judged_part.JudgedPart.{JudgedPart}
+use Rattle.std.{proofs.{Common.{◌≡◌, ℕ, refl, sym, ap, ◌∙◌, List, [], ◌∷◌, map, Ok, Result, IfOk, subst}, lemmas.List.{Elements.{All-nil, All-cons}, Folds.{fold-map, flat_map-map}}}, specs.{Prelude.{fold, max}, List.{All, AllZip, flat_map}}}
+use Rattle.lab_chain.specs.{Chain.{Part, IsPart, with_part}, Summary.{nothing}, declared.summary.Summary.{Summary}}
+use Rattle.lab_chain_commands.specs.{ChainAnswers.{AreParts, outcome_text, outcome_status, parts_text}, JudgedParts.{part_of, IsWindow}, declared.{asked.Asked.{Asked}, window.Window.{Window}, judged_part.{Input.{Input}, JudgedPart.{JudgedPart}}}}
 
 -- what is read becomes a part
 abbrev pub Judges : Input → JudgedPart → Type 0

@@ -1,13 +1,7 @@
 -- What files tell of a run, one after another.
-use Rattle.std.proofs.Common.{◌≡◌, ◌<◌, ◌+◌, ℕ, refl, sym, ap, ◌∙◌, List, [], ◌∷◌, ◌++◌, length, map, take, get_or, Bor, Option}
-use Rattle.std.specs.Prelude.{fold, max}
-use Rattle.std.specs.List.{All}
-use Rattle.std.proofs.lemmas.List.{map-append, append-nil, take_more}
-use Rattle.std.proofs.lemmas.List.Concat.{flat_map-append}
-use Rattle.std.proofs.lemmas.List.Elements.{All-nil, All-cons, All-append}
+use Rattle.std.{proofs.{Common.{◌≡◌, ◌<◌, ◌+◌, ℕ, refl, sym, ap, ◌∙◌, List, [], ◌∷◌, ◌++◌, length, map, take, get_or, Bor, Option}, lemmas.List.{map-append, append-nil, take_more, Concat.{flat_map-append}, Elements.{All-nil, All-cons, All-append}}}, specs.{Prelude.{fold, max}, List.{All}}}
 use Rattle.lab_chain.specs.declared.summary.Summary.{Summary}
-use Rattle.lab_chain_commands.specs.JoinAnswers.{Named, IsNamed, IsPiece, with_piece, joined_pieces, refusal_text, refusals_text, piece_status, pieces_status}
-use Rattle.lab_chain_commands.specs.declared.piece.Piece.{Piece}
+use Rattle.lab_chain_commands.specs.{JoinAnswers.{Named, IsNamed, IsPiece, with_piece, joined_pieces, refusal_text, refusals_text, piece_status, pieces_status}, declared.piece.Piece.{Piece}}
 use Rattle.lab_streams.specs.declared.reporting.Format.{Format}
 
 fold_last : {A B : Type 0} (f : B → A → B) (b : B) (xs : List A) (x : A) → fold f b (xs ++ x ∷ []) ≡ f (fold f b xs) x

@@ -1,15 +1,9 @@
 -- Names, marks of what was read, files and answers, side by side, are the parts of a batch.
-use Rattle.std.proofs.Common.{◌≡◌, ℕ, refl, sym, ap, ◌∙◌, Bool, true, false, List, [], ◌∷◌, ◌++◌, length, map, Result, Bor, arith}
-use Rattle.std.specs.Prelude.{fold, max}
-use Rattle.std.specs.List.{All, AllZip, flat_map, zip}
-use Rattle.std.proofs.lemmas.List.Elements.{All-nil, All-cons}
-use Rattle.std.proofs.lemmas.List.Folds.{fold-map, flat_map-map}
+use Rattle.std.{proofs.{Common.{◌≡◌, ℕ, refl, sym, ap, ◌∙◌, Bool, true, false, List, [], ◌∷◌, ◌++◌, length, map, Result, Bor, arith}, lemmas.List.{Elements.{All-nil, All-cons}, Folds.{fold-map, flat_map-map}}}, specs.{Prelude.{fold, max}, List.{All, AllZip, flat_map, zip}}}
 use Rattle.lab_history.specs.declared.fault.FileFault.{FileFault}
-use Rattle.lab_judge.specs.FileJudgement.{IsFileAnswer}
-use Rattle.lab_judge.specs.declared.report.Report.{Report}
+use Rattle.lab_judge.specs.{FileJudgement.{IsFileAnswer}, declared.report.Report.{Report}}
 use Rattle.lab_streams.specs.declared.reporting.Wanted.{Wanted}
-use Rattle.lab_commands.specs.Batching.{Part, IsSaid, IsBatchAnswer, name_line, input_of, said_text, part_text, part_status}
-use Rattle.lab_commands.proofs.GreatestNumbers.{folded_is_greatest}
+use Rattle.lab_commands.{specs.Batching.{Part, IsSaid, IsBatchAnswer, name_line, input_of, said_text, part_text, part_status}, proofs.GreatestNumbers.{folded_is_greatest}}
 
 abbrev pub Answer : Type 0
 Answer = Result Report FileFault

@@ -1,12 +1,8 @@
 -- What is said of some files, and then of others, is said of all of them.
 use Rattle.std.proofs.Common.{◌≡◌, ◌⊎◌, inl, inr, ℕ, ◌≤◌, refl, sym, ap, subst, ◌∙◌, List, [], ◌++◌, ◌-◌, map, take, drop, Option, arith}
-use Rattle.std.specs.Prelude.{max, Contains}
-use Rattle.std.specs.List.{All, flat_map}
-use Rattle.std.proofs.lemmas.Bool.{cases_lt}
-use Rattle.std.proofs.lemmas.List.{map-append}
+use Rattle.std.specs.{Prelude.{max, Contains}, List.{All, flat_map}}
+use Rattle.std.proofs.lemmas.{Bool.{cases_lt}, List.{map-append, Concat.{flat_map-append}, Elements.{All-nil, All-append, Contains-append_left, Contains-append_right}}}
 use Rattle.std.proofs.Math.Seq.{take-add}
-use Rattle.std.proofs.lemmas.List.Concat.{flat_map-append}
-use Rattle.std.proofs.lemmas.List.Elements.{All-nil, All-append, Contains-append_left, Contains-append_right}
 use Rattle.lab_streams.specs.declared.reporting.Wanted.{Wanted}
 use Rattle.lab_commands.specs.Batching.{Part, IsSaid, IsGreatest, IsBatchAnswer, name_line}
 

@@ -1,9 +1,5 @@
 -- The greatest of some numbers, as a walk finds it.
-use Rattle.std.proofs.Common.{◌≡◌, ◌⊎◌, inl, inr, ℕ, suc, ◌≤◌, refl, sym, subst, List, [], ◌∷◌, arith}
-use Rattle.std.specs.Prelude.{fold, max}
-use Rattle.std.specs.List.{All, Contains}
-use Rattle.std.proofs.lemmas.Bool.{cases_lt}
-use Rattle.std.proofs.lemmas.List.Elements.{All-nil, All-cons}
+use Rattle.std.{proofs.{Common.{◌≡◌, ◌⊎◌, inl, inr, ℕ, suc, ◌≤◌, refl, sym, subst, List, [], ◌∷◌, arith}, lemmas.{Bool.{cases_lt}, List.Elements.{All-nil, All-cons}}}, specs.{Prelude.{fold, max}, List.{All, Contains}}}
 use Rattle.lab_commands.specs.Batching.{IsGreatest}
 
 first : (x : ℕ) (xs : List ℕ) (n : ℕ) → n ≡ x → Contains (x ∷ xs) n

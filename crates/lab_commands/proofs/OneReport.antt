@@ -1,11 +1,8 @@
 -- Of one input `judge` says one thing.
 use Rattle.std.proofs.Common.{◌≡◌, ℕ, None, List, sym, ap, ◌∙◌}
 use Rattle.lab_history.specs.History.{History}
-use Rattle.lab_judge.specs.declared.report.Report.{Report}
-use Rattle.lab_judge.proofs.OneJudgement.{one_judgement}
-use Rattle.lab_streams.specs.Reports.{said_of, ending_due}
-use Rattle.lab_streams.specs.declared.ending.Ending.{Ending}
-use Rattle.lab_streams.specs.declared.reporting.Wanted.{Wanted}
+use Rattle.lab_judge.{specs.declared.report.Report.{Report}, proofs.OneJudgement.{one_judgement}}
+use Rattle.lab_streams.specs.{Reports.{said_of, ending_due}, declared.{ending.Ending.{Ending}, reporting.Wanted.{Wanted}}}
 use Rattle.lab_commands.specs.Judging.{IsReportOf}
 
 pub one_report : (wanted : Wanted) (h : History) (one other : List ℕ) (first again : Ending) → IsReportOf wanted h one first → IsReportOf wanted h other again → (one ≡ other) × (first ≡ again)

@@ -1,25 +1,13 @@
 -- Of one input `run` says one thing.
 use Rattle.std.proofs.Common.{◌≡◌, inl, inr, ℕ, Bool, true, false, Option, Some, None, List, ◌++◌, sym, ap, subst, ◌∙◌, arith}
-use Rattle.lab_script.specs.declared.script.Script.{Script}
-use Rattle.lab_script.proofs.FirstFault.{fault_spells_nothing}
-use Rattle.lab_script.proofs.OneFault.{one_script}
+use Rattle.lab_script.{specs.declared.script.Script.{Script}, proofs.{FirstFault.{fault_spells_nothing}, OneFault.{one_script}}}
 use Rattle.lab_history.specs.History.{History}
-use Rattle.lab_engine.specs.Log.{past_of}
-use Rattle.lab_engine.specs.Recording.{IsRecording}
-use Rattle.lab_engine.specs.RecordedLog.{RecordedLog}
-use Rattle.lab_engine.specs.declared.event.Level.{Level}
-use Rattle.lab_engine.proofs.OneRecording.{one_recording}
-use Rattle.lab_session.specs.Play.{given_lines}
-use Rattle.lab_session.proofs.OnePlay.{one_play, no_fault, one_fault}
+use Rattle.lab_engine.{specs.{Log.{past_of}, Recording.{IsRecording}, RecordedLog.{RecordedLog}, declared.event.Level.{Level}}, proofs.OneRecording.{one_recording}}
+use Rattle.lab_session.{specs.Play.{given_lines}, proofs.OnePlay.{one_play, no_fault, one_fault}}
 use Rattle.lab_judge.proofs.OneJudgement.{one_judgement}
 use Rattle.lab_reports.specs.declared.requirement.Requirement.{Requirement}
-use Rattle.lab_streams.specs.Reports.{said_of, ending_due}
-use Rattle.lab_streams.specs.declared.reporting.Wanted.{Wanted}
-use Rattle.lab_commands.specs.Playing.{IsScriptedPlay, IsScriptedRefusal, Ends, log_said, IsLogAnswer, IsHistoryAnswer, IsRecordingAnswer, IsPlayed, IsUnplayed, IsRunAnswer}
-use Rattle.lab_commands.specs.Refusals.{play_refused_text}
-use Rattle.lab_streams.specs.declared.ending.Ending.{Ending}
-use Rattle.lab_commands.proofs.OneTranscript.{one_refusal}
-use Rattle.lab_commands.specs.declared.shown.Shown.{Shown}
+use Rattle.lab_streams.specs.{Reports.{said_of, ending_due}, declared.{reporting.Wanted.{Wanted}, ending.Ending.{Ending}}}
+use Rattle.lab_commands.{specs.{Playing.{IsScriptedPlay, IsScriptedRefusal, Ends, log_said, IsLogAnswer, IsHistoryAnswer, IsRecordingAnswer, IsPlayed, IsUnplayed, IsRunAnswer}, Refusals.{play_refused_text}, declared.shown.Shown.{Shown}}, proofs.OneTranscript.{one_refusal}}
 use Rattle.lab_commands.specs.declared.shown.Shown.TheVariants as shown
 
 -- recordings whose parts are the same are one

@@ -1,14 +1,9 @@
 -- Of one input `serial` says one thing.
 use Rattle.std.proofs.Common.{◌≡◌, inl, inr, ℕ, List, sym, ap, ◌∙◌}
 use Rattle.lab_statement.specs.declared.fault.ScriptFault.TheVariants as fault
-use Rattle.lab_script.specs.Transcript.{transcript}
-use Rattle.lab_script.proofs.FirstFault.{fault_spells_nothing}
-use Rattle.lab_script.proofs.OneFault.{one_fault, one_script}
-use Rattle.lab_commands.specs.Refusals.{script_refused_text, IsRefused}
-use Rattle.lab_commands.specs.Serial.{IsSerialAnswer}
-use Rattle.lab_streams.specs.declared.ending.Ending.{Ending}
-use Rattle.lab_streams.specs.declared.reporting.Format.{Format}
-use Rattle.lab_streams.specs.declared.reporting.Format.TheVariants.{Lines}
+use Rattle.lab_script.{specs.Transcript.{transcript}, proofs.{FirstFault.{fault_spells_nothing}, OneFault.{one_fault, one_script}}}
+use Rattle.lab_commands.specs.{Refusals.{script_refused_text, IsRefused}, Serial.{IsSerialAnswer}}
+use Rattle.lab_streams.specs.declared.{ending.Ending.{Ending}, reporting.Format.{Format, TheVariants.{Lines}}}
 
 pub one_refusal : (format : Format) (input one other : List ℕ) (first again : Ending) → IsRefused format input one first → IsRefused format input other again → (one ≡ other) × (first ≡ again)
 one_refusal format input one other first again r s =

@@ -1,14 +1,7 @@
 -- Rows put into states one after another, and a row removed.
-use Rattle.std.proofs.Common.{◌≡◌, ℤ, Bool, true, false, cond, T, List, [], ◌∷◌, Some, None, refl, sym, ap, ◌∙◌, subst}
-use Rattle.std.specs.Prelude.{filter, not}
+use Rattle.std.{proofs.Common.{◌≡◌, ℤ, Bool, true, false, cond, T, List, [], ◌∷◌, Some, None, refl, sym, ap, ◌∙◌, subst}, specs.{Prelude.{filter, not}, FinMap.{find, is_sorted, Entries.{below_all}}}}
 use Rattle.std.specs.FinMap as map
-use Rattle.std.specs.FinMap.{find, is_sorted}
-use Rattle.std.specs.FinMap.Entries.{below_all}
-use Rattle.lab_table.specs.Row.{Row, row_cmp, row_eq, row_test, rows_total, rows_tested}
-use Rattle.lab_table.specs.Table.{State, Table, Writes, put, overwritten}
-use Rattle.lab_table.proofs.KeptRows.{sorted-filter}
-use Rattle.lab_table.proofs.Maps.{same_row, same_rows, find_below, find-filter, kept, state_after, get-put, get-overwritten}
-use Rattle.lab_table.proofs.Tests.{both}
+use Rattle.lab_table.{specs.{Row.{Row, row_cmp, row_eq, row_test, rows_total, rows_tested}, Table.{State, Table, Writes, put, overwritten}}, proofs.{KeptRows.{sorted-filter}, Maps.{same_row, same_rows, find_below, find-filter, kept, state_after, get-put, get-overwritten}, Tests.{both}}}
 use Rattle.lab_commands.specs.Overwriting.{put_each}
 
 -- each row has the one state that it is put into, where the rows rise strictly

@@ -2,13 +2,9 @@
 use Rattle.std.proofs.Common.{◌≡◌, ◌≢◌, inl, inr, List, [], ◌∷◌}
 use Rattle.lab_script.specs.declared.script.Script.{Script}
 use Rattle.lab_engine.specs.declared.event.Level.{Level}
-use Rattle.lab_session.specs.Play.{given_lines}
-use Rattle.lab_session.specs.declared.fault.PlayFault.{PlayFault}
-use Rattle.lab_session.specs.declared.fault.PlayFault.TheVariants.{NoMemory}
-use Rattle.lab_session.proofs.OnePlay.{no_fault, one_fault}
+use Rattle.lab_session.{specs.{Play.{given_lines}, declared.fault.PlayFault.{PlayFault, TheVariants.{NoMemory}}}, proofs.OnePlay.{no_fault, one_fault}}
 use Rattle.lab_commands.specs.Playing.{IsScriptedRefusal}
-use Rattle.lab_compare.specs.Answer.{IsSide, AreSides, HasPlay, IsFirstRefusal}
-use Rattle.lab_compare.specs.declared.side.Side.{Side}
+use Rattle.lab_compare.specs.{Answer.{IsSide, AreSides, HasPlay, IsFirstRefusal}, declared.side.Side.{Side}}
 
 -- a side has its play
 pub side_play : (level : Level) (script : Script) (side : Side) → IsSide level script side → HasPlay level script

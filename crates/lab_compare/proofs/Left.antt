@@ -1,10 +1,7 @@
 -- What sessions have left behind their places.
-use Rattle.std.proofs.Common.{◌≡◌, ℕ, zero, suc, ◌+◌, ◌-◌, Bool, true, false, Some, List, length, drop, length-drop, refl, sym, ap, ◌∙◌, arith}
-use Rattle.std.specs.Prelude.{◌==◌, cond, min, replicate, slice_get, unwrap_or}
-use Rattle.std.proofs.lemmas.List.{drop-drop, drop_min}
+use Rattle.std.{proofs.{Common.{◌≡◌, ℕ, zero, suc, ◌+◌, ◌-◌, Bool, true, false, Some, List, length, drop, length-drop, refl, sym, ap, ◌∙◌, arith}, lemmas.List.{drop-drop, drop_min}}, specs.Prelude.{◌==◌, cond, min, replicate, slice_get, unwrap_or}}
 use Rattle.lab_table.specs.Sessions.{of_session}
-use Rattle.lab_compare.specs.Cells.{answer_place, left_by, left_after, left_behind}
-use Rattle.lab_compare.specs.declared.told.ToldEvent.{ToldEvent}
+use Rattle.lab_compare.specs.{Cells.{answer_place, left_by, left_after, left_behind}, declared.told.ToldEvent.{ToldEvent}}
 
 -- what a session has left at its place
 pub left_at : (told : List ToldEvent) (places : List ℕ) (session place begin : ℕ) → of_session places session ≡ Some place → begin ≡ min place (length told)

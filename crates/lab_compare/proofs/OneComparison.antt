@@ -1,20 +1,12 @@
 -- Of one input `compare` says one thing.
 use Rattle.std.proofs.Common.{◌≡◌, inl, inr, ℕ, List, [], ◌∷◌, refl, sym, ap, subst, ◌∙◌}
-use Rattle.lab_script.specs.declared.script.Script.{Script}
-use Rattle.lab_script.proofs.FirstFault.{fault_spells_nothing}
-use Rattle.lab_script.proofs.OneFault.{one_script}
+use Rattle.lab_script.{specs.declared.script.Script.{Script}, proofs.{FirstFault.{fault_spells_nothing}, OneFault.{one_script}}}
 use Rattle.lab_engine.specs.declared.event.Level.{Level}
 use Rattle.lab_session.specs.PlayFaultText.{play_fault_text}
-use Rattle.lab_judge.specs.Judgement.{IsExactJudgement}
-use Rattle.lab_judge.proofs.OneJudgement.{one_judgement}
-use Rattle.lab_streams.specs.declared.ending.Ending.{Ending}
-use Rattle.lab_streams.specs.declared.reporting.Format.TheVariants.{Lines}
-use Rattle.lab_commands.proofs.OneRun.{one_recorded}
-use Rattle.lab_commands.proofs.OneTranscript.{one_refusal}
-use Rattle.lab_compare.specs.Answer.{IsSide, AreSides, IsCompared, IsFirstRefusal, IsUncompared, IsCompareAnswer}
-use Rattle.lab_compare.specs.Comparison.{side_of, comparison_text}
-use Rattle.lab_compare.specs.declared.side.Side.{Side}
-use Rattle.lab_compare.proofs.FirstRefusals.{none_refused, fault_unique}
+use Rattle.lab_judge.{specs.Judgement.{IsExactJudgement}, proofs.OneJudgement.{one_judgement}}
+use Rattle.lab_streams.specs.declared.{ending.Ending.{Ending}, reporting.Format.TheVariants.{Lines}}
+use Rattle.lab_commands.proofs.{OneRun.{one_recorded}, OneTranscript.{one_refusal}}
+use Rattle.lab_compare.{specs.{Answer.{IsSide, AreSides, IsCompared, IsFirstRefusal, IsUncompared, IsCompareAnswer}, Comparison.{side_of, comparison_text}, declared.side.Side.{Side}}, proofs.FirstRefusals.{none_refused, fault_unique}}
 
 -- a play has one side
 side_unique : (at : Level) (script : Script) (s t : Side) → IsSide at script s → IsSide at script t → s ≡ t

@@ -1,16 +1,7 @@
 -- What is tested of sides that tell the same.
-use Rattle.std.proofs.Common.{◌≡◌, ℤ, true, refl, ap, subst}
-use Rattle.std.specs.Prelude.{◌&&◌}
-use Rattle.std.specs.Bool.{Decides}
-use Rattle.std.specs.Ordering.{int_eq}
-use Rattle.std.proofs.lemmas.Bool.Decides.{Decides-and, Decides-int_eq, Decides-like}
-use Rattle.std.proofs.lemmas.Slice.Eq.{bytes_eq-Decides, slice_eq-Decides}
-use Rattle.lab_table.specs.Row.{Row, row_test}
-use Rattle.lab_table.proofs.Maps.{tested_same, tests_itself}
-use Rattle.lab_compare.specs.Alike.{TellSame, alike}
-use Rattle.lab_compare.specs.declared.side.Side.{Side}
-use Rattle.lab_compare.specs.declared.side.Topic.{Topic}
-use Rattle.lab_compare.specs.declared.side.Topic.TheVariants.{Answer, Rows, End, Explained}
+use Rattle.std.{proofs.{Common.{◌≡◌, ℤ, true, refl, ap, subst}, lemmas.{Bool.Decides.{Decides-and, Decides-int_eq, Decides-like}, Slice.Eq.{bytes_eq-Decides, slice_eq-Decides}}}, specs.{Prelude.{◌&&◌}, Bool.{Decides}, Ordering.{int_eq}}}
+use Rattle.lab_table.{specs.Row.{Row, row_test}, proofs.Maps.{tested_same, tests_itself}}
+use Rattle.lab_compare.specs.{Alike.{TellSame, alike}, declared.side.{Side.{Side}, Topic.{Topic, TheVariants.{Answer, Rows, End, Explained}}}}
 
 row_Decides : (a b : Row) → Decides (row_test a b) (a ≡ b)
 row_Decides a b = (tested_same a b, λ same. subst (λ row. row_test a row ≡ true) same (tests_itself a))

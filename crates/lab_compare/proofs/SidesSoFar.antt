@@ -1,13 +1,10 @@
 -- The sides of the first of some levels, and what of the levels left is said of all.
-use Rattle.std.proofs.Common.{◌≡◌, inl, inr, List, [], ◌∷◌, ◌++◌, sym, ap, ◌∙◌, subst}
-use Rattle.std.proofs.lemmas.List.{append_assoc, append-nil}
+use Rattle.std.proofs.{Common.{◌≡◌, inl, inr, List, [], ◌∷◌, ◌++◌, sym, ap, ◌∙◌, subst}, lemmas.List.{append_assoc, append-nil}}
 use Rattle.lab_script.specs.declared.script.Script.{Script}
 use Rattle.lab_engine.specs.declared.event.Level.{Level}
 use Rattle.lab_session.specs.declared.fault.PlayFault.{PlayFault}
 use Rattle.lab_commands.specs.Playing.{IsScriptedRefusal}
-use Rattle.lab_compare.specs.Answer.{IsSide, AreSides, IsFirstRefusal}
-use Rattle.lab_compare.specs.declared.side.Side.{Side}
-use Rattle.lab_compare.proofs.FirstRefusals.{side_play}
+use Rattle.lab_compare.{specs.{Answer.{IsSide, AreSides, IsFirstRefusal}, declared.side.Side.{Side}}, proofs.FirstRefusals.{side_play}}
 
 -- the sides so far and those of the levels left are the sides of all, and a first refusal of those left is the first of all
 pub record SoFar (script : Script) (levels left : List Level) (sides : List Side) : Type 0 where

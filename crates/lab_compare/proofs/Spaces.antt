@@ -1,6 +1,5 @@
 -- Spaces, one by one.
-use Rattle.std.proofs.Common.{◌≡◌, ℕ, suc, ◌+◌, ◌-◌, ◌<◌, List, [], ◌∷◌, ◌++◌, sym, ap, ◌∙◌, arith}
-use Rattle.std.proofs.lemmas.List.{append_assoc}
+use Rattle.std.proofs.{Common.{◌≡◌, ℕ, suc, ◌+◌, ◌-◌, ◌<◌, List, [], ◌∷◌, ◌++◌, sym, ap, ◌∙◌, arith}, lemmas.List.{append_assoc}}
 use Rattle.lab_matrix.specs.MatrixText.{spaces}
 
 -- the spaces up to a width are the next one and those behind it

@@ -1,12 +1,9 @@
 -- What is told of a log, event by event.
-use Rattle.std.proofs.Common.{◌≡◌, List, [], ◌∷◌, ◌++◌, sym, ap, ◌∙◌}
-use Rattle.std.proofs.lemmas.List.{append_assoc}
+use Rattle.std.proofs.{Common.{◌≡◌, List, [], ◌∷◌, ◌++◌, sym, ap, ◌∙◌}, lemmas.List.{append_assoc}}
 use Rattle.lab_history.specs.History.{History}
 use Rattle.lab_engine.specs.declared.event.LogEvent.{LogEvent}
-use Rattle.lab_commands.specs.CommittedRows.{standing_after}
-use Rattle.lab_commands.specs.declared.standing.Standing.{Standing}
-use Rattle.lab_compare.specs.Told.{told_of, told_each}
-use Rattle.lab_compare.specs.declared.told.ToldEvent.{ToldEvent}
+use Rattle.lab_commands.specs.{CommittedRows.{standing_after}, declared.standing.Standing.{Standing}}
+use Rattle.lab_compare.specs.{Told.{told_of, told_each}, declared.told.ToldEvent.{ToldEvent}}
 
 -- where what is told of the next event is put behind what was told, that and what is told of the events left are still the whole
 pub told_next : (h : History) (so_far more whole : List ToldEvent) (before after : Standing) (event : LogEvent) (left log : List LogEvent) (one : ToldEvent)

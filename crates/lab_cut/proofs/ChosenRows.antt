@@ -1,8 +1,5 @@
 -- Rows that are chosen, noted one after the other.
-use Rattle.std.proofs.Common.{◌≡◌, Bool, true, false, cond, ◌||◌, List, ◌∷◌, Option, Some, refl, sym, ap, ◌∙◌}
-use Rattle.std.specs.Prelude.{is_some}
-use Rattle.std.specs.List.{list_any}
-use Rattle.std.specs.FinMap.{FinMap, get, insert, get-insert}
+use Rattle.std.{proofs.Common.{◌≡◌, Bool, true, false, cond, ◌||◌, List, ◌∷◌, Option, Some, refl, sym, ap, ◌∙◌}, specs.{Prelude.{is_some}, List.{list_any}, FinMap.{FinMap, get, insert, get-insert}}}
 use Rattle.lab_table.specs.Row.{Row, row_cmp, row_eq, rows_total}
 
 -- either test, in another order

@@ -1,26 +1,14 @@
 -- What is cut out of a history is a part of it.
-use Rattle.std.proofs.Common.{◌≡◌, ℕ, ℤ, Bool, true, false, cond, List, [], ◌∷◌, Option, Some, None, refl, sym, ap, ◌∙◌, subst}
-use Rattle.std.specs.Prelude.{option_map, option_and_then, unwrap_or, nat_eq, not, slice_get, length, ◌-◌}
-use Rattle.std.specs.Option.{option_eq}
+use Rattle.std.{proofs.{Common.{◌≡◌, ℕ, ℤ, Bool, true, false, cond, List, [], ◌∷◌, Option, Some, None, refl, sym, ap, ◌∙◌, subst}, lemmas.Option.{same_Some, none-some}}, specs.{Prelude.{option_map, option_and_then, unwrap_or, nat_eq, not, slice_get, length, ◌-◌}, Option.{option_eq}}}
 use Rattle.std.specs.FinMap as map
-use Rattle.std.proofs.lemmas.Option.{same_Some, none-some}
-use Rattle.lab_table.specs.Row.{Row, row_cmp}
-use Rattle.lab_table.specs.Table.{State, Table, Writes, overwritten}
-use Rattle.lab_table.proofs.Maps.{state_after, get-overwritten}
-use Rattle.lab_history.specs.History.{History}
-use Rattle.lab_history.specs.HistoryRules.{Keeps}
-use Rattle.lab_history.specs.Version.{installers, ops_of, last_write}
+use Rattle.lab_table.{specs.{Row.{Row, row_cmp}, Table.{State, Table, Writes, overwritten}}, proofs.Maps.{state_after, get-overwritten}}
+use Rattle.lab_history.specs.{History.{History}, HistoryRules.{Keeps}, Version.{installers, ops_of, last_write}}
 use Rattle.lab_cut.specs.PartOf.{IsSublist, HasState, initial, in_the_end, IsPartOf}
 use Rattle.lab_cut.specs.Kept.{last_given, all_kept, last_left}
 use Rattle.lab_cut.specs.Cut.{if_any, last_of_front, state_by, goes, staying, left_list, left_installed, last_staying, base, bases, left_initial, end_after, end_by, new_end, new_ends, left_end, cut}
 use Rattle.lab_cut.specs.MadeEntries.{made_entries}
 use Rattle.lab_cut.specs.declared.kept.Kept.{Kept}
-use Rattle.lab_cut.proofs.Sublists.{passing}
-use Rattle.lab_cut.proofs.MadeEntries.{made_sorted, find_made}
-use Rattle.lab_cut.proofs.NewNumbers.{LeadBack}
-use Rattle.lab_cut.proofs.KeptTxns.{kept_of_each, given_leads_back}
-use Rattle.lab_cut.proofs.CutTxns.{number, txns_back}
-use Rattle.lab_cut.proofs.FoundStates.{state_had}
+use Rattle.lab_cut.proofs.{Sublists.{passing}, MadeEntries.{made_sorted, find_made}, NewNumbers.{LeadBack}, KeptTxns.{kept_of_each, given_leads_back}, CutTxns.{number, txns_back}, FoundStates.{state_had}}
 
 -- a row has in made entries what is made of its own
 pub get_made : {U V : Type 0} (make : Row → U → Option V) (m : map.FinMap row_cmp U) (row : Row)

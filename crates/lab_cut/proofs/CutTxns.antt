@@ -1,27 +1,16 @@
 -- The transactions of a cut are parts of the whole's.
-use Rattle.std.proofs.Common.{◌≡◌, inl, ℕ, zero, suc, ◌+◌, ◌≤◌, Bool, true, false, cond, List, [], ◌∷◌, map, length, Option, Some, None, refl, sym, ap, ◌∙◌, subst, arith, add-one, zero-add, eq-eqb, ne_eqb}
-use Rattle.std.specs.Prelude.{option_and_then, unwrap_or, drop, slice_get}
-use Rattle.std.specs.List.{cons_option}
+use Rattle.std.proofs.{Common.{◌≡◌, inl, ℕ, zero, suc, ◌+◌, ◌≤◌, Bool, true, false, cond, List, [], ◌∷◌, map, length, Option, Some, None, refl, sym, ap, ◌∙◌, subst, arith, add-one, zero-add, eq-eqb, ne_eqb}, lemmas.Option.{same_Some, none-some}}
+use Rattle.std.specs.{Prelude.{option_and_then, unwrap_or, drop, slice_get}, List.{cons_option}}
 use Rattle.std.specs.FinMap as finite
-use Rattle.std.proofs.lemmas.Option.{same_Some, none-some}
-use Rattle.lab_table.specs.Row.{Row, row_cmp}
-use Rattle.lab_table.proofs.Tests.{mapped_some}
-use Rattle.lab_history.specs.Version.{place_in}
-use Rattle.lab_history.specs.VersionName.{View}
-use Rattle.lab_history.specs.declared.transaction.Txn.{Txn}
-use Rattle.lab_history.specs.declared.operation.Op.{Op}
-use Rattle.lab_history.specs.declared.operation.VersionName.{VersionName}
-use Rattle.lab_history.specs.declared.operation.VersionName.TheVariants.{Initial, Of}
+use Rattle.lab_table.{specs.Row.{Row, row_cmp}, proofs.Tests.{mapped_some}}
+use Rattle.lab_history.specs.{Version.{place_in}, VersionName.{View}, declared.{transaction.Txn.{Txn}, operation.{Op.{Op}, VersionName.{VersionName, TheVariants.{Initial, Of}}}}}
 use Rattle.lab_cut.specs.PartOf.{IsSublistBy, numbered, named_in_whole, IsOpPart, IsOpAt, IsTxnPart}
 use Rattle.lab_cut.specs.Left.{next_kept, left_of}
 use Rattle.lab_cut.specs.Kept.{kept_of, new_numbers, number_at, number_of}
 use Rattle.lab_cut.specs.Cut.{number_after, renamed, left_view, left_op, txn_of, left_txns}
 use Rattle.lab_cut.specs.MadeEntries.{made_entries}
 use Rattle.lab_cut.specs.declared.kept.Kept.{Kept}
-use Rattle.lab_cut.proofs.Sublists.{skipped}
-use Rattle.lab_cut.proofs.MadeEntries.{made_sorted, find_made}
-use Rattle.lab_cut.proofs.NewNumbers.{LeadBack, place_behind, place_first, placed_above}
-use Rattle.lab_cut.proofs.KeptTxns.{AllKept}
+use Rattle.lab_cut.proofs.{Sublists.{skipped}, MadeEntries.{made_sorted, find_made}, NewNumbers.{LeadBack, place_behind, place_first, placed_above}, KeptTxns.{AllKept}}
 
 -- the number that an operation had, by what is kept of its transaction
 abbrev pub old_number : ℕ → Option Kept → ℕ

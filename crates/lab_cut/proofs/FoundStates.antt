@@ -1,16 +1,8 @@
 -- States that are found in a history are states that its rows have.
-use Rattle.std.proofs.Common.{◌≡◌, ℕ, zero, suc, ℤ, Bool, true, false, cond, ◌==◌, List, [], ◌∷◌, Option, Some, None, refl, ap, ◌∙◌, subst}
-use Rattle.std.specs.Prelude.{Contains, option_and_then, unwrap_or}
-use Rattle.std.proofs.lemmas.Option.{same_Some, none-some}
-use Rattle.lab_table.specs.Row.{Row}
-use Rattle.lab_table.proofs.Members.{first_member, later_member, member_at}
-use Rattle.lab_history.specs.History.{History}
-use Rattle.lab_history.specs.Version.{find_txn, ops_in, op_at, new_state, version_state}
-use Rattle.lab_history.specs.declared.operation.Op.{Op}
-use Rattle.lab_history.specs.declared.operation.VersionName.TheVariants.{Of}
-use Rattle.lab_history.specs.declared.transaction.Txn.{Txn}
-use Rattle.lab_cut.specs.PartOf.{HasState, written}
-use Rattle.lab_cut.specs.Cut.{state_by}
+use Rattle.std.{proofs.{Common.{◌≡◌, ℕ, zero, suc, ℤ, Bool, true, false, cond, ◌==◌, List, [], ◌∷◌, Option, Some, None, refl, ap, ◌∙◌, subst}, lemmas.Option.{same_Some, none-some}}, specs.Prelude.{Contains, option_and_then, unwrap_or}}
+use Rattle.lab_table.{specs.Row.{Row}, proofs.Members.{first_member, later_member, member_at}}
+use Rattle.lab_history.specs.{History.{History}, Version.{find_txn, ops_in, op_at, new_state, version_state}, declared.{operation.{Op.{Op}, VersionName.TheVariants.{Of}}, transaction.Txn.{Txn}}}
+use Rattle.lab_cut.specs.{PartOf.{HasState, written}, Cut.{state_by}}
 
 -- a transaction that is found by its number is one of them
 txn_there : (ts : List Txn) (n : ℕ) (t : Txn) → find_txn ts n ≡ Some t → Contains ts t

@@ -1,12 +1,8 @@
 -- One more operation, of which a mask says whether it is kept.
-use Rattle.std.proofs.Common.{◌≡◌, ℕ, ◌+◌, ◌<◌, ◌≤◌, Bool, true, false, cond, List, [], ◌∷◌, ◌++◌, length, drop, get_or, refl, sym, ap, ◌∙◌, subst, append_assoc, arith}
-use Rattle.std.specs.FinMap.{FinMap, entries}
+use Rattle.std.{proofs.Common.{◌≡◌, ℕ, ◌+◌, ◌<◌, ◌≤◌, Bool, true, false, cond, List, [], ◌∷◌, ◌++◌, length, drop, get_or, refl, sym, ap, ◌∙◌, subst, append_assoc, arith}, specs.FinMap.{FinMap, entries}}
 use Rattle.lab_table.specs.Row.{row_cmp}
 use Rattle.lab_history.specs.declared.operation.Op.{Op}
-use Rattle.lab_cut.specs.PartOf.{numbered}
-use Rattle.lab_cut.specs.Left.{next_kept, left_of}
-use Rattle.lab_cut.specs.Kept.{new_numbers, with_writes, last_writes}
-use Rattle.lab_cut.proofs.OneMore.{from_member}
+use Rattle.lab_cut.{specs.{PartOf.{numbered}, Left.{next_kept, left_of}, Kept.{new_numbers, with_writes, last_writes}}, proofs.OneMore.{from_member}}
 
 -- its new number
 pub one_number : {A : Type 0} (mask next : List Bool) (kept : Bool) (xs : List A) (i : ℕ) (x : A) (last count : ℕ) (numbers new whole : List ℕ)

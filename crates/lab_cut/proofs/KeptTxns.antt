@@ -1,14 +1,8 @@
 -- What a mask of all operations keeps of each transaction.
-use Rattle.std.proofs.Common.{◌≡◌, ℕ, Bool, true, false, cond, ◌==◌, ◌||◌, List, [], ◌∷◌, map, length, Option, Some, refl, sym, ap, ◌∙◌, subst, eq-eqb}
-use Rattle.std.specs.Prelude.{drop}
-use Rattle.std.specs.List.{list_any}
-use Rattle.std.proofs.lemmas.Option.{same_Some}
+use Rattle.std.{proofs.{Common.{◌≡◌, ℕ, Bool, true, false, cond, ◌==◌, ◌||◌, List, [], ◌∷◌, map, length, Option, Some, refl, sym, ap, ◌∙◌, subst, eq-eqb}, lemmas.Option.{same_Some}}, specs.{Prelude.{drop}, List.{list_any}}}
 use Rattle.lab_table.proofs.Tests.{true_and_false}
-use Rattle.lab_history.specs.HistoryRules.{AllDistinct}
-use Rattle.lab_history.specs.declared.transaction.Txn.{Txn}
-use Rattle.lab_cut.specs.Kept.{kept_of, all_kept, last_given}
-use Rattle.lab_cut.specs.declared.kept.Kept.{Kept}
-use Rattle.lab_cut.proofs.NewNumbers.{LeadBack, lead_back}
+use Rattle.lab_history.specs.{HistoryRules.{AllDistinct}, declared.transaction.Txn.{Txn}}
+use Rattle.lab_cut.{specs.{Kept.{kept_of, all_kept, last_given}, declared.kept.Kept.{Kept}}, proofs.NewNumbers.{LeadBack, lead_back}}
 
 -- of each transaction is kept what a mask of all operations keeps
 abbrev pub AllKept : (ℕ → Option Kept) → List Bool → List Txn → Type 0

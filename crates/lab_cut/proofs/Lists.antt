@@ -1,8 +1,7 @@
 -- Lists that have a member, and those that have none.
 use Rattle.std.proofs.Common.{◌≡◌, ℕ, true, false, ◌==◌, List, [], ◌∷◌, length, Some, None, refl, eqb-true, arith}
 use Rattle.lab_table.proofs.Tests.{true_and_false}
-use Rattle.lab_history.specs.declared.operation.Op.{Op}
-use Rattle.lab_history.specs.declared.transaction.Outcome.{Outcome}
+use Rattle.lab_history.specs.declared.{operation.Op.{Op}, transaction.Outcome.{Outcome}}
 use Rattle.lab_cut.specs.Cut.{txn_of, if_any}
 
 pub no_installer : (ns : List ℕ) → (length ns == 0) ≡ true → if_any ns ≡ None

@@ -1,15 +1,8 @@
 -- Entries that are made of sorted ones, and those that a mask leaves of them.
-use Rattle.std.proofs.Common.{◌≡◌, Bool, true, false, cond, T, List, [], ◌∷◌, Option, Some, None, refl, sym, ap, ◌∙◌, subst}
-use Rattle.std.specs.Prelude.{option_and_then, drop}
-use Rattle.std.specs.Ordering.{is_lt}
-use Rattle.std.specs.FinMap.{FinMap, find, is_sorted, entries, entries_sorted}
-use Rattle.std.specs.FinMap.Entries.{below_all, where_key, is_sorted-where_key}
-use Rattle.std.proofs.lemmas.Option.{none-some}
-use Rattle.lab_table.specs.Row.{Row, row_cmp, row_eq}
-use Rattle.lab_table.proofs.Maps.{same_row, find_below}
-use Rattle.lab_table.proofs.Tests.{both, joined}
-use Rattle.lab_cut.specs.Left.{next_kept, left_of}
-use Rattle.lab_cut.specs.MadeEntries.{with_value, made_entries}
+use Rattle.std.proofs.{Common.{◌≡◌, Bool, true, false, cond, T, List, [], ◌∷◌, Option, Some, None, refl, sym, ap, ◌∙◌, subst}, lemmas.Option.{none-some}}
+use Rattle.std.specs.{Prelude.{option_and_then, drop}, Ordering.{is_lt}, FinMap.{FinMap, find, is_sorted, entries, entries_sorted, Entries.{below_all, where_key, is_sorted-where_key}}}
+use Rattle.lab_table.{specs.Row.{Row, row_cmp, row_eq}, proofs.{Maps.{same_row, find_below}, Tests.{both, joined}}}
+use Rattle.lab_cut.specs.{Left.{next_kept, left_of}, MadeEntries.{with_value, made_entries}}
 
 module _ {U V : Type 0} (make : Row → U → Option V) where
   below_made : (x : Row) (es : List (Row × U)) → T (below_all row_cmp x es) → T (below_all row_cmp x (made_entries make es))

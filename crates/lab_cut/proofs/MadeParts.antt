@@ -1,8 +1,5 @@
 -- What holds of the history that is made of parts.
-use Rattle.std.proofs.Common.{◌≡◌, Result, Option, sym, subst}
-use Rattle.std.specs.Prelude.{IfOk, IfSome}
-use Rattle.std.proofs.lemmas.Option.{IfSome_then}
-use Rattle.std.proofs.lemmas.Result.{IfOk-weaker}
+use Rattle.std.{proofs.{Common.{◌≡◌, Result, Option, sym, subst}, lemmas.{Option.{IfSome_then}, Result.{IfOk-weaker}}}, specs.Prelude.{IfOk, IfSome}}
 use Rattle.lab_history.specs.History.{History}
 
 -- what holds of the parts holds of the history

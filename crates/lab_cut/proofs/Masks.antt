@@ -1,13 +1,7 @@
 -- What masks leave of lists.
-use Rattle.std.proofs.Common.{◌≡◌, ℕ, Bool, true, false, cond, Option, List, [], ◌∷◌, map, length, refl, sym, ap, ◌∙◌}
-use Rattle.std.specs.Prelude.{drop}
-use Rattle.std.specs.List.{cons_option}
-use Rattle.lab_history.specs.declared.operation.Op.{Op}
-use Rattle.lab_history.specs.declared.transaction.Outcome.{Outcome}
-use Rattle.lab_history.specs.declared.transaction.Txn.{Txn}
-use Rattle.lab_cut.specs.Left.{next_kept, left_of, statements, with_statements, left_statements}
-use Rattle.lab_cut.specs.declared.kept.Kept.{Kept}
-use Rattle.lab_cut.specs.Cut.{left_op, txn_of, left_txns}
+use Rattle.std.{proofs.Common.{◌≡◌, ℕ, Bool, true, false, cond, Option, List, [], ◌∷◌, map, length, refl, sym, ap, ◌∙◌}, specs.{Prelude.{drop}, List.{cons_option}}}
+use Rattle.lab_history.specs.declared.{operation.Op.{Op}, transaction.{Outcome.{Outcome}, Txn.{Txn}}}
+use Rattle.lab_cut.specs.{Left.{next_kept, left_of, statements, with_statements, left_statements}, declared.kept.Kept.{Kept}, Cut.{left_op, txn_of, left_txns}}
 
 -- what is made of the members that are left
 pub left_of-map : {A B : Type 0} (f : A → B) (mask : List Bool) (xs : List A) → left_of mask (map f xs) ≡ map f (left_of mask xs)

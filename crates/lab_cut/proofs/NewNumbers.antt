@@ -1,11 +1,7 @@
 -- New numbers of members that a mask keeps.
-use Rattle.std.proofs.Common.{◌≡◌, ℕ, zero, suc, ◌+◌, ◌≤◌, ◌<◌, Bool, true, false, cond, List, [], ◌∷◌, length, Some, None, refl, sym, ap, ◌∙◌, arith, ne_eqb, eq-eqb}
-use Rattle.std.specs.Prelude.{option_map, drop, slice_get}
-use Rattle.std.proofs.lemmas.Option.{same_Some, none-some}
-use Rattle.lab_history.specs.Version.{place_in}
-use Rattle.lab_history.proofs.Greatest.{place_is_least}
-use Rattle.lab_cut.specs.Left.{next_kept}
-use Rattle.lab_cut.specs.Kept.{new_numbers}
+use Rattle.std.{proofs.{Common.{◌≡◌, ℕ, zero, suc, ◌+◌, ◌≤◌, ◌<◌, Bool, true, false, cond, List, [], ◌∷◌, length, Some, None, refl, sym, ap, ◌∙◌, arith, ne_eqb, eq-eqb}, lemmas.Option.{same_Some, none-some}}, specs.Prelude.{option_map, drop, slice_get}}
+use Rattle.lab_history.{specs.Version.{place_in}, proofs.Greatest.{place_is_least}}
+use Rattle.lab_cut.specs.{Left.{next_kept}, Kept.{new_numbers}}
 
 -- numbers that lead back: each that isn't 0 stands once, and none is above how many there are
 pub record LeadBack (numbers : List ℕ) : Type 0 where

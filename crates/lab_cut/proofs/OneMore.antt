@@ -1,8 +1,6 @@
 -- One more member of a list, in a loop that makes another list.
-use Rattle.std.proofs.Common.{◌≡◌, ℕ, ◌+◌, ◌<◌, Bool, true, false, cond, Option, Some, None, List, [], ◌∷◌, ◌++◌, map, length, drop, get_or, refl, sym, ap, ◌∙◌, append_assoc}
-use Rattle.std.proofs.lemmas.List.{drop_more}
-use Rattle.lab_cut.specs.Left.{next_kept, left_of}
-use Rattle.lab_cut.specs.MadeEntries.{with_value, made_entries}
+use Rattle.std.proofs.{Common.{◌≡◌, ℕ, ◌+◌, ◌<◌, Bool, true, false, cond, Option, Some, None, List, [], ◌∷◌, ◌++◌, map, length, drop, get_or, refl, sym, ap, ◌∙◌, append_assoc}, lemmas.List.{drop_more}}
+use Rattle.lab_cut.specs.{Left.{next_kept, left_of}, MadeEntries.{with_value, made_entries}}
 
 -- what is to come, from a member on
 pub from_member : {A : Type 0} (xs : List A) (i : ℕ) (x : A) → i < length xs → x ≡ get_or xs i x → drop i xs ≡ x ∷ drop (i + 1) xs

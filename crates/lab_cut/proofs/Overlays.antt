@@ -1,15 +1,8 @@
 -- Tables with new states of their rows.
-use Rattle.std.proofs.Common.{◌≡◌, ℤ, Bool, true, false, cond, T, List, [], ◌∷◌, Option, Some, None, refl, sym, ap, ◌∙◌, subst}
-use Rattle.std.specs.Prelude.{option_and_then}
+use Rattle.std.{proofs.Common.{◌≡◌, ℤ, Bool, true, false, cond, T, List, [], ◌∷◌, Option, Some, None, refl, sym, ap, ◌∙◌, subst}, specs.{Prelude.{option_and_then}, FinMap.{find, is_sorted, Entries.{below_all}}}}
 use Rattle.std.specs.FinMap as map
-use Rattle.std.specs.FinMap.{find, is_sorted}
-use Rattle.std.specs.FinMap.Entries.{below_all}
-use Rattle.lab_table.specs.Row.{Row, row_cmp, row_eq, rows_total}
-use Rattle.lab_table.specs.Table.{State, Table, Writes, overwritten}
-use Rattle.lab_table.proofs.Maps.{same_row, same_rows, find_below, state_after, get-overwritten}
-use Rattle.lab_table.proofs.Tests.{both}
-use Rattle.lab_cut.specs.Overlaid.{new_value, kept_rows, with_present, put_present}
-use Rattle.lab_cut.proofs.MadeEntries.{made_sorted, find_made}
+use Rattle.lab_table.{specs.{Row.{Row, row_cmp, row_eq, rows_total}, Table.{State, Table, Writes, overwritten}}, proofs.{Maps.{same_row, same_rows, find_below, state_after, get-overwritten}, Tests.{both}}}
+use Rattle.lab_cut.{specs.Overlaid.{new_value, kept_rows, with_present, put_present}, proofs.MadeEntries.{made_sorted, find_made}}
 
 -- the present state where there is one, else the old one
 abbrev present_or : Option State → State → State

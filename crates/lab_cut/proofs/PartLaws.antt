@@ -1,18 +1,9 @@
 -- Parts of histories, and parts of these.
-use Rattle.std.proofs.Common.{◌≡◌, inl, ℕ, zero, suc, ◌+◌, ℤ, List, [], ◌∷◌, Option, Some, refl, sym, ap, ◌∙◌}
-use Rattle.std.specs.Prelude.{Contains, slice_get}
+use Rattle.std.{proofs.{Common.{◌≡◌, inl, ℕ, zero, suc, ◌+◌, ℤ, List, [], ◌∷◌, Option, Some, refl, sym, ap, ◌∙◌}, lemmas.Option.{same_Some, none-some}}, specs.Prelude.{Contains, slice_get}}
 use Rattle.std.specs.FinMap as map
-use Rattle.std.proofs.lemmas.Option.{same_Some, none-some}
-use Rattle.lab_table.specs.Row.{Row}
-use Rattle.lab_table.proofs.Members.{member_at, place_of_member}
-use Rattle.lab_history.specs.History.{History}
-use Rattle.lab_history.specs.Version.{installers}
-use Rattle.lab_history.specs.declared.transaction.Txn.{Txn}
-use Rattle.lab_history.specs.declared.operation.Op.{Op}
-use Rattle.lab_history.specs.declared.operation.VersionName.{VersionName}
-use Rattle.lab_history.specs.declared.operation.VersionName.TheVariants.{Initial, Of}
-use Rattle.lab_cut.specs.PartOf.{IsSublistBy, numbered, named_in_whole, IsOpPart, IsOpAt, IsTxnPart, HasState, initial, in_the_end, written, IsPartOf}
-use Rattle.lab_cut.proofs.Sublists.{stands_for, through, whole_list, of_sublist}
+use Rattle.lab_table.{specs.Row.{Row}, proofs.Members.{member_at, place_of_member}}
+use Rattle.lab_history.specs.{History.{History}, Version.{installers}, declared.{transaction.Txn.{Txn}, operation.{Op.{Op}, VersionName.{VersionName, TheVariants.{Initial, Of}}}}}
+use Rattle.lab_cut.{specs.PartOf.{IsSublistBy, numbered, named_in_whole, IsOpPart, IsOpAt, IsTxnPart, HasState, initial, in_the_end, written, IsPartOf}, proofs.Sublists.{stands_for, through, whole_list, of_sublist}}
 
 -- ---- operations with their numbers
 

@@ -1,23 +1,10 @@
 -- Parts with the same transactions and operations, whose lists are shorter.
-use Rattle.std.proofs.Common.{◌≡◌, inl, ℕ, ◌+◌, Bool, true, false, cond, List, [], ◌∷◌, map, length, Some, None, refl, sym, ap, ◌∙◌, subst}
-use Rattle.std.specs.Prelude.{drop, unwrap_or}
+use Rattle.std.{proofs.Common.{◌≡◌, inl, ℕ, ◌+◌, Bool, true, false, cond, List, [], ◌∷◌, map, length, Some, None, refl, sym, ap, ◌∙◌, subst}, specs.{Prelude.{drop, unwrap_or}, FinMap.Entries.{where_key, is_sorted-where_key, find-where_key}, declared.cmp.Ordering.TheVariants.{Equal}}}
 use Rattle.std.specs.FinMap as finite
-use Rattle.std.specs.FinMap.Entries.{where_key, is_sorted-where_key, find-where_key}
-use Rattle.std.specs.declared.cmp.Ordering.TheVariants.{Equal}
-use Rattle.lab_table.specs.Row.{Row, row_cmp, rows_apart}
-use Rattle.lab_table.proofs.Maps.{same_rows}
-use Rattle.lab_table.proofs.Tests.{under_condition}
-use Rattle.lab_history.specs.History.{History}
-use Rattle.lab_history.specs.Version.{installers}
-use Rattle.lab_history.specs.declared.transaction.Txn.{Txn}
-use Rattle.lab_history.specs.declared.operation.Op.{Op}
-use Rattle.lab_cut.specs.PartOf.{IsSublistBy, IsSublist, numbered, IsOpPart, IsOpAt, IsTxnPart, initial, in_the_end, IsPartOf}
-use Rattle.lab_cut.specs.Left.{left_of}
-use Rattle.lab_cut.specs.InRows.{op_in_rows, txn_in_rows, in_rows}
-use Rattle.lab_cut.specs.Seen.{op_seeing, ops_seeing, behind_views, txns_seeing, seeing}
-use Rattle.lab_cut.proofs.MadeEntries.{left_sorted, find_left}
-use Rattle.lab_cut.proofs.PartLaws.{same_name}
-use Rattle.lab_cut.proofs.Sublists.{whole_list}
+use Rattle.lab_table.{specs.Row.{Row, row_cmp, rows_apart}, proofs.{Maps.{same_rows}, Tests.{under_condition}}}
+use Rattle.lab_history.specs.{History.{History}, Version.{installers}, declared.{transaction.Txn.{Txn}, operation.Op.{Op}}}
+use Rattle.lab_cut.specs.{PartOf.{IsSublistBy, IsSublist, numbered, IsOpPart, IsOpAt, IsTxnPart, initial, in_the_end, IsPartOf}, Left.{left_of}, InRows.{op_in_rows, txn_in_rows, in_rows}, Seen.{op_seeing, ops_seeing, behind_views, txns_seeing, seeing}}
+use Rattle.lab_cut.proofs.{MadeEntries.{left_sorted, find_left}, PartLaws.{same_name}, Sublists.{whole_list}}
 
 -- the number of an operation is its own
 abbrev own_number : ℕ → ℕ → ℕ

@@ -1,9 +1,7 @@
 -- Steps along lists.
-use Rattle.std.proofs.Common.{◌≡◌, ℕ, zero, suc, ◌+◌, Bool, true, false, cond, List, [], ◌∷◌, ◌++◌, drop, refl, sym, ap, ◌∙◌, add-one}
-use Rattle.std.specs.FinMap.Entries.{where_key}
+use Rattle.std.{proofs.Common.{◌≡◌, ℕ, zero, suc, ◌+◌, Bool, true, false, cond, List, [], ◌∷◌, ◌++◌, drop, refl, sym, ap, ◌∙◌, add-one}, specs.FinMap.Entries.{where_key}}
 use Rattle.lab_table.specs.Row.{Row, row_cmp}
-use Rattle.lab_history.specs.VersionName.{new_states, state_value}
-use Rattle.lab_history.specs.declared.operation.State.{State}
+use Rattle.lab_history.specs.{VersionName.{new_states, state_value}, declared.operation.State.{State}}
 
 -- one more state
 pub new_states_push : (xs : List (Row × State)) (e : Row × State) → new_states (xs ++ e ∷ []) ≡ new_states xs ++ (e.0, state_value e.1) ∷ []

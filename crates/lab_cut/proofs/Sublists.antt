@@ -1,7 +1,5 @@
 -- Lists whose members stand for some of another list.
-use Rattle.std.proofs.Common.{◌≡◌, inl, inr, ℕ, zero, suc, Bool, true, false, cond, List, [], ◌∷◌, map, Some, refl, ◌∙◌, subst}
-use Rattle.std.specs.Prelude.{Contains, filter, slice_get}
-use Rattle.std.proofs.lemmas.Option.{same_Some, none-some}
+use Rattle.std.{proofs.{Common.{◌≡◌, inl, inr, ℕ, zero, suc, Bool, true, false, cond, List, [], ◌∷◌, map, Some, refl, ◌∙◌, subst}, lemmas.Option.{same_Some, none-some}}, specs.Prelude.{Contains, filter, slice_get}}
 use Rattle.lab_table.proofs.Members.{first_member, later_member}
 use Rattle.lab_cut.specs.PartOf.{IsSublistBy, IsSublist}
 

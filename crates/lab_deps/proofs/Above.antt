@@ -1,18 +1,7 @@
 -- What is found, if anything, stands above a row.
-use Rattle.std.proofs.Common.{◌≡◌, true, false, cond, T, Option, Some, None, List, [], ◌∷◌, refl, sym, ap, ◌∙◌, subst}
-use Rattle.std.specs.Prelude.{⊤, ◌&&◌}
-use Rattle.std.specs.Ordering.{is_lt, is_le, ordering_reverse}
-use Rattle.std.specs.Cmp.{tied_itself}
-use Rattle.std.specs.FinMap.{find, is_sorted}
-use Rattle.std.specs.FinMap.Entries.{below_all}
-use Rattle.std.specs.declared.cmp.Ordering.{Ordering}
-use Rattle.std.specs.declared.cmp.Ordering.TheVariants.{Less, Equal, Greater}
-use Rattle.std.proofs.lemmas.Bool.{false≢true}
-use Rattle.std.proofs.lemmas.Option.{none-some, same_Some}
-use Rattle.lab_table.specs.Row.{Row, row_cmp, row_le, rows_total, rows_apart, rows_ranked}
-use Rattle.lab_table.proofs.Maps.{find_below}
-use Rattle.lab_table.proofs.Orderings.{is_less}
-use Rattle.lab_table.proofs.Tests.{both}
+use Rattle.std.proofs.{Common.{◌≡◌, true, false, cond, T, Option, Some, None, List, [], ◌∷◌, refl, sym, ap, ◌∙◌, subst}, lemmas.{Bool.{false≢true}, Option.{none-some, same_Some}}}
+use Rattle.std.specs.{Prelude.{⊤, ◌&&◌}, Ordering.{is_lt, is_le, ordering_reverse}, Cmp.{tied_itself}, FinMap.{find, is_sorted, Entries.{below_all}}, declared.cmp.Ordering.{Ordering, TheVariants.{Less, Equal, Greater}}}
+use Rattle.lab_table.{specs.Row.{Row, row_cmp, row_le, rows_total, rows_apart, rows_ranked}, proofs.{Maps.{find_below}, Orderings.{is_less}, Tests.{both}}}
 use Rattle.lab_deps.specs.Passes.{least}
 
 abbrev pub Above : Option Row → Row → Type 0

@@ -1,23 +1,13 @@
 -- What is found at the versions that change a statement's matches is all that is found.
 use Rattle.std.proofs.Common.{◌≡◌, ◌⊎◌, ℕ, zero, suc, ◌+◌, ◌-◌, ◌==◌, Bool, true, false, cond, Option, Some, None, List, [], ◌∷◌, ◌++◌, refl, sym, ap, ◌∙◌, subst, arith, inl, inr}
-use Rattle.std.specs.Prelude.{Contains, slice_get}
-use Rattle.std.specs.List.{flat_map}
-use Rattle.std.proofs.lemmas.Bool.{false≢true, eqb-true}
-use Rattle.std.proofs.lemmas.List.Elements.{Contains-append_left, Contains-append_right, Contains-append_cases}
-use Rattle.std.proofs.lemmas.Option.{none-some, same_Some}
-use Rattle.lab_table.specs.Row.{Row}
-use Rattle.lab_table.specs.Table.{State}
-use Rattle.lab_table.specs.Statement.{matches}
-use Rattle.lab_table.specs.declared.statement.Statement.{Statement}
-use Rattle.lab_table.proofs.Members.{no_member}
+use Rattle.std.specs.{Prelude.{Contains, slice_get}, List.{flat_map}}
+use Rattle.std.proofs.lemmas.{Bool.{false≢true, eqb-true}, List.Elements.{Contains-append_left, Contains-append_right, Contains-append_cases}, Option.{none-some, same_Some}}
+use Rattle.lab_table.{specs.{Row.{Row}, Table.{State}, Statement.{matches}, declared.statement.Statement.{Statement}}, proofs.Members.{no_member}}
 use Rattle.lab_deps.specs.Edges.{differ}
 use Rattle.lab_deps.specs.Collected.{apart, apart_in, read_by, passed_by, item_edge, change_edge}
 use Rattle.lab_deps.specs.EdgesByRow.{Chain, HasMembersOf, edges_by, along, walked, change_by, changes_along}
 use Rattle.lab_deps.specs.Turns.{state_in, state_before, item_in, items_of, change_in, change_at, found_at}
-use Rattle.lab_deps.specs.declared.edge.Edge.{Edge}
-use Rattle.lab_deps.specs.declared.edge.Kind.TheVariants.{ItemRead, ItemAnti}
-use Rattle.lab_deps.specs.declared.reading.Reading.{Reading}
-use Rattle.lab_deps.specs.declared.versions.Version.{Version}
+use Rattle.lab_deps.specs.declared.{edge.{Edge.{Edge}, Kind.TheVariants.{ItemRead, ItemAnti}}, reading.Reading.{Reading}, versions.Version.{Version}}
 use Rattle.lab_deps.proofs.Membership.{from_each, of_each}
 
 pub less_one : (q : ℕ) → suc q - 1 ≡ q

@@ -1,14 +1,7 @@
 -- Cells that are empty show no kinds.
-use Rattle.std.proofs.Common.{◌≡◌, ◌+◌, ◌-◌, ◌<◌, ◌≤◌, ℕ, false, Option, Some, None, List, length, map, take, drop, get_or, refl, sym, ap, ◌∙◌, arith}
-use Rattle.std.specs.Prelude.{slice_get}
-use Rattle.std.proofs.lemmas.List.{get_or-take, get_or-drop}
-use Rattle.std.proofs.lemmas.Option.{slice_get-map}
+use Rattle.std.{proofs.{Common.{◌≡◌, ◌+◌, ◌-◌, ◌<◌, ◌≤◌, ℕ, false, Option, Some, None, List, length, map, take, drop, get_or, refl, sym, ap, ◌∙◌, arith}, lemmas.{List.{get_or-take, get_or-drop}, Option.{slice_get-map}}}, specs.Prelude.{slice_get}}
 use Rattle.lab_table.proofs.Tests.{mapped_some}
-use Rattle.lab_deps.specs.ColumnRuns.{IsRun, AreInRun, cells_in_run}
-use Rattle.lab_deps.specs.KindBits.{has_bit}
-use Rattle.lab_deps.specs.declared.edge.Kind.{Kind}
-use Rattle.lab_deps.specs.declared.edge.Kind.TheVariants.{Write, ItemRead, PredicateRead, ItemAnti, PredicateAnti}
-use Rattle.lab_deps.specs.declared.kinds.Kinds.{Kinds}
+use Rattle.lab_deps.specs.{ColumnRuns.{IsRun, AreInRun, cells_in_run}, KindBits.{has_bit}, declared.{edge.Kind.{Kind, TheVariants.{Write, ItemRead, PredicateRead, ItemAnti, PredicateAnti}}, kinds.Kinds.{Kinds}}}
 
 -- an empty cell has no kind's bit
 no_bit : (kind : Kind) → has_bit 0 kind ≡ false

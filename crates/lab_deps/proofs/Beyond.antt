@@ -1,11 +1,6 @@
 -- A row beyond the last one of a sorted list isn't found in it.
-use Rattle.std.proofs.Common.{◌≡◌, ℕ, ◌-◌, ◌<◌, true, T, Some, None, List, length, ap, ◌∙◌, arith}
-use Rattle.std.specs.Prelude.{slice_get, slice_index_or}
-use Rattle.std.specs.FinMap.{find, is_sorted}
-use Rattle.std.proofs.lemmas.Option.{get_or_from_slice_get, slice_get_within}
-use Rattle.lab_table.specs.Row.{Row, row_cmp}
-use Rattle.lab_table.specs.Running.{comes_after}
-use Rattle.lab_table.proofs.Searching.{parted, point_is, found_nothing}
+use Rattle.std.{proofs.{Common.{◌≡◌, ℕ, ◌-◌, ◌<◌, true, T, Some, None, List, length, ap, ◌∙◌, arith}, lemmas.Option.{get_or_from_slice_get, slice_get_within}}, specs.{Prelude.{slice_get, slice_index_or}, FinMap.{find, is_sorted}}}
+use Rattle.lab_table.{specs.{Row.{Row, row_cmp}, Running.{comes_after}}, proofs.Searching.{parted, point_is, found_nothing}}
 
 module _ {V : Type 0} (row : Row) (es : List (Row × V)) (last : Row × V) (sorted : T (is_sorted row_cmp es)) (g : slice_get es (length es - 1) ≡ Some last) (after : comes_after row last ≡ true) where
   at_last : (d : Row × V) → comes_after row (slice_index_or es (length es - 1) d) ≡ true

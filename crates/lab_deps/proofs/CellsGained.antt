@@ -1,13 +1,6 @@
 -- What cells gain, one step after another.
-use Rattle.std.proofs.Common.{◌≡◌, ◌≢◌, ◌⊎◌, ◌<◌, ◌+◌, ◌*◌, ℕ, Bool, true, false, cond, List, length, get_or, set, refl, sym, ap, ◌∙◌, subst, inl, inr}
-use Rattle.std.specs.Prelude.{bit_or}
-use Rattle.std.proofs.lemmas.Bool.{cases_eq}
-use Rattle.std.proofs.lemmas.List.{get_or-set_same, get_or-set_other, length-set}
-use Rattle.std.proofs.lemmas.Nat.{mul-add-lt, same_from_place}
-use Rattle.lab_deps.specs.CellGains.{CellsGain, IsBetween}
-use Rattle.lab_deps.specs.KindBits.{bit, has_bit}
-use Rattle.lab_deps.specs.declared.edge.Kind.{Kind}
-use Rattle.lab_deps.proofs.ToldKinds.{kinds_apart, bit_set, bit_other, bit_kept}
+use Rattle.std.{proofs.{Common.{◌≡◌, ◌≢◌, ◌⊎◌, ◌<◌, ◌+◌, ◌*◌, ℕ, Bool, true, false, cond, List, length, get_or, set, refl, sym, ap, ◌∙◌, subst, inl, inr}, lemmas.{Bool.{cases_eq}, List.{get_or-set_same, get_or-set_other, length-set}, Nat.{mul-add-lt, same_from_place}}}, specs.Prelude.{bit_or}}
+use Rattle.lab_deps.{specs.{CellGains.{CellsGain, IsBetween}, KindBits.{bit, has_bit}, declared.edge.Kind.{Kind}}, proofs.ToldKinds.{kinds_apart, bit_set, bit_other, bit_kept}}
 
 module _ (w : ℕ) where
   -- nothing is gained

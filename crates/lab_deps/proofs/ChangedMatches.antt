@@ -1,25 +1,13 @@
 -- What a reader has to do with the versions where a row turns.
-use Rattle.std.proofs.Common.{◌≡◌, ◌≢◌, ◌⊎◌, ◌≤◌, ◌<◌, ◌-◌, ℕ, Bool, true, cond, Some, [], length, sym, ap, ◌∙◌, subst, inl, inr}
-use Rattle.std.specs.Prelude.{slice_get, Contains}
-use Rattle.std.specs.List.{flat_map}
-use Rattle.std.proofs.lemmas.Bool.{cases_lt, lt-ltb, le-ltb}
-use Rattle.std.proofs.lemmas.Option.{same_Some, slice_get_within}
-use Rattle.lab_table.specs.Statement.{matches}
-use Rattle.lab_table.specs.declared.statement.Statement.{Statement}
-use Rattle.lab_table.proofs.Members.{member_at, place_of_member}
+use Rattle.std.{proofs.{Common.{◌≡◌, ◌≢◌, ◌⊎◌, ◌≤◌, ◌<◌, ◌-◌, ℕ, Bool, true, cond, Some, [], length, sym, ap, ◌∙◌, subst, inl, inr}, lemmas.{Bool.{cases_lt, lt-ltb, le-ltb}, Option.{same_Some, slice_get_within}}}, specs.{Prelude.{slice_get, Contains}, List.{flat_map}}}
+use Rattle.lab_table.{specs.{Statement.{matches}, declared.statement.Statement.{Statement}}, proofs.Members.{member_at, place_of_member}}
 use Rattle.lab_deps.specs.Collected.{apart, change_edge, read_by, passed_by}
 use Rattle.lab_deps.specs.Edges.{differ}
 use Rattle.lab_deps.specs.EdgesByRow.{Chain, HasMembersOf, walked}
 use Rattle.lab_deps.specs.Turnings.{StandsAt, IsTurning, class_by}
 use Rattle.lab_deps.specs.Turns.{state_in, state_before, change_in, change_at, found_at}
-use Rattle.lab_deps.specs.declared.edge.Edge.{Edge}
-use Rattle.lab_deps.specs.declared.edge.Kind.TheVariants.{PredicateRead, PredicateAnti}
-use Rattle.lab_deps.specs.declared.reading.Reading.{Reading}
-use Rattle.lab_deps.specs.declared.turning.Turning.{Turning}
-use Rattle.lab_deps.specs.declared.versions.Version.{Version}
-use Rattle.lab_deps.proofs.AtTurns.{AreEnough, places_enough}
-use Rattle.lab_deps.proofs.Membership.{from_each, of_each}
-use Rattle.lab_deps.proofs.Neighbours.{in_apart, is_apart}
+use Rattle.lab_deps.specs.declared.{edge.{Edge.{Edge}, Kind.TheVariants.{PredicateRead, PredicateAnti}}, reading.Reading.{Reading}, turning.Turning.{Turning}, versions.Version.{Version}}
+use Rattle.lab_deps.proofs.{AtTurns.{AreEnough, places_enough}, Membership.{from_each, of_each}, Neighbours.{in_apart, is_apart}}
 
 module _ (s : Statement) (r : Reading) (c : Chain) (t : Turning) (turning : IsTurning (class_by s r.row c) c.items t) where
   -- at a place of the turning there is one edge, if it is between different transactions

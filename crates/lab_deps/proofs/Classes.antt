@@ -1,24 +1,10 @@
 -- Versions turn by what a statement answers where they turn by what it answers for their values.
 use Rattle.std.proofs.Common.{◌≡◌, ◌≤◌, ◌<◌, ℕ, zero, suc, Bool, true, false, Option, Some, None, List, [], ◌∷◌, ◌++◌, length, map, get_or, refl, sym, ap, ◌∙◌, subst, arith, inl, inr}
-use Rattle.std.specs.Prelude.{ℤ, slice_get, is_some}
-use Rattle.std.proofs.lemmas.Bool.{false≢true}
-use Rattle.std.proofs.lemmas.List.{get_or-map}
-use Rattle.std.proofs.lemmas.Option.{none-some, slice_get_within, slice_get-map, slice_get-get_or, get_or_from_slice_get}
-use Rattle.std.specs.Prelude.{option_map, IfSome}
-use Rattle.lab_table.specs.Row.{Row}
-use Rattle.lab_table.specs.Statement.{matches}
-use Rattle.lab_table.specs.Table.{State}
-use Rattle.lab_table.specs.declared.statement.Statement.{Statement}
-use Rattle.lab_deps.specs.Edges.{differ}
-use Rattle.lab_deps.specs.EdgesByRow.{Chain, AreValuesOf}
-use Rattle.lab_deps.specs.KeptTurnings.{classes_of, presences, AreTurnings}
-use Rattle.lab_deps.specs.Turnings.{StandsAt, IsTurning, class_in, class_by}
-use Rattle.lab_deps.specs.Turns.{state_in}
-use Rattle.lab_deps.specs.declared.turning.Turning.{Turning}
-use Rattle.lab_deps.specs.declared.turnings.KeptTurning.{KeptTurning}
-use Rattle.lab_deps.specs.declared.versions.Version.{Version}
-use Rattle.lab_deps.proofs.AtTurns.{no_difference}
-use Rattle.lab_deps.proofs.Fronts.{at_end}
+use Rattle.std.specs.Prelude.{ℤ, slice_get, is_some, option_map, IfSome}
+use Rattle.std.proofs.lemmas.{Bool.{false≢true}, List.{get_or-map}, Option.{none-some, slice_get_within, slice_get-map, slice_get-get_or, get_or_from_slice_get}}
+use Rattle.lab_table.specs.{Row.{Row}, Statement.{matches}, Table.{State}, declared.statement.Statement.{Statement}}
+use Rattle.lab_deps.specs.{Edges.{differ}, EdgesByRow.{Chain, AreValuesOf}, KeptTurnings.{classes_of, presences, AreTurnings}, Turnings.{StandsAt, IsTurning, class_in, class_by}, Turns.{state_in}, declared.{turning.Turning.{Turning}, turnings.KeptTurning.{KeptTurning}, versions.Version.{Version}}}
+use Rattle.lab_deps.proofs.{AtTurns.{no_difference}, Fronts.{at_end}}
 
 pub differ_alike : (a x y : Bool) → differ (differ a x) (differ a y) ≡ differ x y
 differ_alike true true true = refl

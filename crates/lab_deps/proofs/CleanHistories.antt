@@ -1,25 +1,10 @@
 -- A history at none of whose operations a fault stands is one of which no pass finds a fault.
-use Rattle.std.proofs.Common.{◌≡◌, ℕ, zero, suc, ◌+◌, ◌<◌, ◌==◌, ◌⊎◌, inl, inr, true, false, cond, Option, Some, None, List, [], ◌∷◌, refl, sym, ap, ◌∙◌, subst, arith, add-one}
-use Rattle.std.specs.Prelude.{slice_get}
-use Rattle.std.specs.Option.{option_or}
-use Rattle.std.proofs.lemmas.Bool.{false≢true, eqb-true}
-use Rattle.std.proofs.lemmas.Option.{none-some, same_Some}
+use Rattle.std.{proofs.{Common.{◌≡◌, ℕ, zero, suc, ◌+◌, ◌<◌, ◌==◌, ◌⊎◌, inl, inr, true, false, cond, Option, Some, None, List, [], ◌∷◌, refl, sym, ap, ◌∙◌, subst, arith, add-one}, lemmas.{Bool.{false≢true, eqb-true}, Option.{none-some, same_Some}}}, specs.{Prelude.{slice_get}, Option.{option_or}}}
 use Rattle.lab_table.specs.Row.{Row}
-use Rattle.lab_history.specs.History.{History}
-use Rattle.lab_history.specs.Version.{find_txn, ops_of, outcome_of}
-use Rattle.lab_history.specs.declared.transaction.Outcome.TheVariants.{Aborted}
-use Rattle.lab_history.specs.declared.operation.Op.{Op}
-use Rattle.lab_history.specs.declared.transaction.Txn.{Txn}
-use Rattle.lab_deps.specs.Soundness.{has_committed}
-use Rattle.lab_deps.specs.Broken.{is_broken}
-use Rattle.lab_deps.specs.Passes.{broken_row, fault_in, install_fault, end_fault}
-use Rattle.lab_deps.specs.FirstFault.{first_fault}
-use Rattle.lab_deps.specs.Fine.{IsCleanOp, IsCleanTxn, AreClean}
-use Rattle.lab_deps.specs.declared.fault.LocalFault.{LocalFault}
-use Rattle.lab_deps.specs.declared.kind.OpFault.{OpFault}
+use Rattle.lab_history.specs.{History.{History}, Version.{find_txn, ops_of, outcome_of}, declared.{transaction.{Outcome.TheVariants.{Aborted}, Txn.{Txn}}, operation.Op.{Op}}}
+use Rattle.lab_deps.specs.{Soundness.{has_committed}, Broken.{is_broken}, Passes.{broken_row, fault_in, install_fault, end_fault}, FirstFault.{first_fault}, Fine.{IsCleanOp, IsCleanTxn, AreClean}, declared.{fault.LocalFault.{LocalFault}, kind.OpFault.{OpFault}}}
 use Rattle.lab_deps.specs.declared.kind.OpFault.TheVariants as kind
-use Rattle.lab_deps.proofs.BrokenRows.{found_breaks}
-use Rattle.lab_deps.proofs.Found.{pass_finds, committed_there}
+use Rattle.lab_deps.proofs.{BrokenRows.{found_breaks}, Found.{pass_finds, committed_there}}
 
 -- what isn't some is none
 none_if : {A : Type 0} (o : Option A) → ((x : A) → o ≡ Some x → ⊥) → o ≡ None

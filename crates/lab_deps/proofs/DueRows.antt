@@ -1,28 +1,10 @@
 -- Where an operation lists of each row what is due.
-use Rattle.std.proofs.Common.{◌≡◌, ℕ, ℤ, ◌==◌, Bool, true, false, not, cond, ◌&&◌, Option, Some, None, List, [], ◌∷◌, length, refl, sym, ap, ◌∙◌, subst, arith}
-use Rattle.std.specs.Prelude.{is_some, is_none, option_map}
-use Rattle.std.specs.FinMap.{get, find, entries, get-entries}
-use Rattle.std.proofs.lemmas.Bool.{false≢true, or_parts, eqb-true}
-use Rattle.lab_table.specs.Row.{Row, row_cmp}
-use Rattle.lab_table.specs.Table.{State}
-use Rattle.lab_table.specs.Statement.{is_read_only, listed, may_match, matches, kind_listed, kind_selects}
-use Rattle.lab_table.specs.declared.statement.StatementKind.{StatementKind}
-use Rattle.lab_table.specs.declared.statement.StatementKind.TheVariants.{Select, Update, Insert, Delete}
-use Rattle.lab_table.proofs.OneRow.{not_listed, unmatched_listed, reader_inserts_none}
-use Rattle.lab_history.specs.History.{History}
-use Rattle.lab_history.specs.Version.{viewed, viewed_state, new_state, state_of}
-use Rattle.lab_history.specs.VersionName.{new_states, state_value}
-use Rattle.lab_history.specs.declared.operation.State.{State as Stored}
-use Rattle.lab_history.specs.declared.operation.VersionName.{VersionName}
-use Rattle.lab_history.specs.declared.operation.Op.{Op}
-use Rattle.lab_deps.specs.Broken.{is_broken, breaks_at, same_state, choose, change_differs, insert_differs, write_differs, is_extra, is_unlisted}
-use Rattle.lab_deps.specs.EdgesByRow.{looks_at}
-use Rattle.lab_deps.specs.Passes.{least, first_entry, first_value, seen_row, own_row}
+use Rattle.std.{proofs.{Common.{◌≡◌, ℕ, ℤ, ◌==◌, Bool, true, false, not, cond, ◌&&◌, Option, Some, None, List, [], ◌∷◌, length, refl, sym, ap, ◌∙◌, subst, arith}, lemmas.Bool.{false≢true, or_parts, eqb-true}}, specs.{Prelude.{is_some, is_none, option_map}, FinMap.{get, find, entries, get-entries}}}
+use Rattle.lab_table.specs.{Row.{Row, row_cmp}, Table.{State}, Statement.{is_read_only, listed, may_match, matches, kind_listed, kind_selects}, declared.statement.StatementKind.{StatementKind, TheVariants.{Select, Update, Insert, Delete}}}
+use Rattle.lab_table.proofs.{OneRow.{not_listed, unmatched_listed, reader_inserts_none}, Tests.{some_of}}
+use Rattle.lab_history.{specs.{History.{History}, Version.{viewed, viewed_state, new_state, state_of}, VersionName.{new_states, state_value}, declared.operation.{State.{State as Stored}, VersionName.{VersionName}, Op.{Op}}}, proofs.NewStates.{find_states}}
+use Rattle.lab_deps.{specs.{Broken.{is_broken, breaks_at, same_state, choose, change_differs, insert_differs, write_differs, is_extra, is_unlisted}, EdgesByRow.{looks_at}, Passes.{least, first_entry, first_value, seen_row, own_row}}, proofs.{BrokenRows.{none_breaks}, Rows.{none_in_map}}}
 use Rattle.lab_deps.specs.declared.kind.OpFault.TheVariants as kind
-use Rattle.lab_deps.proofs.BrokenRows.{none_breaks}
-use Rattle.lab_history.proofs.NewStates.{find_states}
-use Rattle.lab_table.proofs.Tests.{some_of}
-use Rattle.lab_deps.proofs.Rows.{none_in_map}
 
 -- where none of three rows is found, none breaks
 pub rows_due : (h : History) (op : Op) → ((n k : ℕ) → seen_row kind.RowsDiffer h n k op ≡ None) → first_value (is_extra h op) (entries op.rows) ≡ None

@@ -1,8 +1,5 @@
 -- What is so of each of the first elements of a list, and of all.
-use Rattle.std.proofs.Common.{◌≡◌, ◌<◌, ◌≤◌, ◌+◌, ℕ, suc, List, Some, length, get_or, sym, ap, ◌∙◌, subst, arith, inl, inr}
-use Rattle.std.specs.Prelude.{slice_get}
-use Rattle.std.proofs.lemmas.Bool.{cases_eq}
-use Rattle.std.proofs.lemmas.Option.{get_or_from_slice_get, slice_get_within}
+use Rattle.std.{proofs.{Common.{◌≡◌, ◌<◌, ◌≤◌, ◌+◌, ℕ, suc, List, Some, length, get_or, sym, ap, ◌∙◌, subst, arith, inl, inr}, lemmas.{Bool.{cases_eq}, Option.{get_or_from_slice_get, slice_get_within}}}, specs.Prelude.{slice_get}}
 
 module _ {X : Type 0} (P : X → Type 0) (xs : List X) (n : ℕ) (so_far : (i : ℕ) (x : X) → i < n → slice_get xs i ≡ Some x → P x) where
   pub one_more : (d : X) → P (get_or xs n d) → (i : ℕ) (x : X) → i < n + 1 → slice_get xs i ≡ Some x → P x

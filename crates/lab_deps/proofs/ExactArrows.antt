@@ -1,20 +1,8 @@
 -- The kinds that cells tell of are those of some edges of a history.
-use Rattle.std.proofs.Common.{◌≡◌, ◌≢◌, ◌↔◌, ◌+◌, ◌*◌, ◌==◌, ℕ, true, false, cond, List, [], length, get_or, replicate, refl, sym, ap, ◌∙◌, arith}
-use Rattle.std.specs.Prelude.{Contains}
-use Rattle.std.proofs.lemmas.Bool.{eqb-false, ne_eqb, false≢true}
-use Rattle.std.proofs.lemmas.List.{length-replicate}
-use Rattle.lab_table.specs.Row.{Row}
-use Rattle.lab_table.proofs.Members.{no_member}
-use Rattle.lab_history.specs.History.{History}
-use Rattle.lab_history.specs.Version.{IsCommitted}
-use Rattle.lab_history.specs.declared.transaction.Txn.{Txn}
-use Rattle.lab_deps.specs.Edges.{IsEdge}
-use Rattle.lab_deps.specs.KindBits.{has_bit, place, cell_at, bits_of, edge_of, IsNumbering, Tells}
-use Rattle.lab_deps.specs.declared.edge.Edge.{Edge}
-use Rattle.lab_deps.specs.declared.edge.Kind.{Kind}
-use Rattle.lab_deps.specs.declared.edge.Kind.TheVariants.{Write, ItemRead, PredicateRead, ItemAnti, PredicateAnti}
-use Rattle.lab_deps.proofs.Numbered.{zeros}
-use Rattle.lab_deps.proofs.Readers.{committed_txn}
+use Rattle.std.{proofs.{Common.{◌≡◌, ◌≢◌, ◌↔◌, ◌+◌, ◌*◌, ◌==◌, ℕ, true, false, cond, List, [], length, get_or, replicate, refl, sym, ap, ◌∙◌, arith}, lemmas.{Bool.{eqb-false, ne_eqb, false≢true}, List.{length-replicate}}}, specs.Prelude.{Contains}}
+use Rattle.lab_table.{specs.Row.{Row}, proofs.Members.{no_member}}
+use Rattle.lab_history.specs.{History.{History}, Version.{IsCommitted}, declared.transaction.Txn.{Txn}}
+use Rattle.lab_deps.{specs.{Edges.{IsEdge}, KindBits.{has_bit, place, cell_at, bits_of, edge_of, IsNumbering, Tells}, declared.edge.{Edge.{Edge}, Kind.{Kind, TheVariants.{Write, ItemRead, PredicateRead, ItemAnti, PredicateAnti}}}}, proofs.{Numbered.{zeros}, Readers.{committed_txn}}}
 
 pub no_bit : (k : Kind) → has_bit 0 k ≡ false
 no_bit Write = refl

@@ -1,13 +1,7 @@
 -- What is gathered goes into cells that tell of all edges.
-use Rattle.std.proofs.Common.{◌≡◌, ◌≢◌, ◌⊎◌, ◌<◌, ◌-◌, ℕ, true, false, List, [], ◌++◌, length, get_or, sym, ap, ◌∙◌, subst, append_assoc, inl, inr}
-use Rattle.std.specs.Prelude.{Contains}
-use Rattle.std.specs.List.{flat_map}
-use Rattle.std.proofs.lemmas.Bool.{false≢true}
-use Rattle.std.proofs.lemmas.Option.{slice_get-get_or, get_or_from_slice_get}
+use Rattle.std.{proofs.{Common.{◌≡◌, ◌≢◌, ◌⊎◌, ◌<◌, ◌-◌, ℕ, true, false, List, [], ◌++◌, length, get_or, sym, ap, ◌∙◌, subst, append_assoc, inl, inr}, lemmas.{Bool.{false≢true}, Option.{slice_get-get_or, get_or_from_slice_get}}}, specs.{Prelude.{Contains}, List.{flat_map}}}
 use Rattle.lab_sets.specs.Sets.{has}
-use Rattle.lab_table.specs.Row.{Row}
-use Rattle.lab_table.specs.declared.statement.Statement.{Statement}
-use Rattle.lab_table.proofs.Members.{no_member}
+use Rattle.lab_table.{specs.{Row.{Row}, declared.statement.Statement.{Statement}}, proofs.Members.{no_member}}
 use Rattle.lab_deps.specs.CellGains.{CellsGain, IsOfTable}
 use Rattle.lab_deps.specs.EdgesByRow.{Chain, HasMembersOf, walked}
 use Rattle.lab_deps.specs.FrontSets.{in_table, Gains, IsCut}
@@ -16,14 +10,8 @@ use Rattle.lab_deps.specs.KindBits.{has_bit, place, cell_at, edge_of, Tells}
 use Rattle.lab_deps.specs.Numbering.{FitsVersions}
 use Rattle.lab_deps.specs.Turnings.{IsTurning, class_by}
 use Rattle.lab_deps.specs.Turns.{items_of, change_at, found_at}
-use Rattle.lab_deps.specs.declared.edge.Edge.{Edge}
-use Rattle.lab_deps.specs.declared.edge.Kind.{Kind}
-use Rattle.lab_deps.specs.declared.edge.Kind.TheVariants.{PredicateRead, PredicateAnti}
-use Rattle.lab_deps.specs.declared.reading.Reading.{Reading}
-use Rattle.lab_deps.specs.declared.turning.Turning.{Turning}
-use Rattle.lab_deps.proofs.ChangedMatches.{turning_enough}
-use Rattle.lab_deps.proofs.Gathered.{gathers_same, gathers_turning}
-use Rattle.lab_deps.proofs.ToldMembers.{after_same}
+use Rattle.lab_deps.specs.declared.{edge.{Edge.{Edge}, Kind.{Kind, TheVariants.{PredicateRead, PredicateAnti}}}, reading.Reading.{Reading}, turning.Turning.{Turning}}
+use Rattle.lab_deps.proofs.{ChangedMatches.{turning_enough}, Gathered.{gathers_same, gathers_turning}, ToldMembers.{after_same}}
 
 -- nothing is gathered yet
 pub gathers_none : (ps : List ℕ) (w : ℕ) (cs : List ℕ) (reads antis : List (List ℕ)) → Tells ps w cs ps [] → length reads ≡ w → length antis ≡ w → ((i n : ℕ) → i < w → in_table reads i n ≡ false)

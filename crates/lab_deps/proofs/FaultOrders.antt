@@ -1,26 +1,16 @@
 -- Of two faults that are true of a history, one comes before the other, or they are one.
-use Rattle.std.proofs.Common.{◌≡◌, ℕ, suc, ◌<◌, ◌==◌, Bool, true, false, ◌||◌, cond, Some, List, [], ◌∷◌, inl, inr, refl, sym, ap, subst, ◌∙◌, arith}
-use Rattle.std.specs.Prelude.{nat_le}
-use Rattle.std.specs.Ordering.{is_lt, ordering_reverse}
-use Rattle.std.specs.declared.cmp.Ordering.{Ordering}
-use Rattle.std.specs.declared.cmp.Ordering.TheVariants.{Less, Equal, Greater}
-use Rattle.std.proofs.lemmas.Bool.{false≢true, eqb-true}
-use Rattle.std.proofs.lemmas.Option.{none-some}
+use Rattle.std.proofs.{Common.{◌≡◌, ℕ, suc, ◌<◌, ◌==◌, Bool, true, false, ◌||◌, cond, Some, List, [], ◌∷◌, inl, inr, refl, sym, ap, subst, ◌∙◌, arith}, lemmas.{Bool.{false≢true, eqb-true}, Option.{none-some}}}
+use Rattle.std.specs.{Prelude.{nat_le}, Ordering.{is_lt, ordering_reverse}, declared.cmp.Ordering.{Ordering, TheVariants.{Less, Equal, Greater}}}
 use Rattle.lab_table.specs.Row.{Row, row_cmp, rows_total, rows_apart}
-use Rattle.lab_history.specs.History.{History}
-use Rattle.lab_history.specs.Version.{IsCommitted, find_txn}
-use Rattle.lab_history.specs.declared.transaction.Txn.{Txn}
+use Rattle.lab_history.specs.{History.{History}, Version.{IsCommitted, find_txn}, declared.transaction.Txn.{Txn}}
 use Rattle.lab_deps.specs.FaultKinds.{parts_of, op_fault, row_fault, fault_of}
 use Rattle.lab_deps.specs.Soundness.{Stands}
 use Rattle.lab_deps.specs.Refusal.{is_uncommitted_read, IsAnswer}
 use Rattle.lab_deps.specs.FaultOrder.{kind_place, where_is, place_among, ComesBefore, IsFirst}
-use Rattle.lab_deps.specs.declared.fault.FaultParts.{FaultParts}
+use Rattle.lab_deps.specs.declared.{fault.{FaultParts.{FaultParts}, LocalFault.{LocalFault}}, kind.{OpFault.{OpFault}, RowFault.{RowFault}}}
 use Rattle.lab_deps.specs.declared.fault.FaultParts.TheVariants as parts
-use Rattle.lab_deps.specs.declared.fault.LocalFault.{LocalFault}
 use Rattle.lab_deps.specs.declared.fault.LocalFault.TheVariants as fault
-use Rattle.lab_deps.specs.declared.kind.OpFault.{OpFault}
 use Rattle.lab_deps.specs.declared.kind.OpFault.TheVariants as kind
-use Rattle.lab_deps.specs.declared.kind.RowFault.{RowFault}
 use Rattle.lab_deps.specs.declared.kind.RowFault.TheVariants as row_kind
 use Rattle.lab_deps.proofs.Found.{committed_there}
 

@@ -1,23 +1,11 @@
 -- What is excluded where each version that an operation sees is one that it may see.
-use Rattle.std.proofs.Common.{◌≡◌, ℕ, ◌+◌, ◌==◌, Bool, true, false, not, ◌&&◌, ◌||◌, cond, Option, Some, None, List, refl, sym, ap, ◌∙◌, arith}
-use Rattle.std.specs.Prelude.{nat_le, nat_lt, is_none, is_some, option_map, option_and_then, unwrap_or}
-use Rattle.std.specs.FinMap.{find, get, entries, get-entries}
-use Rattle.std.proofs.lemmas.Bool.{false≢true, eqb-true, eq-eqb, and_parts, and_from, not-false}
-use Rattle.std.proofs.lemmas.Option.{none-some, same_Some}
+use Rattle.std.proofs.{Common.{◌≡◌, ℕ, ◌+◌, ◌==◌, Bool, true, false, not, ◌&&◌, ◌||◌, cond, Option, Some, None, List, refl, sym, ap, ◌∙◌, arith}, lemmas.{Bool.{false≢true, eqb-true, eq-eqb, and_parts, and_from, not-false}, Option.{none-some, same_Some}}}
+use Rattle.std.specs.{Prelude.{nat_le, nat_lt, is_none, is_some, option_map, option_and_then, unwrap_or}, FinMap.{find, get, entries, get-entries}}
 use Rattle.lab_table.specs.Row.{Row, row_cmp}
-use Rattle.lab_history.specs.History.{History}
-use Rattle.lab_history.specs.Version.{IsCommitted, ops_of, outcome_of, viewed, new_state, version_state, last_write, installers, place_in, is_at}
-use Rattle.lab_history.specs.declared.operation.Op.{Op}
-use Rattle.lab_history.specs.declared.operation.VersionName.{VersionName}
-use Rattle.lab_history.specs.declared.operation.VersionName.TheVariants.{Initial, Of}
-use Rattle.lab_history.proofs.Greatest.{last_is_greatest}
-use Rattle.lab_deps.specs.Soundness.{has_committed}
-use Rattle.lab_deps.specs.Broken.{is_dangling, has_aborted, is_aborted, is_other, is_intermediate, precedes, is_later, is_broken}
-use Rattle.lab_deps.specs.Passes.{first_value}
-use Rattle.lab_deps.specs.Fine.{is_last, is_own, is_clear, is_fine, is_unfine, IsCleanOp}
+use Rattle.lab_history.{specs.{History.{History}, Version.{IsCommitted, ops_of, outcome_of, viewed, new_state, version_state, last_write, installers, place_in, is_at}, declared.operation.{Op.{Op}, VersionName.{VersionName, TheVariants.{Initial, Of}}}}, proofs.Greatest.{last_is_greatest}}
+use Rattle.lab_deps.specs.{Soundness.{has_committed}, Broken.{is_dangling, has_aborted, is_aborted, is_other, is_intermediate, precedes, is_later, is_broken}, Passes.{first_value}, Fine.{is_last, is_own, is_clear, is_fine, is_unfine, IsCleanOp}}
 use Rattle.lab_deps.specs.declared.kind.OpFault.TheVariants as kind
-use Rattle.lab_deps.proofs.Rows.{no_value_in_map, value_in_map}
-use Rattle.lab_deps.proofs.Found.{committed}
+use Rattle.lab_deps.proofs.{Rows.{no_value_in_map, value_in_map}, Found.{committed}}
 
 -- no fault of what is seen stands
 abbrev IsRead : History → ℕ → ℕ → Row → VersionName → Type 0

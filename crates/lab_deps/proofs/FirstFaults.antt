@@ -1,26 +1,16 @@
 -- The fault that the passes find is the first that stands.
-use Rattle.std.proofs.Common.{◌≡◌, ℕ, zero, suc, ◌+◌, ◌<◌, ◌≤◌, Option, Some, None, List, [], ◌∷◌, ◌⊎◌, drop, inl, inr, refl, sym, ap, ◌∙◌, subst, arith}
-use Rattle.std.specs.Prelude.{slice_get, option_map, true, ⊤}
-use Rattle.std.specs.Option.{option_or}
-use Rattle.std.proofs.lemmas.Bool.{false≢true}
-use Rattle.std.proofs.lemmas.Option.{none-some, same_Some}
-use Rattle.std.specs.Ordering.{is_lt}
-use Rattle.lab_table.specs.Row.{Row, row_cmp}
-use Rattle.lab_table.proofs.Tests.{mapped_some}
-use Rattle.lab_history.specs.History.{History}
-use Rattle.lab_history.specs.Version.{installers}
-use Rattle.lab_history.specs.declared.operation.Op.{Op}
+use Rattle.std.proofs.{Common.{◌≡◌, ℕ, zero, suc, ◌+◌, ◌<◌, ◌≤◌, Option, Some, None, List, [], ◌∷◌, ◌⊎◌, drop, inl, inr, refl, sym, ap, ◌∙◌, subst, arith}, lemmas.{Bool.{false≢true}, Option.{none-some, same_Some}}}
+use Rattle.std.specs.{Prelude.{slice_get, option_map, true, ⊤}, Option.{option_or}, Ordering.{is_lt}}
+use Rattle.lab_table.{specs.Row.{Row, row_cmp}, proofs.Tests.{mapped_some}}
+use Rattle.lab_history.specs.{History.{History}, Version.{installers}, declared.operation.Op.{Op}}
 use Rattle.lab_deps.specs.Soundness.{IsCommittedOp, Stands, is_writer}
 use Rattle.lab_deps.specs.Broken.{is_broken}
 use Rattle.lab_deps.specs.FaultKinds.{op_fault, row_fault}
 use Rattle.lab_deps.specs.Passes.{fault_in, install_row, install_fault, end_row, end_fault}
 use Rattle.lab_deps.specs.FirstFault.{first_fault}
 use Rattle.lab_deps.specs.FaultOrder.{kind_place, where_is, ComesBefore, Precedes, IsFirst}
-use Rattle.lab_deps.specs.declared.fault.LocalFault.{LocalFault}
-use Rattle.lab_deps.specs.declared.fault.LocalFault.TheVariants.{Dangling, AbortedRead, IntermediateRead, OwnWriteMissed, LaterThanOwn, RowsDiffer, WritesDiffer, InstallOrder, EndDiffers}
-use Rattle.lab_deps.specs.declared.kind.OpFault.{OpFault}
+use Rattle.lab_deps.specs.declared.{fault.LocalFault.{LocalFault, TheVariants.{Dangling, AbortedRead, IntermediateRead, OwnWriteMissed, LaterThanOwn, RowsDiffer, WritesDiffer, InstallOrder, EndDiffers}}, kind.{OpFault.{OpFault}, RowFault.{RowFault}}}
 use Rattle.lab_deps.specs.declared.kind.OpFault.TheVariants as kind
-use Rattle.lab_deps.specs.declared.kind.RowFault.{RowFault}
 use Rattle.lab_deps.specs.declared.kind.RowFault.TheVariants as row_kind
 use Rattle.lab_deps.proofs.Above.{Above, none_above, found_above}
 use Rattle.lab_deps.proofs.BrokenStands.{decides_dangling, decides_aborted_read, decides_intermediate, decides_rows}

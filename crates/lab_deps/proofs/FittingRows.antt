@@ -1,15 +1,9 @@
 -- The versions of a history's rows have the places of their installers.
-use Rattle.std.proofs.Common.{◌≡◌, ℕ, List, [], ◌∷◌, map, subst, inl, inr}
-use Rattle.std.specs.Prelude.{Contains}
+use Rattle.std.{proofs.{Common.{◌≡◌, ℕ, List, [], ◌∷◌, map, subst, inl, inr}, lemmas.List.Elements.{Contains-append_cases}}, specs.Prelude.{Contains}}
 use Rattle.std.specs.FinMap as finite
-use Rattle.std.proofs.lemmas.List.Elements.{Contains-append_cases}
-use Rattle.lab_table.specs.Row.{Row}
-use Rattle.lab_table.proofs.Members.{no_member, only_member}
+use Rattle.lab_table.{specs.Row.{Row}, proofs.Members.{no_member, only_member}}
 use Rattle.lab_history.specs.History.{History}
-use Rattle.lab_deps.specs.EdgesByRow.{Chain, versions_of, with_versions, rows_of}
-use Rattle.lab_deps.specs.KindBits.{place}
-use Rattle.lab_deps.specs.Numbering.{HasPlaces, FitsVersions}
-use Rattle.lab_deps.specs.declared.versions.Version.{Version}
+use Rattle.lab_deps.specs.{EdgesByRow.{Chain, versions_of, with_versions, rows_of}, KindBits.{place}, Numbering.{HasPlaces, FitsVersions}, declared.versions.Version.{Version}}
 
 module _ (h : History) (ps : List ℕ) (has : HasPlaces h ps) where
   fits_these : (row : Row) (ns : List ℕ) → FitsVersions (versions_of h row ns) ps

@@ -1,8 +1,5 @@
 -- What a set of a table gains from a list of numbers, one step after another.
-use Rattle.std.proofs.Common.{◌≡◌, ◌⊎◌, ◌≤◌, ◌<◌, ◌+◌, ◌==◌, ◌&&◌, ◌||◌, ℕ, Bool, true, false, Some, List, length, refl, sym, ap, ◌∙◌, arith, inl, inr}
-use Rattle.std.specs.Prelude.{slice_get}
-use Rattle.std.proofs.lemmas.Bool.{cases_lt, false≢true, eq-eqb, eqb-true}
-use Rattle.std.proofs.lemmas.Option.{same_Some}
+use Rattle.std.{proofs.{Common.{◌≡◌, ◌⊎◌, ◌≤◌, ◌<◌, ◌+◌, ◌==◌, ◌&&◌, ◌||◌, ℕ, Bool, true, false, Some, List, length, refl, sym, ap, ◌∙◌, arith, inl, inr}, lemmas.{Bool.{cases_lt, false≢true, eq-eqb, eqb-true}, Option.{same_Some}}}, specs.Prelude.{slice_get}}
 use Rattle.lab_sets.specs.Sets.{has}
 use Rattle.lab_deps.specs.FrontSets.{in_table, StandsWithin, IsFront, Gains}
 

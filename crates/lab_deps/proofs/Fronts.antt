@@ -1,11 +1,7 @@
 -- Sets of the first numbers of a list, one number after another.
-use Rattle.std.proofs.Common.{◌≡◌, ◌⊎◌, ◌<◌, ◌+◌, ◌*◌, ◌==◌, ◌||◌, ℕ, zero, suc, true, false, Some, List, [], ◌∷◌, ◌++◌, length, refl, sym, ap, ◌∙◌, subst, arith, inl, inr}
-use Rattle.std.specs.Prelude.{slice_get}
-use Rattle.std.proofs.lemmas.Bool.{cases_eq, false≢true, eq-eqb, eqb-true}
-use Rattle.std.proofs.lemmas.Option.{none-some, same_Some}
+use Rattle.std.{proofs.{Common.{◌≡◌, ◌⊎◌, ◌<◌, ◌+◌, ◌*◌, ◌==◌, ◌||◌, ℕ, zero, suc, true, false, Some, List, [], ◌∷◌, ◌++◌, length, refl, sym, ap, ◌∙◌, subst, arith, inl, inr}, lemmas.{Bool.{cases_eq, false≢true, eq-eqb, eqb-true}, Option.{none-some, same_Some}}}, specs.Prelude.{slice_get}}
 use Rattle.lab_sets.specs.Sets.{has, room, room_for}
-use Rattle.lab_deps.specs.FrontSets.{StandsWithin, IsFront, AreFronts}
-use Rattle.lab_deps.proofs.FrontGains.{or_cases, or_first, or_last}
+use Rattle.lab_deps.{specs.FrontSets.{StandsWithin, IsFront, AreFronts}, proofs.FrontGains.{or_cases, or_first, or_last}}
 
 -- what stands in a longer list
 

@@ -1,12 +1,8 @@
 -- What is gathered of dependencies, one step after another, and what the cells tell in the end.
 use Rattle.std.proofs.Common.{◌≡◌, ◌≢◌, ◌↔◌, ◌≤◌, ◌<◌, ◌-◌, ℕ, cond, Some, List, [], ◌∷◌, ◌++◌, length, sym, ap, ◌∙◌, subst, arith, inl, inr}
-use Rattle.std.specs.Prelude.{slice_get, Contains}
-use Rattle.std.specs.List.{flat_map}
-use Rattle.std.proofs.lemmas.Bool.{cases_lt, lt-ltb, le-ltb}
-use Rattle.std.proofs.lemmas.List.Elements.{Contains-append_left, Contains-append_right, Contains-append_cases}
-use Rattle.std.proofs.lemmas.Option.{same_Some, slice_get_within}
-use Rattle.lab_table.specs.declared.statement.Statement.{Statement}
-use Rattle.lab_table.proofs.Members.{member_at}
+use Rattle.std.specs.{Prelude.{slice_get, Contains}, List.{flat_map}}
+use Rattle.std.proofs.lemmas.{Bool.{cases_lt, lt-ltb, le-ltb}, List.Elements.{Contains-append_left, Contains-append_right, Contains-append_cases}, Option.{same_Some, slice_get_within}}
+use Rattle.lab_table.{specs.declared.statement.Statement.{Statement}, proofs.Members.{member_at}}
 use Rattle.lab_deps.specs.Collected.{apart, read_by, passed_by}
 use Rattle.lab_deps.specs.EdgesByRow.{Chain}
 use Rattle.lab_deps.specs.FrontSets.{StandsWithin, Gains, IsCut}
@@ -15,11 +11,7 @@ use Rattle.lab_deps.specs.KindBits.{place, edge_of, Tells}
 use Rattle.lab_deps.specs.Numbering.{FitsVersions}
 use Rattle.lab_deps.specs.Turnings.{IsTurning, class_by}
 use Rattle.lab_deps.specs.Turns.{change_at}
-use Rattle.lab_deps.specs.declared.edge.Edge.{Edge}
-use Rattle.lab_deps.specs.declared.edge.Kind.{Kind}
-use Rattle.lab_deps.specs.declared.edge.Kind.TheVariants.{PredicateRead, PredicateAnti}
-use Rattle.lab_deps.specs.declared.reading.Reading.{Reading}
-use Rattle.lab_deps.specs.declared.turning.Turning.{Turning}
+use Rattle.lab_deps.specs.declared.{edge.{Edge.{Edge}, Kind.{Kind, TheVariants.{PredicateRead, PredicateAnti}}}, reading.Reading.{Reading}, turning.Turning.{Turning}}
 use Rattle.lab_deps.proofs.ChangedMatches.{is_turned_edge, edge_is_turned}
 
 more_kinds : (es fs : List Edge) (from to : ℕ) (kind : Kind) → HasKind es from to kind → HasKind (es ++ fs) from to kind

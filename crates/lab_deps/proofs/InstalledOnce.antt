@@ -1,21 +1,10 @@
 -- Where rows are installed by their committed writers, an installer has one place, and wrote the row.
-use Rattle.std.proofs.Common.{◌≡◌, ℕ, suc, ◌≤◌, Bool, true, false, cond, ◌==◌, Some, None, List, refl, ap, ◌∙◌, arith}
-use Rattle.std.specs.Prelude.{Contains, count_by, is_some}
-use Rattle.std.proofs.lemmas.Bool.{and_parts}
+use Rattle.std.{proofs.{Common.{◌≡◌, ℕ, suc, ◌≤◌, Bool, true, false, cond, ◌==◌, Some, None, List, refl, ap, ◌∙◌, arith}, lemmas.Bool.{and_parts}}, specs.Prelude.{Contains, count_by, is_some}}
 use Rattle.lab_table.specs.Row.{Row}
-use Rattle.lab_history.specs.History.{History}
-use Rattle.lab_history.specs.Version.{installers, place_in, new_state, ops_of, outcome_of, writes_row}
-use Rattle.lab_history.specs.declared.operation.Op.{Op}
-use Rattle.lab_deps.specs.Collected.{committed_ops}
-use Rattle.lab_deps.specs.Edges.{InstallsAt}
-use Rattle.lab_deps.specs.Meetings.{HasWritten}
+use Rattle.lab_history.specs.{History.{History}, Version.{installers, place_in, new_state, ops_of, outcome_of, writes_row}, declared.operation.Op.{Op}}
+use Rattle.lab_deps.specs.{Collected.{committed_ops}, Edges.{InstallsAt}, Meetings.{HasWritten}, Soundness.{Stands, is_writer}, declared.fault.LocalFault.TheVariants.{InstallOrder}}
 use Rattle.lab_deps.specs.Soundness as sound
-use Rattle.lab_deps.specs.Soundness.{Stands, is_writer}
-use Rattle.lab_deps.specs.declared.fault.LocalFault.TheVariants.{InstallOrder}
-use Rattle.lab_deps.proofs.Installers.{installer_committed}
-use Rattle.lab_deps.proofs.Places.{times, times_count, at_times, apart_times, place_there, no_place, stable_nat}
-use Rattle.lab_deps.proofs.Readers.{has_committed}
-use Rattle.lab_deps.proofs.Writers.{last_has}
+use Rattle.lab_deps.proofs.{Installers.{installer_committed}, Places.{times, times_count, at_times, apart_times, place_there, no_place, stable_nat}, Readers.{has_committed}, Writers.{last_has}}
 
 module _ (h : History) (placed : (row : Row) → Stands h (InstallOrder row) → ⊥) (row : Row) (p n : ℕ) (installs : InstallsAt h row p n) where
   counted : times n (installers h row) ≡ cond (is_writer h row n) 1 0

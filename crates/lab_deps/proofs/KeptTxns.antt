@@ -1,13 +1,7 @@
 -- The transactions that a history has are found by their numbers.
-use Rattle.std.proofs.Common.{◌≡◌, ℕ, zero, suc, ◌<◌, ◌≤◌, ◌==◌, true, false, cond, Some, List, [], ◌∷◌, length, length-append, get_or, refl, sym, ap, ◌∙◌, map, arith}
-use Rattle.std.specs.Prelude.{slice_get}
-use Rattle.std.specs.List.{list_any}
-use Rattle.std.proofs.lemmas.Bool.{false≢true, eqb-true, eq-eqb, or_parts}
-use Rattle.std.proofs.lemmas.Option.{none-some, same_Some, slice_get_read}
-use Rattle.lab_history.specs.History.{History}
-use Rattle.lab_history.specs.HistoryRules.{AllDistinct, Keeps, operations}
-use Rattle.lab_history.specs.Version.{find_txn}
-use Rattle.lab_history.specs.declared.transaction.Txn.{Txn}
+use Rattle.std.proofs.{Common.{◌≡◌, ℕ, zero, suc, ◌<◌, ◌≤◌, ◌==◌, true, false, cond, Some, List, [], ◌∷◌, length, length-append, get_or, refl, sym, ap, ◌∙◌, map, arith}, lemmas.{Bool.{false≢true, eqb-true, eq-eqb, or_parts}, Option.{none-some, same_Some, slice_get_read}}}
+use Rattle.std.specs.{Prelude.{slice_get}, List.{list_any}}
+use Rattle.lab_history.specs.{History.{History}, HistoryRules.{AllDistinct, Keeps, operations}, Version.{find_txn}, declared.transaction.Txn.{Txn}}
 use Rattle.lab_deps.specs.Passes.{IsTxnOf}
 
 -- a number that none of some transactions has isn't that of one of them

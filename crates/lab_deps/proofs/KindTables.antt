@@ -1,13 +1,7 @@
 -- The kinds between the transactions of a list, read by their places.
-use Rattle.std.proofs.Common.{◌≡◌, ◌↔◌, ◌+◌, ◌*◌, ◌==◌, ℕ, Bool, true, false, cond, Some, List, [], map, length, get_or, drop, sym, ap, ◌∙◌, subst, arith}
-use Rattle.std.specs.Prelude.{Contains, slice_get, option_map}
-use Rattle.std.proofs.lemmas.List.{length-map, get_or-drop, get_or_past}
-use Rattle.std.proofs.lemmas.Option.{same_Some, slice_get-map}
+use Rattle.std.{proofs.{Common.{◌≡◌, ◌↔◌, ◌+◌, ◌*◌, ◌==◌, ℕ, Bool, true, false, cond, Some, List, [], map, length, get_or, drop, sym, ap, ◌∙◌, subst, arith}, lemmas.{List.{length-map, get_or-drop, get_or_past}, Option.{same_Some, slice_get-map}}}, specs.Prelude.{Contains, slice_get, option_map}}
 use Rattle.lab_table.specs.Row.{Row}
-use Rattle.lab_deps.specs.KindBits.{has_bit, place, bits_at, cells_from, column_of, edge_of}
-use Rattle.lab_deps.specs.KindsBetween.{AreKindsTo, IsTold}
-use Rattle.lab_deps.specs.declared.edge.Edge.{Edge}
-use Rattle.lab_deps.specs.declared.kinds.Kinds.{Kinds}
+use Rattle.lab_deps.specs.{KindBits.{has_bit, place, bits_at, cells_from, column_of, edge_of}, KindsBetween.{AreKindsTo, IsTold}, declared.{edge.Edge.{Edge}, kinds.Kinds.{Kinds}}}
 
 -- what is made of a list has at each place what is made of what stands there
 made_at : {A B : Type 0} (f : A → B) (xs : List A) (k : ℕ) (x : A) → slice_get xs k ≡ Some x → slice_get (map f xs) k ≡ Some (f x)

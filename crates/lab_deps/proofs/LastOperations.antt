@@ -1,16 +1,8 @@
 -- What an operation writes is its transaction's last write where none behind it writes the row.
-use Rattle.std.proofs.Common.{◌≡◌, ℕ, zero, suc, Bool, true, false, not, cond, Option, Some, None, List, [], ◌∷◌, ◌+◌, ◌<◌, length, get_or, drop, add-one, refl, sym, ap, ◌∙◌}
-use Rattle.std.specs.Prelude.{option_map, is_some, is_none, slice_get}
-use Rattle.std.specs.List.{list_all}
-use Rattle.std.specs.Option.{option_or}
-use Rattle.std.specs.FinMap.{find}
-use Rattle.std.proofs.lemmas.Bool.{eq-eqb, false≢true, and_parts}
-use Rattle.std.proofs.lemmas.Option.{none-some, same_Some, slice_get_read}
+use Rattle.std.proofs.{Common.{◌≡◌, ℕ, zero, suc, Bool, true, false, not, cond, Option, Some, None, List, [], ◌∷◌, ◌+◌, ◌<◌, length, get_or, drop, add-one, refl, sym, ap, ◌∙◌}, lemmas.{Bool.{eq-eqb, false≢true, and_parts}, Option.{none-some, same_Some, slice_get_read}}}
+use Rattle.std.specs.{Prelude.{option_map, is_some, is_none, slice_get}, List.{list_all}, Option.{option_or}, FinMap.{find}}
 use Rattle.lab_table.specs.Row.{Row, row_cmp, row_test, rows_tested}
-use Rattle.lab_history.specs.Version.{last_write, new_state, WritesAt, is_at}
-use Rattle.lab_history.specs.VersionName.{new_states, state_value}
-use Rattle.lab_history.specs.declared.operation.Op.{Op}
-use Rattle.lab_history.specs.declared.operation.State.{State}
+use Rattle.lab_history.specs.{Version.{last_write, new_state, WritesAt, is_at}, VersionName.{new_states, state_value}, declared.operation.{Op.{Op}, State.{State}}}
 use Rattle.lab_deps.proofs.FineReads.{not_true}
 
 module _ (row : Row) where

@@ -1,15 +1,8 @@
 -- The least edge from one transaction to another is of the first kind that there is, at the least row.
-use Rattle.std.proofs.Common.{◌≡◌, ◌↔◌, ◌≤◌, ℕ, Bool, true, false, ◌==◌, ◌&&◌, cond, Option, Some, None, refl, sym, ap, ◌∙◌, subst, arith}
-use Rattle.std.specs.Prelude.{Contains, option_map}
-use Rattle.std.specs.Ordering.{is_lt, nat_cmp, ordering_then}
-use Rattle.std.specs.declared.cmp.Ordering.{Ordering}
-use Rattle.std.specs.declared.cmp.Ordering.TheVariants.{Less, Equal, Greater}
-use Rattle.std.proofs.lemmas.Bool.{false≢true, eqb-true, eq-eqb, le-ltb, and_parts, and_from}
-use Rattle.std.proofs.lemmas.Option.{none-some, same_Some}
-use Rattle.lab_table.specs.Row.{Row, row_cmp}
-use Rattle.lab_table.proofs.Tests.{mapped_some}
-use Rattle.lab_history.specs.History.{History}
-use Rattle.lab_history.specs.Version.{IsCommitted}
+use Rattle.std.proofs.{Common.{◌≡◌, ◌↔◌, ◌≤◌, ℕ, Bool, true, false, ◌==◌, ◌&&◌, cond, Option, Some, None, refl, sym, ap, ◌∙◌, subst, arith}, lemmas.{Bool.{false≢true, eqb-true, eq-eqb, le-ltb, and_parts, and_from}, Option.{none-some, same_Some}}}
+use Rattle.std.specs.{Prelude.{Contains, option_map}, Ordering.{is_lt, nat_cmp, ordering_then}, declared.cmp.Ordering.{Ordering, TheVariants.{Less, Equal, Greater}}}
+use Rattle.lab_table.{specs.Row.{Row, row_cmp}, proofs.Tests.{mapped_some}}
+use Rattle.lab_history.specs.{History.{History}, Version.{IsCommitted}}
 use Rattle.lab_deps.specs.Edges.{Depends, IsEdge}
 use Rattle.lab_deps.specs.EdgeOrder.{kind_place, edge_cmp}
 use Rattle.lab_deps.specs.KindBits.{edge_of}
@@ -17,16 +10,8 @@ use Rattle.lab_deps.specs.LeastEdge.{fits, comes_first, both_have, least_kind, I
 use Rattle.lab_deps.specs.LeastRow.{comes_before, IsLeastRow}
 use Rattle.lab_deps.specs.Scopes.{Allows, edges_in}
 use Rattle.lab_deps.specs.Soundness.{Stands}
-use Rattle.lab_deps.specs.declared.edge.Edge.{Edge}
-use Rattle.lab_deps.specs.declared.edge.Kind.{Kind}
-use Rattle.lab_deps.specs.declared.edge.Kind.TheVariants.{Write, ItemRead, PredicateRead, ItemAnti, PredicateAnti}
-use Rattle.lab_deps.specs.declared.fault.LocalFault.TheVariants.{InstallOrder}
-use Rattle.lab_deps.specs.declared.scope.Scope.{Scope}
-use Rattle.lab_deps.specs.declared.scope.Scope.TheVariants.{All, Writes}
-use Rattle.lab_deps.proofs.CollectedEdges.{edge_is_collected}
-use Rattle.lab_deps.proofs.EdgeOrders.{same_kind}
-use Rattle.lab_deps.proofs.ScopedEdges.{are_edges}
-use Rattle.lab_deps.proofs.WriteEdges.{are_writes, writes_are}
+use Rattle.lab_deps.specs.declared.{edge.{Edge.{Edge}, Kind.{Kind, TheVariants.{Write, ItemRead, PredicateRead, ItemAnti, PredicateAnti}}}, fault.LocalFault.TheVariants.{InstallOrder}, scope.Scope.{Scope, TheVariants.{All, Writes}}}
+use Rattle.lab_deps.proofs.{CollectedEdges.{edge_is_collected}, EdgeOrders.{same_kind}, ScopedEdges.{are_edges}, WriteEdges.{are_writes, writes_are}}
 
 -- what five tests say of the kinds
 abbrev tells : Bool → Bool → Bool → Bool → Bool → Kind → Bool

@@ -1,12 +1,6 @@
 -- What the least edge from one transaction to another has.
-use Rattle.std.proofs.Common.{◌≡◌, ℕ, Bool, true, false, ◌==◌, ◌&&◌, Option, Some, None, List, refl, sym, ap, ◌∙◌, subst}
-use Rattle.std.specs.Prelude.{Contains, IfSome}
-use Rattle.std.specs.Ordering.{is_lt}
-use Rattle.std.proofs.lemmas.Bool.{false≢true, eqb-true, eq-eqb, and_parts, and_from}
-use Rattle.lab_deps.specs.EdgeOrder.{edge_cmp}
-use Rattle.lab_deps.specs.LeastEdge.{fits, comes_first, IsLeast}
-use Rattle.lab_deps.specs.declared.edge.Edge.{Edge}
-use Rattle.lab_deps.specs.declared.edge.Kind.{Kind}
+use Rattle.std.{proofs.{Common.{◌≡◌, ℕ, Bool, true, false, ◌==◌, ◌&&◌, Option, Some, None, List, refl, sym, ap, ◌∙◌, subst}, lemmas.Bool.{false≢true, eqb-true, eq-eqb, and_parts, and_from}}, specs.{Prelude.{Contains, IfSome}, Ordering.{is_lt}}}
+use Rattle.lab_deps.specs.{EdgeOrder.{edge_cmp}, LeastEdge.{fits, comes_first, IsLeast}, declared.edge.{Edge.{Edge}, Kind.{Kind}}}
 
 if_found : (found : Option Edge) (P : Edge → Type 0) → ((e : Edge) → found ≡ Some e → P e) → IfSome found P
 if_found None P f = tt

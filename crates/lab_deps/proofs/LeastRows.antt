@@ -1,24 +1,9 @@
 -- The least row of which something is so.
-use Rattle.std.proofs.Common.{◌≡◌, Bool, true, false, cond, ◌⊎◌, inl, inr, Option, Some, None, List, [], ◌∷◌, refl, sym, ap, ◌∙◌, subst}
-use Rattle.std.specs.Prelude.{Contains, is_some}
-use Rattle.std.specs.FinMap.{FinMap, get, entries, get-entries}
-use Rattle.std.specs.List.{AllByRecursion}
-use Rattle.std.specs.List.Sorted.{IsStrictlySortedBy}
-use Rattle.std.specs.Ordering.{is_lt}
-use Rattle.std.specs.Cmp.{tied_itself}
-use Rattle.std.specs.declared.cmp.Ordering.TheVariants.{Less}
-use Rattle.std.proofs.lemmas.Bool.{false≢true}
-use Rattle.std.proofs.lemmas.List.Elements.{Contains-append_cases}
-use Rattle.std.proofs.lemmas.Option.{none-some, same_Some}
-use Rattle.lab_table.specs.Row.{Row, row_cmp, rows_total}
-use Rattle.lab_table.proofs.Members.{no_member, first_member, later_member, only_member}
-use Rattle.lab_table.proofs.Orderings.{turned_back}
-use Rattle.lab_table.proofs.Tests.{some_of}
+use Rattle.std.proofs.{Common.{◌≡◌, Bool, true, false, cond, ◌⊎◌, inl, inr, Option, Some, None, List, [], ◌∷◌, refl, sym, ap, ◌∙◌, subst}, lemmas.{Bool.{false≢true}, List.Elements.{Contains-append_cases}, Option.{none-some, same_Some}}}
+use Rattle.std.specs.{Prelude.{Contains, is_some}, FinMap.{FinMap, get, entries, get-entries}, List.{AllByRecursion, Sorted.{IsStrictlySortedBy}}, Ordering.{is_lt}, Cmp.{tied_itself}, declared.cmp.Ordering.TheVariants.{Less}}
+use Rattle.lab_table.{specs.Row.{Row, row_cmp, rows_total}, proofs.{Members.{no_member, first_member, later_member, only_member}, Orderings.{turned_back}, Tests.{some_of}}}
 use Rattle.lab_history.specs.declared.operation.Op.{Op}
-use Rattle.lab_deps.specs.LeastRow.{comes_before, first_row, least_at, IsLeastRow}
-use Rattle.lab_deps.specs.Passes.{first_entry, least}
-use Rattle.lab_deps.proofs.Above.{Above, both_above}
-use Rattle.lab_deps.proofs.Rows.{found_passes, found_has, above_in_map, least_is}
+use Rattle.lab_deps.{specs.{LeastRow.{comes_before, first_row, least_at, IsLeastRow}, Passes.{first_entry, least}}, proofs.{Above.{Above, both_above}, Rows.{found_passes, found_has, above_in_map, least_is}}}
 
 -- what a row comes before stands above it
 above_of : (o : Option Row) (row : Row) → comes_before row o ≡ true → Above o row

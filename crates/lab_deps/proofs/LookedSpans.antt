@@ -1,33 +1,12 @@
 -- Places of a list whose rows rise, outside which an operation has to look at no row.
 use Rattle.std.proofs.Common.{◌≡◌, ◌≤◌, ◌<◌, ◌+◌, ◌-◌, ℕ, zero, suc, Bool, true, false, ◌||◌, cond, T, Some, None, List, [], ◌∷◌, ◌++◌, length, map, take, drop, refl, sym, ap, ◌∙◌, subst, arith, inl, inr}
-use Rattle.std.specs.Prelude.{Contains, slice_get, slice_index_or, filter, is_some}
-use Rattle.std.specs.List.{flat_map, prefix_len}
+use Rattle.std.specs.{Prelude.{Contains, slice_get, slice_index_or, filter, is_some}, List.{flat_map, prefix_len}, FinMap.{find, is_sorted, get-entries, Entries.{below_all}}, Ordering.{is_eq, is_gt}, declared.cmp.Ordering.{Ordering, TheVariants.{Less, Equal, Greater}}}
 use Rattle.std.specs.FinMap as finite
-use Rattle.std.specs.FinMap.{find, is_sorted, get-entries}
-use Rattle.std.specs.FinMap.Entries.{below_all}
-use Rattle.std.specs.Ordering.{is_eq, is_gt}
-use Rattle.std.specs.declared.cmp.Ordering.{Ordering}
-use Rattle.std.specs.declared.cmp.Ordering.TheVariants.{Less, Equal, Greater}
-use Rattle.std.proofs.lemmas.Bool.{false≢true}
-use Rattle.std.proofs.lemmas.List.{drop-map, take-map}
-use Rattle.std.proofs.lemmas.List.Elements.{Contains-append_cases}
-use Rattle.std.proofs.lemmas.List.Folds.{flat_map-map}
-use Rattle.std.proofs.lemmas.List.Sums.{prefix_len_passes, prefix_len_stops}
-use Rattle.std.proofs.lemmas.Option.{none-some, same_Some, slice_get_within, get_or_from_slice_get}
-use Rattle.lab_table.specs.Row.{Row, row_cmp}
-use Rattle.lab_table.specs.Running.{comes_after}
-use Rattle.lab_table.specs.Statement.{may_match}
-use Rattle.lab_table.proofs.Maps.{find_below, same_row}
-use Rattle.lab_table.proofs.Members.{no_member, first_member, later_member, only_member}
-use Rattle.lab_table.proofs.Orderings.{after_below, is_greater, turned, turned_back}
-use Rattle.lab_table.proofs.Searching.{parted}
-use Rattle.lab_table.proofs.SortedRows.{below_at, lower}
-use Rattle.lab_table.proofs.Tests.{both}
-use Rattle.lab_history.specs.History.{History}
-use Rattle.lab_history.specs.declared.operation.Op.{Op}
-use Rattle.lab_deps.specs.Collected.{reading_of}
-use Rattle.lab_deps.specs.EdgesByRow.{looks_at, walked_in, with_versions, rows_of, found_at_row, found_by}
-use Rattle.lab_deps.proofs.Spans.{left_between}
+use Rattle.std.proofs.lemmas.{Bool.{false≢true}, List.{drop-map, take-map, Elements.{Contains-append_cases}, Folds.{flat_map-map}, Sums.{prefix_len_passes, prefix_len_stops}}, Option.{none-some, same_Some, slice_get_within, get_or_from_slice_get}}
+use Rattle.lab_table.specs.{Row.{Row, row_cmp}, Running.{comes_after}, Statement.{may_match}}
+use Rattle.lab_table.proofs.{Maps.{find_below, same_row}, Members.{no_member, first_member, later_member, only_member}, Orderings.{after_below, is_greater, turned, turned_back}, Searching.{parted}, SortedRows.{below_at, lower}, Tests.{both}}
+use Rattle.lab_history.specs.{History.{History}, declared.operation.Op.{Op}}
+use Rattle.lab_deps.{specs.{Collected.{reading_of}, EdgesByRow.{looks_at, walked_in, with_versions, rows_of, found_at_row, found_by}}, proofs.Spans.{left_between}}
 
 greater_apart : (a b : Row) → is_gt (row_cmp a b) ≡ true → is_eq (row_cmp a b) ≡ false
 greater_apart a b after = ap is_eq (is_greater _ after)

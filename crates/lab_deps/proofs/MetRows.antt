@@ -1,16 +1,9 @@
 -- The rows at which one transaction depends on another are found at what one of them wrote.
-use Rattle.std.proofs.Common.{◌≡◌, ℕ, suc, ◌-◌, ◌≤◌, ◌||◌, Bool, true, false, Option, Some, None, List, refl, sym, ap, ◌∙◌, subst, arith}
-use Rattle.std.specs.Prelude.{Contains, is_some, nat_lt, nat_le}
+use Rattle.std.proofs.{Common.{◌≡◌, ℕ, suc, ◌-◌, ◌≤◌, ◌||◌, Bool, true, false, Option, Some, None, List, refl, sym, ap, ◌∙◌, subst, arith}, lemmas.Bool.{false≢true, eqb-true, eq-eqb, ltb-true, lt-ltb, and_parts, and_from}}
+use Rattle.std.specs.{Prelude.{Contains, is_some, nat_lt, nat_le}, List.Sorted.{IsStrictlySortedBy}}
 use Rattle.std.specs.FinMap as map
-use Rattle.std.specs.List.Sorted.{IsStrictlySortedBy}
-use Rattle.std.proofs.lemmas.Bool.{false≢true, eqb-true, eq-eqb, ltb-true, lt-ltb, and_parts, and_from}
-use Rattle.lab_table.specs.Row.{Row, row_cmp}
-use Rattle.lab_table.specs.Statement.{matches, may_match}
-use Rattle.lab_table.specs.declared.statement.Statement.{Statement}
-use Rattle.lab_table.proofs.OneRow.{no_match}
-use Rattle.lab_history.specs.History.{History}
-use Rattle.lab_history.specs.Version.{IsCommitted, IsOp, installers, place_in, new_state, state_at, viewed}
-use Rattle.lab_history.specs.declared.operation.Op.{Op}
+use Rattle.lab_table.{specs.{Row.{Row, row_cmp}, Statement.{matches, may_match}, declared.statement.Statement.{Statement}}, proofs.OneRow.{no_match}}
+use Rattle.lab_history.specs.{History.{History}, Version.{IsCommitted, IsOp, installers, place_in, new_state, state_at, viewed}, declared.operation.Op.{Op}}
 use Rattle.lab_deps.specs.Collected.{committed_ops}
 use Rattle.lab_deps.specs.Edges.{differ, changes, place_of, InstallsAt, Depends}
 use Rattle.lab_deps.specs.EdgesByRow.{looks_at}
@@ -18,14 +11,8 @@ use Rattle.lab_deps.specs.LeastRow.{first_row, least_at, IsLeastRow}
 use Rattle.lab_deps.specs.Meetings.{is_next, installs_next, turns, is_tied, tied_in, looks_for, meets, Meets, HasWritten}
 use Rattle.lab_deps.specs.Passes.{state_after, first_entry}
 use Rattle.lab_deps.specs.Soundness.{Stands}
-use Rattle.lab_deps.specs.declared.edge.Kind.{Kind}
-use Rattle.lab_deps.specs.declared.edge.Kind.TheVariants.{Write, ItemRead, PredicateRead, ItemAnti, PredicateAnti}
-use Rattle.lab_deps.specs.declared.fault.LocalFault.TheVariants.{InstallOrder}
-use Rattle.lab_deps.proofs.EndStates.{same_after}
-use Rattle.lab_deps.proofs.InstalledOnce.{found_place, row_written, writing_op}
-use Rattle.lab_deps.proofs.LeastRows.{least_like, entry_least, row_least, least_of_ops}
-use Rattle.lab_deps.proofs.Places.{place_there}
-use Rattle.lab_deps.proofs.Readers.{committed_has, has_committed}
+use Rattle.lab_deps.specs.declared.{edge.Kind.{Kind, TheVariants.{Write, ItemRead, PredicateRead, ItemAnti, PredicateAnti}}, fault.LocalFault.TheVariants.{InstallOrder}}
+use Rattle.lab_deps.proofs.{EndStates.{same_after}, InstalledOnce.{found_place, row_written, writing_op}, LeastRows.{least_like, entry_least, row_least, least_of_ops}, Places.{place_there}, Readers.{committed_has, has_committed}}
 
 less_one : (q : ℕ) → suc q - 1 ≡ q
 less_one q = omega arith

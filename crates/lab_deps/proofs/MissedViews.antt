@@ -1,17 +1,8 @@
 -- Which versions of the operation before an operation doesn't miss.
-use Rattle.std.proofs.Common.{◌≡◌, ℕ, ◌==◌, Bool, true, false, not, ◌&&◌, cond, Some, None, List, [], ◌∷◌, refl, sym, ap, ◌∙◌}
-use Rattle.std.specs.Prelude.{is_some, unwrap_or}
-use Rattle.std.specs.FinMap.{get, entries}
-use Rattle.std.proofs.lemmas.Bool.{eq-eqb}
-use Rattle.lab_table.specs.Row.{Row}
-use Rattle.lab_table.proofs.Tests.{some_of}
-use Rattle.lab_history.specs.Version.{viewed, new_state}
-use Rattle.lab_history.specs.declared.operation.Op.{Op}
-use Rattle.lab_history.specs.declared.operation.VersionName.{VersionName}
-use Rattle.lab_history.specs.declared.operation.VersionName.TheVariants.{Initial, Of}
-use Rattle.lab_deps.specs.Broken.{choose, is_version, is_of, own_changes, is_missed}
-use Rattle.lab_deps.specs.Passes.{first_entry}
-use Rattle.lab_deps.proofs.Rows.{none_in_map}
+use Rattle.std.{proofs.{Common.{◌≡◌, ℕ, ◌==◌, Bool, true, false, not, ◌&&◌, cond, Some, None, List, [], ◌∷◌, refl, sym, ap, ◌∙◌}, lemmas.Bool.{eq-eqb}}, specs.{Prelude.{is_some, unwrap_or}, FinMap.{get, entries}}}
+use Rattle.lab_table.{specs.Row.{Row}, proofs.Tests.{some_of}}
+use Rattle.lab_history.specs.{Version.{viewed, new_state}, declared.operation.{Op.{Op}, VersionName.{VersionName, TheVariants.{Initial, Of}}}}
+use Rattle.lab_deps.{specs.{Broken.{choose, is_version, is_of, own_changes, is_missed}, Passes.{first_entry}}, proofs.Rows.{none_in_map}}
 
 others : (n : ℕ) (v u : VersionName) → is_of n v ≡ false → own_changes n v u ≡ false
 others n Initial u e = refl

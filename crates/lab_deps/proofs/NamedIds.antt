@@ -1,26 +1,11 @@
 -- Rows of the initial table whose numbers a statement lists.
 use Rattle.std.proofs.Common.{◌≡◌, ◌≢◌, ℕ, ℤ, nat_abs, Bool, true, false, ◌||◌, ◌&&◌, cond, T, Option, Some, None, List, [], ◌∷◌, ◌++◌, refl, sym, ap, ◌∙◌, subst}
-use Rattle.std.specs.Prelude.{pos, option_and_then, option_map}
-use Rattle.std.specs.FinMap.{find, get, entries, entries_sorted, is_sorted, get-entries}
-use Rattle.std.specs.FinMap.Entries.{below_all}
-use Rattle.std.specs.Ordering.{int_eq, is_lt, is_le}
-use Rattle.std.specs.declared.cmp.Ordering.TheVariants.{Less}
-use Rattle.std.proofs.lemmas.Bool.{and_parts, false_from_ne_true}
-use Rattle.std.proofs.lemmas.Bool.Decides.{Decides-int_eq}
-use Rattle.std.proofs.lemmas.List.Folds.{list_any-append}
-use Rattle.std.proofs.lemmas.Option.{none-some, same_Some}
+use Rattle.std.specs.{Prelude.{pos, option_and_then, option_map}, FinMap.{find, get, entries, entries_sorted, is_sorted, get-entries, Entries.{below_all}}, Ordering.{int_eq, is_lt, is_le}, declared.cmp.Ordering.TheVariants.{Less}}
+use Rattle.std.proofs.lemmas.{Bool.{and_parts, false_from_ne_true, Decides.{Decides-int_eq}}, List.Folds.{list_any-append}, Option.{none-some, same_Some}}
 use Rattle.std.proofs.Math.Bool.{or-false, and-false, and-or_distrib_left}
-use Rattle.lab_table.specs.Row.{Row, row_cmp, id_of, row_le, numbered, row_made}
-use Rattle.lab_table.specs.NamedRow.{has_number}
-use Rattle.lab_table.specs.Statement.{may_match}
-use Rattle.lab_table.proofs.Orderings.{is_less, turned_back}
-use Rattle.lab_table.proofs.Tests.{both}
-use Rattle.lab_history.specs.History.{History}
-use Rattle.lab_history.specs.declared.operation.Op.{Op}
-use Rattle.lab_deps.specs.Broken.{is_unlisted}
-use Rattle.lab_deps.specs.Passes.{first_value, is_unlisted_among, least, unlisted_itself}
-use Rattle.lab_deps.proofs.RuledOut.{may_be_unlisted, first_is}
-use Rattle.lab_deps.proofs.OwnTable.{own_table}
+use Rattle.lab_table.{specs.{Row.{Row, row_cmp, id_of, row_le, numbered, row_made}, NamedRow.{has_number}, Statement.{may_match}}, proofs.{Orderings.{is_less, turned_back}, Tests.{both}}}
+use Rattle.lab_history.specs.{History.{History}, declared.operation.Op.{Op}}
+use Rattle.lab_deps.{specs.{Broken.{is_unlisted}, Passes.{first_value, is_unlisted_among, least, unlisted_itself}}, proofs.{RuledOut.{may_be_unlisted, first_is}, OwnTable.{own_table}}}
 
 -- of a row and rows above it the row is the least
 least_first : (x : Row) (o : Option Row) → ((row : Row) → o ≡ Some row → row_cmp x row ≡ Less) → least (Some x) o ≡ Some x

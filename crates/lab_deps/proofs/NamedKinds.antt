@@ -1,9 +1,6 @@
 -- The named sets of kinds are those that their names say.
 use Rattle.std.proofs.Common.{◌≡◌, refl}
-use Rattle.lab_deps.specs.KindSets.{among, is_any, is_write, is_flow, is_anti, is_item_anti}
-use Rattle.lab_deps.specs.declared.edge.Kind.{Kind}
-use Rattle.lab_deps.specs.declared.edge.Kind.TheVariants.{Write, ItemRead, PredicateRead, ItemAnti, PredicateAnti}
-use Rattle.lab_deps.specs.declared.kinds.TheConstants.Kinds.{ALL, WRITES, FLOW, ANTI, ITEM_ANTI}
+use Rattle.lab_deps.specs.{KindSets.{among, is_any, is_write, is_flow, is_anti, is_item_anti}, declared.{edge.Kind.{Kind, TheVariants.{Write, ItemRead, PredicateRead, ItemAnti, PredicateAnti}}, kinds.TheConstants.Kinds.{ALL, WRITES, FLOW, ANTI, ITEM_ANTI}}}
 
 pub all_has : (kind : Kind) → among ALL kind ≡ is_any kind
 all_has Write = refl

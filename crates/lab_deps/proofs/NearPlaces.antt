@@ -1,12 +1,6 @@
 -- A place at which a row stands in a sorted list, seen by the entries before and at it.
-use Rattle.std.proofs.Common.{◌≡◌, ℕ, ◌-◌, ◌≤◌, ◌<◌, true, false, T, List, length, refl, sym, ◌∙◌, arith}
-use Rattle.std.specs.Prelude.{slice_index_or}
-use Rattle.std.specs.List.{prefix_len}
-use Rattle.std.specs.FinMap.{is_sorted}
-use Rattle.std.proofs.lemmas.Bool.{false≢true}
-use Rattle.lab_table.specs.Row.{Row, row_cmp}
-use Rattle.lab_table.specs.Running.{comes_after}
-use Rattle.lab_table.proofs.Searching.{parted, point_is}
+use Rattle.std.{proofs.{Common.{◌≡◌, ℕ, ◌-◌, ◌≤◌, ◌<◌, true, false, T, List, length, refl, sym, ◌∙◌, arith}, lemmas.Bool.{false≢true}}, specs.{Prelude.{slice_index_or}, List.{prefix_len}, FinMap.{is_sorted}}}
+use Rattle.lab_table.{specs.{Row.{Row, row_cmp}, Running.{comes_after}}, proofs.Searching.{parted, point_is}}
 
 module _ {V : Type 0} (row : Row) (es : List (Row × V)) (sorted : T (is_sorted row_cmp es)) (i : ℕ) (within : i ≤ length es) where
   -- where the row comes after the entry before, if there is one, and not after the one there, if there is one

@@ -1,12 +1,7 @@
 -- An entry of a sorted list has the value of its row.
-use Rattle.std.proofs.Common.{◌≡◌, ℕ, zero, suc, ◌+◌, ◌<◌, Bool, true, false, cond, T, Option, Some, List, [], ◌∷◌, length, get_or, drop, refl, sym, ap, ◌∙◌, subst, add-one}
-use Rattle.std.specs.Prelude.{slice_get}
-use Rattle.std.specs.FinMap.{FinMap, find, get, entries, entries_sorted, is_sorted, get-entries}
-use Rattle.std.specs.FinMap.Entries.{below_all}
-use Rattle.std.proofs.lemmas.Option.{none-some, same_Some, slice_get_read}
-use Rattle.lab_table.specs.Row.{Row, row_cmp, row_eq}
-use Rattle.lab_table.proofs.Maps.{find_below, same_row, row_eq_self}
-use Rattle.lab_table.proofs.Tests.{both}
+use Rattle.std.proofs.{Common.{◌≡◌, ℕ, zero, suc, ◌+◌, ◌<◌, Bool, true, false, cond, T, Option, Some, List, [], ◌∷◌, length, get_or, drop, refl, sym, ap, ◌∙◌, subst, add-one}, lemmas.Option.{none-some, same_Some, slice_get_read}}
+use Rattle.std.specs.{Prelude.{slice_get}, FinMap.{FinMap, find, get, entries, entries_sorted, is_sorted, get-entries, Entries.{below_all}}}
+use Rattle.lab_table.{specs.Row.{Row, row_cmp, row_eq}, proofs.{Maps.{find_below, same_row, row_eq_self}, Tests.{both}}}
 use Rattle.lab_deps.specs.Passes.{first_entry, first_value}
 
 module _ {A : Type 0} where

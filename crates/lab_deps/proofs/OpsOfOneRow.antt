@@ -1,24 +1,10 @@
 -- An operation that has to look at one row alone finds nothing at others.
-use Rattle.std.proofs.Common.{◌≡◌, ◌≢◌, ℕ, true, false, ◌||◌, cond, T, Some, None, List, [], ◌∷◌, ◌++◌, refl, sym, ap, ◌∙◌, subst}
-use Rattle.std.specs.Prelude.{is_some}
-use Rattle.std.specs.List.{flat_map, list_all}
+use Rattle.std.proofs.{Common.{◌≡◌, ◌≢◌, ℕ, true, false, ◌||◌, cond, T, Some, None, List, [], ◌∷◌, ◌++◌, refl, sym, ap, ◌∙◌, subst}, lemmas.{Bool.{false≢true, and_parts}, List.{append-nil}, Option.{none-some, same_Some}}}
+use Rattle.std.specs.{Prelude.{is_some}, List.{flat_map, list_all}, FinMap.{find, get-entries, is_sorted, Entries.{below_all}}, Map.{lookup}, Ordering.{is_eq}}
 use Rattle.std.specs.FinMap as finite
-use Rattle.std.specs.FinMap.{find, get-entries, is_sorted}
-use Rattle.std.specs.FinMap.Entries.{below_all}
-use Rattle.std.specs.Map.{lookup}
-use Rattle.std.specs.Ordering.{is_eq}
-use Rattle.std.proofs.lemmas.Bool.{false≢true, and_parts}
-use Rattle.std.proofs.lemmas.List.{append-nil}
-use Rattle.std.proofs.lemmas.Option.{none-some, same_Some}
-use Rattle.lab_table.specs.Row.{Row, row_cmp, row_test}
-use Rattle.lab_table.specs.Statement.{may_match}
-use Rattle.lab_table.proofs.Maps.{same_row, tested_same, tests_itself}
-use Rattle.lab_table.proofs.Tests.{both}
-use Rattle.lab_history.specs.History.{History}
-use Rattle.lab_history.specs.declared.operation.Op.{Op}
-use Rattle.lab_deps.specs.EdgesByRow.{Chain, looks_at, walked_in, found_at_row, found_by, rows_of}
-use Rattle.lab_deps.specs.Collected.{reading_of}
-use Rattle.lab_deps.proofs.NumberedRows.{other_row, rows_sorted}
+use Rattle.lab_table.{specs.{Row.{Row, row_cmp, row_test}, Statement.{may_match}}, proofs.{Maps.{same_row, tested_same, tests_itself}, Tests.{both}}}
+use Rattle.lab_history.specs.{History.{History}, declared.operation.Op.{Op}}
+use Rattle.lab_deps.{specs.{EdgesByRow.{Chain, looks_at, walked_in, found_at_row, found_by, rows_of}, Collected.{reading_of}}, proofs.NumberedRows.{other_row, rows_sorted}}
 
 -- where all entries are at a row, another one has none
 pub only_listed : {A : Type 0} (row other : Row) (es : List (Row × A)) → list_all (λ e. row_test e.0 row) es ≡ true → is_some (find row_cmp other es) ≡ true → other ≡ row

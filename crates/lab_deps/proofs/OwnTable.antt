@@ -1,13 +1,6 @@
 -- A row that a statement may match is one of the statement's table.
-use Rattle.std.proofs.Common.{◌≡◌, ℕ, true, List, Option, ap}
-use Rattle.std.proofs.lemmas.Bool.{and_parts}
-use Rattle.lab_table.specs.Row.{Row, is_in, numbered, of_table}
-use Rattle.lab_table.specs.Predicate.{Predicate}
-use Rattle.lab_table.specs.Statement.{where_may_hold, may_pick, may_match, kind_may_match}
-use Rattle.lab_table.specs.declared.statement.Statement.{Statement}
-use Rattle.lab_table.specs.declared.statement.StatementKind.{StatementKind}
-use Rattle.lab_table.specs.declared.statement.StatementKind.TheVariants.{Select, Update, Insert, Delete}
-use Rattle.lab_table.proofs.Maps.{same_row}
+use Rattle.std.proofs.{Common.{◌≡◌, ℕ, true, List, Option, ap}, lemmas.Bool.{and_parts}}
+use Rattle.lab_table.{specs.{Row.{Row, is_in, numbered, of_table}, Predicate.{Predicate}, Statement.{where_may_hold, may_pick, may_match, kind_may_match}, declared.statement.{Statement.{Statement}, StatementKind.{StatementKind, TheVariants.{Select, Update, Insert, Delete}}}}, proofs.Maps.{same_row}}
 
 module _ (table : List ℕ) where
   picked_table : (pred : Option Predicate) (row : Row) → may_pick table pred row ≡ true → row.table ≡ table

@@ -1,9 +1,6 @@
 -- Places that rise are cut at one point by those below a place.
-use Rattle.std.proofs.Common.{◌≡◌, ◌≤◌, ◌<◌, ◌+◌, ◌-◌, ℕ, zero, suc, true, false, Some, List, length, get_or, sym, ap, ◌∙◌, arith}
-use Rattle.std.specs.Prelude.{slice_get, nat_lt}
-use Rattle.std.specs.List.Sorted.{IsPartitionedBy, IsPartitionPoint}
-use Rattle.std.proofs.lemmas.Bool.{ltb-true, ltb-false, lt-ltb}
-use Rattle.std.proofs.lemmas.Option.{same_Some, slice_get_within, slice_get-get_or, get_or_from_slice_get}
+use Rattle.std.proofs.{Common.{◌≡◌, ◌≤◌, ◌<◌, ◌+◌, ◌-◌, ℕ, zero, suc, true, false, Some, List, length, get_or, sym, ap, ◌∙◌, arith}, lemmas.{Bool.{ltb-true, ltb-false, lt-ltb}, Option.{same_Some, slice_get_within, slice_get-get_or, get_or_from_slice_get}}}
+use Rattle.std.specs.{Prelude.{slice_get, nat_lt}, List.Sorted.{IsPartitionedBy, IsPartitionPoint}}
 use Rattle.lab_deps.specs.FrontSets.{AreRising, IsCut}
 
 module _ (ps : List ℕ) (rising : AreRising ps) where

@@ -1,19 +1,9 @@
 -- Rows that a statement rules out by their own numbers.
-use Rattle.std.proofs.Common.{◌≡◌, ℤ, Bool, true, false, cond, T, Option, Some, None, List, [], ◌∷◌, refl, sym, ap, ◌∙◌}
-use Rattle.std.specs.Prelude.{is_some, option_and_then}
-use Rattle.std.specs.FinMap.{find, entries, entries_sorted, is_sorted, get-entries}
-use Rattle.std.specs.FinMap.Entries.{below_all}
-use Rattle.std.specs.Ordering.{is_eq}
-use Rattle.std.proofs.lemmas.Bool.{false≢true, and_parts}
-use Rattle.lab_table.specs.Row.{Row, row_cmp, row_eq}
-use Rattle.lab_table.specs.Statement.{may_match}
-use Rattle.lab_table.proofs.Maps.{find_below, same_row, row_eq_self}
-use Rattle.lab_table.proofs.OneRow.{not_listed}
-use Rattle.lab_table.proofs.Tests.{both}
-use Rattle.lab_history.specs.History.{History}
-use Rattle.lab_history.specs.declared.operation.Op.{Op}
-use Rattle.lab_deps.specs.Broken.{is_unlisted}
-use Rattle.lab_deps.specs.Passes.{first_value, unlisted_itself}
+use Rattle.std.proofs.{Common.{◌≡◌, ℤ, Bool, true, false, cond, T, Option, Some, None, List, [], ◌∷◌, refl, sym, ap, ◌∙◌}, lemmas.Bool.{false≢true, and_parts}}
+use Rattle.std.specs.{Prelude.{is_some, option_and_then}, FinMap.{find, entries, entries_sorted, is_sorted, get-entries, Entries.{below_all}}, Ordering.{is_eq}}
+use Rattle.lab_table.{specs.{Row.{Row, row_cmp, row_eq}, Statement.{may_match}}, proofs.{Maps.{find_below, same_row, row_eq_self}, OneRow.{not_listed}, Tests.{both}}}
+use Rattle.lab_history.specs.{History.{History}, declared.operation.Op.{Op}}
+use Rattle.lab_deps.specs.{Broken.{is_unlisted}, Passes.{first_value, unlisted_itself}}
 
 -- a row that isn't listed though it matches isn't ruled out
 pub may_be_unlisted : (op : Op) (row : Row) (value : ℤ) → is_unlisted op row value ≡ true → may_match op.statement row ≡ true

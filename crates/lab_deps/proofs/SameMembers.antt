@@ -1,9 +1,6 @@
 -- Lists that have the same members.
-use Rattle.std.proofs.Common.{◌≡◌, List, ◌++◌, inl, inr, subst}
-use Rattle.std.specs.Prelude.{Contains}
-use Rattle.std.proofs.lemmas.List.Elements.{Contains-append_left, Contains-append_right, Contains-append_cases}
-use Rattle.lab_deps.specs.declared.edge.Edge.{Edge}
-use Rattle.lab_deps.specs.EdgesByRow.{HasMembersOf}
+use Rattle.std.{proofs.{Common.{◌≡◌, List, ◌++◌, inl, inr, subst}, lemmas.List.Elements.{Contains-append_left, Contains-append_right, Contains-append_cases}}, specs.Prelude.{Contains}}
+use Rattle.lab_deps.specs.{declared.edge.Edge.{Edge}, EdgesByRow.{HasMembersOf}}
 
 pub members_of : (es fs gs : List Edge) → HasMembersOf es fs → fs ≡ gs → HasMembersOf es gs
 members_of es fs gs has same = subst (HasMembersOf es) same has

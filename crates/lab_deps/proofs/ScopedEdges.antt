@@ -1,13 +1,7 @@
 -- The dependencies that are meant are edges.
 use Rattle.std.specs.Prelude.{Contains}
 use Rattle.lab_history.specs.History.{History}
-use Rattle.lab_deps.specs.Edges.{IsEdge}
-use Rattle.lab_deps.specs.Scopes.{Allows, edges_in}
-use Rattle.lab_deps.specs.declared.edge.Edge.{Edge}
-use Rattle.lab_deps.specs.declared.scope.Scope.{Scope}
-use Rattle.lab_deps.specs.declared.scope.Scope.TheVariants.{All, Writes}
-use Rattle.lab_deps.proofs.CollectedEdges.{collected_is_edge}
-use Rattle.lab_deps.proofs.WriteEdges.{are_writes}
+use Rattle.lab_deps.{specs.{Edges.{IsEdge}, Scopes.{Allows, edges_in}, declared.{edge.Edge.{Edge}, scope.Scope.{Scope, TheVariants.{All, Writes}}}}, proofs.{CollectedEdges.{collected_is_edge}, WriteEdges.{are_writes}}}
 
 -- those that are meant are edges
 pub are_edges : (scope : Scope) (h : History) → Allows scope h → (e : Edge) → Contains (edges_in scope h) e → IsEdge h e

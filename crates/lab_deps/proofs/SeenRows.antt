@@ -1,16 +1,8 @@
 -- What an operation has to do with a row, by what its entries of the row are.
-use Rattle.std.proofs.Common.{◌≡◌, Bool, true, false, cond, [], Option, sym, ap, ◌∙◌}
-use Rattle.std.specs.Prelude.{ℕ, is_some, unwrap_or}
-use Rattle.std.specs.FinMap.{get}
+use Rattle.std.{proofs.Common.{◌≡◌, Bool, true, false, cond, [], Option, sym, ap, ◌∙◌}, specs.{Prelude.{ℕ, is_some, unwrap_or}, FinMap.{get}}}
 use Rattle.lab_table.specs.Row.{Row}
-use Rattle.lab_history.specs.History.{History}
-use Rattle.lab_history.specs.Version.{viewed}
-use Rattle.lab_history.specs.declared.operation.Op.{Op}
-use Rattle.lab_history.specs.declared.operation.VersionName.{VersionName}
-use Rattle.lab_history.specs.declared.operation.VersionName.TheVariants.{Initial}
-use Rattle.lab_deps.specs.Collected.{reading_at, reading_of}
-use Rattle.lab_deps.specs.EdgesByRow.{Chain, walked_in, looks_at, found_at_row}
-use Rattle.lab_deps.specs.declared.reading.Reading.{Reading}
+use Rattle.lab_history.specs.{History.{History}, Version.{viewed}, declared.operation.{Op.{Op}, VersionName.{VersionName, TheVariants.{Initial}}}}
+use Rattle.lab_deps.specs.{Collected.{reading_at, reading_of}, EdgesByRow.{Chain, walked_in, looks_at, found_at_row}, declared.reading.Reading.{Reading}}
 
 module _ (h : History) (n : ℕ) (op : Op) (row : Row) (chain : Chain) where
   -- a row that it hasn't to look at

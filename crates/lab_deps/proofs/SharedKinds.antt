@@ -1,13 +1,6 @@
 -- Kinds whose bits two cells share.
-use Rattle.std.proofs.Common.{◌≡◌, ◌↔◌, ◌||◌, ◌⊎◌, ℕ, Bool, true, false, refl, sym, ap, ◌∙◌, inl, inr}
-use Rattle.std.specs.Prelude.{bit_and}
-use Rattle.std.specs.Int.Bits.{and_self}
-use Rattle.std.proofs.lemmas.Bool.{eqb-true, eq-eqb, false≢true, or_cases}
-use Rattle.std.proofs.lemmas.Nat.{and_assoc, and_comm}
-use Rattle.lab_deps.specs.KindBits.{bit, has_bit, has_any}
-use Rattle.lab_deps.specs.declared.edge.Kind.{Kind}
-use Rattle.lab_deps.specs.declared.edge.Kind.TheVariants.{Write, ItemRead, PredicateRead, ItemAnti, PredicateAnti}
-use Rattle.lab_deps.proofs.ExactArrows.{no_bit}
+use Rattle.std.{proofs.{Common.{◌≡◌, ◌↔◌, ◌||◌, ◌⊎◌, ℕ, Bool, true, false, refl, sym, ap, ◌∙◌, inl, inr}, lemmas.{Bool.{eqb-true, eq-eqb, false≢true, or_cases}, Nat.{and_assoc, and_comm}}}, specs.{Prelude.{bit_and}, Int.Bits.{and_self}}}
+use Rattle.lab_deps.{specs.{KindBits.{bit, has_bit, has_any}, declared.edge.Kind.{Kind, TheVariants.{Write, ItemRead, PredicateRead, ItemAnti, PredicateAnti}}}, proofs.ExactArrows.{no_bit}}
 
 -- bits that stand in both of two cells stand in what they share, and the other way round
 module _ (a b p : ℕ) where

@@ -1,24 +1,9 @@
 -- Places of a list whose rows rise, outside which a statement matches nothing.
-use Rattle.std.proofs.Common.{◌≡◌, ℕ, ℤ, zero, suc, ◌+◌, ◌≤◌, ◌<◌, Bool, true, false, cond, T, Some, List, [], ◌∷◌, length, take, drop, refl, sym, ap, ◌∙◌, subst, arith}
-use Rattle.std.specs.Prelude.{nat_lt, slice_index_or, filter}
-use Rattle.std.specs.Ordering.{is_gt}
-use Rattle.std.specs.List.{prefix_len}
-use Rattle.std.specs.Cmp.Lexicographic.{nat_list_eq_equiv}
-use Rattle.std.specs.FinMap.{is_sorted}
-use Rattle.std.proofs.lemmas.Bool.{false≢true, ltb-true, ltb-false, false_from_ne_true}
-use Rattle.std.proofs.lemmas.List.Sums.{prefix_len_passes, prefix_len_stops}
-use Rattle.lab_table.specs.Row.{Row, row_cmp}
-use Rattle.lab_table.specs.TableName.{table_name_eq}
-use Rattle.lab_table.specs.Running.{comes_after}
-use Rattle.lab_table.specs.Statement.{may_match}
-use Rattle.lab_table.specs.declared.statement.Statement.{Statement}
-use Rattle.lab_table.proofs.RowOrder.{in_one_table, behind_greater}
-use Rattle.lab_table.proofs.Searching.{parted}
+use Rattle.std.proofs.{Common.{◌≡◌, ℕ, ℤ, zero, suc, ◌+◌, ◌≤◌, ◌<◌, Bool, true, false, cond, T, Some, List, [], ◌∷◌, length, take, drop, refl, sym, ap, ◌∙◌, subst, arith}, lemmas.{Bool.{false≢true, ltb-true, ltb-false, false_from_ne_true}, List.Sums.{prefix_len_passes, prefix_len_stops}}}
+use Rattle.std.specs.{Prelude.{nat_lt, slice_index_or, filter}, Ordering.{is_gt}, List.{prefix_len}, Cmp.Lexicographic.{nat_list_eq_equiv}, FinMap.{is_sorted}}
+use Rattle.lab_table.{specs.{Row.{Row, row_cmp}, TableName.{table_name_eq}, Running.{comes_after}, Statement.{may_match}, declared.statement.Statement.{Statement}}, proofs.{RowOrder.{in_one_table, behind_greater}, Searching.{parted}}}
 use Rattle.lab_history.specs.declared.operation.Op.{Op}
-use Rattle.lab_deps.specs.Broken.{is_unlisted}
-use Rattle.lab_deps.specs.Passes.{first_value}
-use Rattle.lab_deps.proofs.OwnTable.{own_table}
-use Rattle.lab_deps.proofs.RuledOut.{may_be_unlisted}
+use Rattle.lab_deps.{specs.{Broken.{is_unlisted}, Passes.{first_value}}, proofs.{OwnTable.{own_table}, RuledOut.{may_be_unlisted}}}
 
 -- of rows of one table that with the greater number comes behind
 behind_in_table : (row other : Row) → other.table ≡ row.table → is_gt (row_cmp row other) ≡ nat_lt other.id row.id

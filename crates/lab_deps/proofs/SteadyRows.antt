@@ -1,22 +1,11 @@
 -- A row whose versions don't change whether a statement matches it.
-use Rattle.std.proofs.Common.{◌≡◌, ℕ, suc, ◌+◌, ◌==◌, Bool, true, false, not, cond, Option, Some, None, List, [], ◌∷◌, ◌++◌, refl, sym, ap, ◌∙◌}
-use Rattle.std.specs.Prelude.{is_some, option_map}
-use Rattle.std.specs.List.{list_all}
-use Rattle.std.specs.FinMap.{get}
-use Rattle.std.proofs.lemmas.Bool.{false≢true, and_parts, not-true}
-use Rattle.lab_table.specs.Row.{Row}
-use Rattle.lab_table.specs.Statement.{matches}
-use Rattle.lab_table.specs.declared.statement.Statement.{Statement}
-use Rattle.lab_history.specs.History.{History}
-use Rattle.lab_history.specs.Version.{viewed}
-use Rattle.lab_history.specs.declared.operation.Op.{Op}
+use Rattle.std.{proofs.{Common.{◌≡◌, ℕ, suc, ◌+◌, ◌==◌, Bool, true, false, not, cond, Option, Some, None, List, [], ◌∷◌, ◌++◌, refl, sym, ap, ◌∙◌}, lemmas.Bool.{false≢true, and_parts, not-true}}, specs.{Prelude.{is_some, option_map}, List.{list_all}, FinMap.{get}}}
+use Rattle.lab_table.specs.{Row.{Row}, Statement.{matches}, declared.statement.Statement.{Statement}}
+use Rattle.lab_history.specs.{History.{History}, Version.{viewed}, declared.operation.Op.{Op}}
 use Rattle.lab_deps.specs.Edges.{differ, place_of}
 use Rattle.lab_deps.specs.Collected.{apart_in, read_by, passed_by}
 use Rattle.lab_deps.specs.EdgesByRow.{Chain, edges_by, along, walked_in, is_steady, looks_at, found_at_row}
-use Rattle.lab_deps.specs.declared.edge.Edge.{Edge}
-use Rattle.lab_deps.specs.declared.edge.Kind.TheVariants.{ItemRead, ItemAnti}
-use Rattle.lab_deps.specs.declared.reading.Reading.{Reading}
-use Rattle.lab_deps.specs.declared.versions.Version.{Version}
+use Rattle.lab_deps.specs.declared.{edge.{Edge.{Edge}, Kind.TheVariants.{ItemRead, ItemAnti}}, reading.Reading.{Reading}, versions.Version.{Version}}
 
 alike : (a b : Bool) → differ a b ≡ false → b ≡ a
 alike true true e = refl

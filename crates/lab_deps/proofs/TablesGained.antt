@@ -1,11 +1,7 @@
 -- What cells gain from sets of places, one place after another.
-use Rattle.std.proofs.Common.{◌≡◌, ◌<◌, ◌+◌, ℕ, Bool, true, false, cond, List, sym, ap, ◌∙◌, arith, inl, inr}
-use Rattle.std.specs.Prelude.{slice_get}
-use Rattle.std.proofs.lemmas.Bool.{cases_eq}
+use Rattle.std.{proofs.{Common.{◌≡◌, ◌<◌, ◌+◌, ℕ, Bool, true, false, cond, List, sym, ap, ◌∙◌, arith, inl, inr}, lemmas.Bool.{cases_eq}}, specs.Prelude.{slice_get}}
 use Rattle.lab_sets.specs.Sets.{has}
-use Rattle.lab_deps.specs.CellGains.{CellsGain, IsBetween, IsOfSet, IsOfTable, IsOfTableAt}
-use Rattle.lab_deps.specs.declared.edge.Kind.{Kind}
-use Rattle.lab_deps.proofs.CellsGained.{cells_none, cells_then}
+use Rattle.lab_deps.{specs.{CellGains.{CellsGain, IsBetween, IsOfSet, IsOfTable, IsOfTableAt}, declared.edge.Kind.{Kind}}, proofs.CellsGained.{cells_none, cells_then}}
 
 module _ (w : ℕ) (kind : Kind) (first : Bool) where
   module _ (set : List ℕ) (one : ℕ) where

@@ -1,16 +1,9 @@
 -- Cells that tell which kinds of edges there are.
 use Rattle.std.proofs.Common.{◌≡◌, ◌≢◌, ◌⊎◌, ◌<◌, ◌==◌, ℕ, true, List, [], ◌∷◌, ◌++◌, length, get_or, set, refl, sym, ap, ◌∙◌, subst, inl, inr}
 use Rattle.std.specs.Prelude.{Contains, bit_and, bit_or}
-use Rattle.std.proofs.lemmas.Bool.{cases_eq, eq-eqb}
-use Rattle.std.proofs.lemmas.List.{get_or-set_same, get_or-set_other, length-set}
-use Rattle.std.proofs.lemmas.List.Elements.{Contains-append_left, Contains-append_right, Contains-append_cases}
-use Rattle.std.proofs.lemmas.Nat.{and_or_self, and_or_apart, mul-add-lt, same_from_place}
-use Rattle.lab_table.specs.Row.{Row}
-use Rattle.lab_table.proofs.Members.{first_member, only_member}
-use Rattle.lab_deps.specs.KindBits.{bit, has_bit, place, cell_at, edge_of, Tells}
-use Rattle.lab_deps.specs.declared.edge.Edge.{Edge}
-use Rattle.lab_deps.specs.declared.edge.Kind.{Kind}
-use Rattle.lab_deps.specs.declared.edge.Kind.TheVariants.{Write, ItemRead, PredicateRead, ItemAnti, PredicateAnti}
+use Rattle.std.proofs.lemmas.{Bool.{cases_eq, eq-eqb}, List.{get_or-set_same, get_or-set_other, length-set, Elements.{Contains-append_left, Contains-append_right, Contains-append_cases}}, Nat.{and_or_self, and_or_apart, mul-add-lt, same_from_place}}
+use Rattle.lab_table.{specs.Row.{Row}, proofs.Members.{first_member, only_member}}
+use Rattle.lab_deps.specs.{KindBits.{bit, has_bit, place, cell_at, edge_of, Tells}, declared.edge.{Edge.{Edge}, Kind.{Kind, TheVariants.{Write, ItemRead, PredicateRead, ItemAnti, PredicateAnti}}}}
 
 -- two kinds are one, or share no bit
 pub kinds_apart : (a b : Kind) → (a ≡ b) ⊎ (bit_and (bit a) (bit b) ≡ 0)

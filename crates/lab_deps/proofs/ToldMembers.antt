@@ -1,10 +1,6 @@
 -- What cells tell of edges is told of all lists with the same members.
-use Rattle.std.proofs.Common.{ℕ, List, ◌++◌, inl, inr}
-use Rattle.std.specs.Prelude.{Contains}
-use Rattle.std.proofs.lemmas.List.Elements.{Contains-append_left, Contains-append_right, Contains-append_cases}
-use Rattle.lab_deps.specs.EdgesByRow.{HasMembersOf}
-use Rattle.lab_deps.specs.KindBits.{edge_of, Tells}
-use Rattle.lab_deps.specs.declared.edge.Edge.{Edge}
+use Rattle.std.{proofs.{Common.{ℕ, List, ◌++◌, inl, inr}, lemmas.List.Elements.{Contains-append_left, Contains-append_right, Contains-append_cases}}, specs.Prelude.{Contains}}
+use Rattle.lab_deps.specs.{EdgesByRow.{HasMembersOf}, KindBits.{edge_of, Tells}, declared.edge.Edge.{Edge}}
 
 pub after_same : (es fs gs : List Edge) → ((e : Edge) → Contains fs e → Contains gs e) → (e : Edge) → Contains (es ++ fs) e → Contains (es ++ gs) e
 after_same es fs gs same e has =

@@ -1,22 +1,16 @@
 -- Reads of what was never committed: the place that a pass finds is one, and where it finds none there is none.
-use Rattle.std.proofs.Common.{◌≡◌, ℕ, true, Option, Some, None, inl, inr, refl, sym, ap, ◌∙◌, subst, arith}
-use Rattle.std.specs.Prelude.{option_and_then, IfSome}
-use Rattle.std.proofs.lemmas.Option.{none-some}
+use Rattle.std.{proofs.{Common.{◌≡◌, ℕ, true, Option, Some, None, inl, inr, refl, sym, ap, ◌∙◌, subst, arith}, lemmas.Option.{none-some}}, specs.Prelude.{option_and_then, IfSome}}
 use Rattle.lab_table.specs.Row.{Row}
-use Rattle.lab_history.specs.History.{History}
-use Rattle.lab_history.specs.declared.operation.Op.{Op}
+use Rattle.lab_history.specs.{History.{History}, declared.operation.Op.{Op}}
 use Rattle.lab_deps.specs.Broken.{is_broken}
 use Rattle.lab_deps.specs.FaultKinds.{op_fault}
 use Rattle.lab_deps.specs.Passes.{fault_in}
 use Rattle.lab_deps.specs.Soundness.{IsCommittedOp, Stands}
 use Rattle.lab_deps.specs.Uncommitted.{read_of}
 use Rattle.lab_deps.specs.FaultOrder.{ComesBefore, Precedes, IsFirstRead}
-use Rattle.lab_deps.specs.declared.fault.LocalFault.{LocalFault}
-use Rattle.lab_deps.specs.declared.fault.LocalFault.TheVariants.{AbortedRead, IntermediateRead}
-use Rattle.lab_deps.specs.declared.kind.OpFault.{OpFault}
+use Rattle.lab_deps.specs.declared.{fault.LocalFault.{LocalFault, TheVariants.{AbortedRead, IntermediateRead}}, kind.OpFault.{OpFault}}
 use Rattle.lab_deps.specs.declared.kind.OpFault.TheVariants as kind
-use Rattle.lab_deps.proofs.BrokenStands.{decides_aborted_read, decides_intermediate}
-use Rattle.lab_deps.proofs.Found.{pass_finds, pass_finds_none}
+use Rattle.lab_deps.proofs.{BrokenStands.{decides_aborted_read, decides_intermediate}, Found.{pass_finds, pass_finds_none}}
 
 -- the place of a fault that is found, where the fault is made of that place
 made_of : (found : Option LocalFault) (made : ℕ → ℕ → Row → LocalFault) (P : ℕ → ℕ → Row → Type 0) → ((n k : ℕ) (row : Row) → read_of (made n k row) ≡ Some (record { txn = n; op = k; row = row }))

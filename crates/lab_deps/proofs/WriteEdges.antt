@@ -1,20 +1,10 @@
 -- The edges between neighbours in the rows' lists are the write-dependencies.
-use Rattle.std.proofs.Common.{◌≡◌, ◌≢◌, ℕ, suc, List, [], refl, sym, ap, subst}
-use Rattle.std.specs.Prelude.{Contains, unwrap_or}
-use Rattle.std.specs.List.{flat_map}
+use Rattle.std.{proofs.Common.{◌≡◌, ◌≢◌, ℕ, suc, List, [], refl, sym, ap, subst}, specs.{Prelude.{Contains, unwrap_or}, List.{flat_map}}}
 use Rattle.std.specs.FinMap as map
 use Rattle.lab_table.specs.Row.{Row}
-use Rattle.lab_history.specs.History.{History}
-use Rattle.lab_history.specs.Version.{installers}
-use Rattle.lab_deps.specs.Collected.{neighbours_at}
-use Rattle.lab_deps.specs.Edges.{Depends, IsEdge}
-use Rattle.lab_deps.specs.Soundness.{Stands}
-use Rattle.lab_deps.specs.declared.edge.Edge.{Edge}
-use Rattle.lab_deps.specs.declared.edge.Kind.TheVariants.{Write}
-use Rattle.lab_deps.specs.declared.fault.LocalFault.TheVariants.{InstallOrder}
-use Rattle.lab_deps.proofs.Installers.{entry_found, found_entry, installed_entry, installer_committed}
-use Rattle.lab_deps.proofs.Membership.{from_each, of_each}
-use Rattle.lab_deps.proofs.Neighbours.{IsNeighbour, neighbours_are, are_neighbours}
+use Rattle.lab_history.specs.{History.{History}, Version.{installers}}
+use Rattle.lab_deps.specs.{Collected.{neighbours_at}, Edges.{Depends, IsEdge}, Soundness.{Stands}, declared.{edge.{Edge.{Edge}, Kind.TheVariants.{Write}}, fault.LocalFault.TheVariants.{InstallOrder}}}
+use Rattle.lab_deps.proofs.{Installers.{entry_found, found_entry, installed_entry, installer_committed}, Membership.{from_each, of_each}, Neighbours.{IsNeighbour, neighbours_are, are_neighbours}}
 
 module _ (h : History) (installed : (row : Row) → Stands h (InstallOrder row) → ⊥) where
   -- an edge between neighbours is a write-dependency

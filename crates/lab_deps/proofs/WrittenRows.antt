@@ -1,17 +1,8 @@
 -- The rows that operations wrote.
-use Rattle.std.proofs.Common.{◌≡◌, true, List, [], ◌∷◌, refl, sym, ap, subst, inl, inr}
-use Rattle.std.specs.Prelude.{Contains, is_some}
-use Rattle.std.specs.FinMap.{entries}
-use Rattle.std.proofs.lemmas.List.Elements.{Contains-append_left, Contains-append_right, Contains-append_cases}
-use Rattle.lab_table.specs.Row.{Row}
-use Rattle.lab_table.proofs.Members.{no_member, first_member, later_member, only_member}
-use Rattle.lab_table.proofs.Tests.{some_of}
-use Rattle.lab_history.specs.Version.{new_state}
-use Rattle.lab_history.specs.VersionName.{new_states}
-use Rattle.lab_history.specs.declared.operation.Op.{Op}
-use Rattle.lab_history.specs.declared.operation.State.{State}
-use Rattle.lab_deps.specs.Meetings.{named_in, written_in}
-use Rattle.lab_deps.proofs.Installers.{found_entry}
+use Rattle.std.{proofs.{Common.{◌≡◌, true, List, [], ◌∷◌, refl, sym, ap, subst, inl, inr}, lemmas.List.Elements.{Contains-append_left, Contains-append_right, Contains-append_cases}}, specs.{Prelude.{Contains, is_some}, FinMap.{entries}}}
+use Rattle.lab_table.{specs.Row.{Row}, proofs.{Members.{no_member, first_member, later_member, only_member}, Tests.{some_of}}}
+use Rattle.lab_history.specs.{Version.{new_state}, VersionName.{new_states}, declared.operation.{Op.{Op}, State.{State}}}
+use Rattle.lab_deps.{specs.Meetings.{named_in, written_in}, proofs.Installers.{found_entry}}
 
 -- the rows of written states are those of what they stand for
 pub named_states : (es : List (Row × State)) → named_in (new_states es) ≡ named_in es

@@ -1,6 +1,5 @@
 -- Whom a commit leaves blocked as before: those whom its transaction didn't block.
-use Rattle.lab_table.specs.Statement.{kind_matches, kind_would_write, applied, new_state}
-use Rattle.lab_table.specs.declared.statement.StatementKind.TheVariants.{Select, Update, Insert, Delete}
+use Rattle.lab_table.specs.{Statement.{kind_matches, kind_would_write, applied, new_state}, declared.statement.StatementKind.TheVariants.{Select, Update, Insert, Delete}}
 use Rattle.lab_engine.proofs.Common.{active, ap, Blocks, Bool, both_ways, Command, commits, commits_after, Committed, committed_version, cond, false, false_from_ne_true, has_read, initial_version, inl, inr, is_some, IsSome, IsTrue, last_installed, Level, List, matches, None, Option, option_map, option_or, or_parts, Past, refl, Row, rules_of, seen, sees_as_of_begin, Some, State, Statement, StatementKind, subst, sym, Table, true, Txn, unwrap_or, Version, version_by, would_write, ℕ, ℤ, ◌||◌, ◌↔◌, ◌∙◌, ◌∷◌, ◌≡◌, ◌⊎◌}
 use Rattle.lab_engine.proofs.Blockers.{blocks_by_match, blocks_by_write, blocks_map}
 use Rattle.lab_engine.proofs.RuleTables.{readers_locked}

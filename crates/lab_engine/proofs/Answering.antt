@@ -1,6 +1,5 @@
 -- What a session gives, and what the rules answer to it.
-use Rattle.std.specs.Prelude.{MatchOption, Result, IfOk, Contains, is_some, true, false, ◌==◌}
-use Rattle.std.specs.declared.alloc.AllocError.{AllocError}
+use Rattle.std.specs.{Prelude.{MatchOption, Result, IfOk, Contains, is_some, true, false, ◌==◌}, declared.alloc.AllocError.{AllocError}}
 use Rattle.lab_engine.proofs.Common.{active, Answers, ap, AreBlockers, arith, asked, Asks, Bool, Command, Commit, Conflict, conflict_fault, ConflictKind, Deadlock, DuplicateKey, EngineFault, fails, Gives, IfOk-weaker, in_view, inl, inr, IsCircle, IsEffect, IsEffectOn, IsFirstConflict, IsFree, IsLeastCircle, IsRefusalOn, IsResultOn, length, Level, List, Listed, listed, MayAsk, MayCommit, MayGive, None, Option, Outcome, OutOfRange, Past, Read, refl, Refused, Row, Rows, Run, seen, Some, Statement, subst, sym, Table, true≢false, Txn, Version, View, waiting, Waits, Write, Writes, written, [], ℕ, ◌∙◌, ◌∷◌, ◌≡◌, ◌≢◌}
 
 -- a command that runs no statement is given at rest

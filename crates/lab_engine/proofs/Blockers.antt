@@ -1,6 +1,5 @@
 -- Who blocks a statement, by each flag that says so.
-use Rattle.lab_engine.proofs.Common.{Blocks, HasRead, HoldsMatch, HoldsWrite, inl, inr, Level, Past, rules_of, Statement, Table, true, Txn, ◌≡◌}
-use Rattle.lab_engine.proofs.RuleTables.{if_holds, if_made, if_map}
+use Rattle.lab_engine.proofs.{Common.{Blocks, HasRead, HoldsMatch, HoldsWrite, inl, inr, Level, Past, rules_of, Statement, Table, true, Txn, ◌≡◌}, RuleTables.{if_holds, if_made, if_map}}
 
 module _ (level : Level) (setup : Table) (past : Past) (asker : Txn) (s : Statement) (one : Txn) where
   pub blocks_by_match : (rules_of level).match_blocks ≡ true → HoldsMatch setup past s one → Blocks level setup past asker s one

@@ -6,16 +6,11 @@ pub use Rattle.std.proofs.lemmas.Option.{get_or_from_slice_get, same_Some, slice
 pub use Rattle.lab_table.specs.Row.{Row, row_cmp, row_eq, row_test, rows_apart, rows_tested, rows_total}
 pub use Rattle.lab_table.specs.Table.{Rows, State, Table, Writes}
 pub use Rattle.lab_table.specs.Statement.{fails, inserted, is_read_only, is_update, listed, matches, may_match, selects, would_write, written}
-pub use Rattle.lab_table.specs.declared.statement.Statement.{Statement}
-pub use Rattle.lab_table.specs.declared.statement.Command.{Command}
-pub use Rattle.lab_table.specs.declared.statement.Command.TheVariants.{Abort, Begin, Commit, Run}
+pub use Rattle.lab_table.specs.declared.statement.{Statement.{Statement}, Command.{Command, TheVariants.{Abort, Begin, Commit, Run}}, StatementKind.{StatementKind}}
 pub use Rattle.lab_table.proofs.Maps.{find-map, find_below, row_eq_self, same_row, same_rows}
 pub use Rattle.lab_table.proofs.Tests.{both, joined, none_of, slice_get-middle, some_is, some_of, true_and_false}
 pub use Rattle.lab_history.specs.VersionName.{View, new_states, state_value}
-pub use Rattle.lab_history.specs.declared.operation.Op.{Op}
-pub use Rattle.lab_history.specs.declared.operation.State.{State as Written}
-pub use Rattle.lab_history.specs.declared.operation.VersionName.{VersionName}
-pub use Rattle.lab_history.specs.declared.operation.VersionName.TheVariants.{Initial, Of}
+pub use Rattle.lab_history.specs.declared.{operation.{Op.{Op}, State.{State as Written}, VersionName.{VersionName, TheVariants.{Initial, Of}}}, transaction.Txn.{Txn as Recorded}}
 pub use Rattle.lab_engine.specs.declared.event.Level.{Level}
 pub use Rattle.lab_engine.specs.declared.event.Outcome.{Outcome}
 pub use Rattle.lab_engine.specs.declared.event.Outcome.TheVariants.{Aborted, Begun, Committed, Refused, Rows as Listed, Waits}
@@ -32,15 +27,13 @@ pub use Rattle.lab_engine.specs.KeptRows.{IsReadyAt, IsSame, chain_in, chain_kep
 pub use Rattle.lab_engine.specs.Kept.{IsReady, IsRoomy, Kept, count, pending_of}
 pub use Rattle.lab_engine.specs.KeptCommits.{AreCommits, AreInstalled, AreWritten, commits_by, installs, kept_rows}
 pub use Rattle.lab_engine.specs.Chains.{chain, chain_after, first_since, last_before, longer}
-unfoldable pub use Rattle.lab_engine.specs.SessionBits.{has}
+unfoldable pub use Rattle.lab_engine.specs.{SessionBits.{has}, WaitsFor.{waits_for}}
 pub use Rattle.lab_engine.specs.SessionBits.{AreSessions}
 pub use Rattle.lab_engine.specs.Recording.{IsLeastRetryable, IsLegalRecording, IsRecording, IsRetryable, NoneRetryable, end_of, has_number, if_any, numbers_from, op_of, ops_of, recorded_txn, recorded_txns}
 pub use Rattle.lab_engine.specs.Sight.{comes_after, initially, listed_version}
-pub use Rattle.lab_engine.specs.declared.session_state.SessionState.{SessionState}
-pub use Rattle.lab_engine.specs.declared.session_state.RunningTxn.{RunningTxn}
+pub use Rattle.lab_engine.specs.declared.session_state.{SessionState.{SessionState}, RunningTxn.{RunningTxn}}
 pub use Rattle.lab_engine.specs.declared.situation.Situation.{Situation}
 pub use Rattle.lab_engine.specs.Laws.{AllDone, AllKeepOff, AllNumbered, AllRan, AllRecorded, AreNumbered, AreRecorded, Began, BeginsHold, CommitsHold, FirstCommitter, IsDone, IsNumber, IsRecorded, KeepsOff, LocksHold, NoneHas, NumbersHold, RanAt, RanBy, RecordsHold, Untouched, UntouchedAt}
-unfoldable pub use Rattle.lab_engine.specs.WaitsFor.{waits_for}
 pub use Rattle.lab_engine.specs.WaitsFor.{AreBlockers, AreWaits, IsRound, IsWalk, WaitsForOne, WaitsOn, is_session}
 pub use Rattle.lab_engine.specs.Gathered.{AreActive, Gathers, IsShort, IsWithin, changed, changed_by, committed, gathered_by, groups_from, installed_over, installing, installs_by, new_txn, number_after, number_of, numbers_of, recorded, txns_after, version_told, with_ops}
 pub use Rattle.lab_engine.specs.EachRow.{each_row, first_failing, stored, value_rewritten, with_row}
@@ -56,7 +49,6 @@ pub use Rattle.std.specs.List.Sorted.{IsSortedByKey, IsStableByKey, IsStrictlyIn
 pub use Rattle.lab_table.proofs.OneRow.{absent_runs, change_is, insert_is, new_state-runs, no_match, not_failing, not_listed, not_written, update_inserts_none}
 pub use Rattle.std.specs.Prelude.{Err, None, Ok, Option, Result, Some, false, filter, nat_lt, slice_get, slice_index, slice_index_or, true, unwrap_or, ⊤, ◌==◌}
 pub use Rattle.lab_engine.specs.declared.gathering.GatheredTxn.{GatheredTxn}
-pub use Rattle.lab_history.specs.declared.transaction.Txn.{Txn as Recorded}
 pub use Rattle.std.proofs.lemmas.List.Folds.{Any-from_list_any, list_all-append, list_all_at, list_any-append, list_any_at, list_any_more}
 pub use Rattle.lab_engine.specs.declared.row_states.RowStates.{RowStates}
 pub use Rattle.lab_history.specs.FirstPartsFault.{checked, installed_checked, listed_from, op_checked, ops_checked, statement_prints, txn_checked, txns_checked}
@@ -74,11 +66,8 @@ pub use Rattle.lab_table.specs.Sessions.{of_session}
 pub use Rattle.lab_engine.specs.Effect.{IsEffectFault, IsEffectOn, IsRefusalOn, IsResultOn}
 pub use Rattle.lab_engine.specs.Journal.{EngineRun}
 pub use Rattle.lab_engine.specs.RuleTable.{If, Where, rules_of}
-pub use Rattle.lab_table.specs.declared.statement.StatementKind.{StatementKind}
-pub use Rattle.lab_engine.specs.declared.rules.ConflictKind.{ConflictKind}
-pub use Rattle.lab_engine.specs.declared.rules.ConflictKind.TheVariants.{Read, Write}
+pub use Rattle.lab_engine.specs.declared.rules.{ConflictKind.{ConflictKind, TheVariants.{Read, Write}}, Conflict.{Conflict}}
 pub use Rattle.lab_engine.specs.declared.event.EngineFault.{EngineFault}
-pub use Rattle.lab_engine.specs.declared.rules.Conflict.{Conflict}
 pub use Rattle.lab_engine.specs.declared.asker.Asker.{Asker}
 pub use Rattle.std.specs.Vec.{vec_capacity}
 

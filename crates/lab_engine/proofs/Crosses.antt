@@ -2,8 +2,7 @@
 use denote.RattleType.{RattleType}
 use denote.Param.Send.{IsSend, sendable}
 use denote.Param.SendFields.{declared_send}
-use Rattle.std.specs.declared.default.Default.{Ghosts as Defaults}
-use Rattle.std.proofs.Crossing.{crosses}
+use Rattle.std.{specs.declared.default.Default.{Ghosts as Defaults}, proofs.Crossing.{crosses}}
 use Rattle.lab_table.proofs.number.TxnNo.TheSendSync as number
 use Rattle.lab_table.proofs.number.Session.TheSendSync as session
 use Rattle.lab_table.proofs.table.Table.TheSendSync as table

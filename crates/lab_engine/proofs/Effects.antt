@@ -2,8 +2,7 @@
 use Rattle.lab_engine.proofs.Common.{ap, AreMatching, below_all, both, change_is, cond, cons_option, each_row, entries, entries_sorted, fails, false, find, find_below, FinMap, from_sorted, get, get-entries, get-from_sorted, inserted, is_lt, is_read_only, is_sorted, joined, List, listed, new_states, None, Option, option_and_then, option_map, option_or, refl, Row, row_cmp, row_eq, same_row, Some, State, state_value, Statement, StatementKind, stored, subst, sym, T, true, value_rewritten, Version, with_row, Written, written, [], ℕ, ℤ, ◌∙◌, ◌∷◌, ◌≡◌}
 use Rattle.lab_history.proofs.FirstValues.{or_none}
 use Rattle.lab_table.specs.Statement as statement
-use Rattle.lab_table.specs.Statement.{matched, kind_inserted, kind_listed, kind_matched}
-use Rattle.lab_table.specs.declared.statement.StatementKind.TheVariants.{Insert}
+use Rattle.lab_table.specs.{Statement.{matched, kind_inserted, kind_listed, kind_matched}, declared.statement.StatementKind.TheVariants.{Insert}}
 
 -- before others a row is found with what is made of it
 pub find_made : {B : Type 0} (q row : Row) (rest : List (Row × B)) (o : Option B) → find row_cmp q (cons_option (with_row row o) rest) ≡ cond (row_eq q row) (option_or o (find row_cmp q rest)) (find row_cmp q rest)

@@ -1,9 +1,7 @@
 -- Who installs which rows, and rows with who installed them, gathered from installs that are sorted by row.
-use Rattle.std.specs.Cmp.{Equal-is, tied_itself}
-use Rattle.std.specs.Ordering.{ordering_reverse}
+use Rattle.std.{specs.{Cmp.{Equal-is, tied_itself}, Ordering.{ordering_reverse}}, proofs.lemmas.List.Elements.{filter-append}}
 use Rattle.lab_table.proofs.Maps.{tested_same}
 use Rattle.lab_engine.proofs.Common.{ap, append_assoc, arith, below_all, Bool, both, cond, entries, entries_sorted, Equal, false, filter, find, find_below, from_sorted, get, get-entries, get-from_sorted, Greater, groups_from, if_any, is_eq, is_lt, is_some, is_sorted, IsSortedByKey, IsStableByKey, joined, length, Less, List, map, map-append, None, not, numbers_of, Option, Ordering, ranks_by, refl, Row, row_cmp, row_eq, row_test, rows_apart, rows_tested, rows_total, same_row, slice_index_or, Some, sorted_far, subst, suc, sym, T, true, true_and_false, turned, Version, [], ℕ, ⊤, ◌&&◌, ◌++◌, ◌<◌, ◌∙◌, ◌∷◌, ◌≡◌, ◌≤◌}
-use Rattle.std.proofs.lemmas.List.Elements.{filter-append}
 use Rattle.lab_engine.specs.Sight.{Listed}
 
 -- rows each with who installed it

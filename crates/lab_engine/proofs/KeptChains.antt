@@ -1,8 +1,6 @@
 -- What is made of what is kept of rows, by rising row.
 use Rattle.lab_engine.proofs.Common.{AllByRecursion, ap, below_all, chain_kept, cond, each_row, find, is_eq, is_lt, is_sorted, joined, Kept, last_before, Less, List, None, Option, option_and_then, option_or, pending_kept, refl, Row, row_cmp, seen_of, Some, subst, sym, T, Version, [], ℕ, ◌∙◌, ◌∷◌, ◌≡◌}
-use Rattle.std.specs.List.Sorted.{IsStrictlySortedBy}
-use Rattle.std.specs.Map.{keys_of, lookup}
-use Rattle.std.specs.BTreeMap.{is_at}
+use Rattle.std.specs.{List.Sorted.{IsStrictlySortedBy}, Map.{keys_of, lookup}, BTreeMap.{is_at}}
 use Rattle.lab_engine.proofs.Effects.{sorted_each, find_each}
 
 module _ {A : Type 0} where

@@ -1,8 +1,6 @@
 -- The pending versions of a row, one for each session.
-use Rattle.std.proofs.lemmas.Option.{unwrap_or-slice_get}
-use Rattle.lab_engine.proofs.Common.{ap, arith, cond, count, get_or, is_some, IsRoomy, length, length-set, List, None, of_session, Option, set, Some, suc, unwrap_or, zero, ℕ, ◌+◌, ◌-◌, ◌<◌, ◌∙◌, ◌≡◌, ◌≤◌}
-use Rattle.std.proofs.lemmas.List.Sums.{count_by-le-length, sum_by-set}
-use Rattle.lab_engine.specs.declared.version.Version.{Version}
+use Rattle.std.proofs.lemmas.{Option.{unwrap_or-slice_get}, List.Sums.{count_by-le-length, sum_by-set}}
+use Rattle.lab_engine.{proofs.Common.{ap, arith, cond, count, get_or, is_some, IsRoomy, length, length-set, List, None, of_session, Option, set, Some, suc, unwrap_or, zero, ℕ, ◌+◌, ◌-◌, ◌<◌, ◌∙◌, ◌≡◌, ◌≤◌}, specs.declared.version.Version.{Version}}
 
 -- ---- how many there are
 

@@ -1,6 +1,5 @@
 -- The law of the table of rules, and what a flag of it turns on.
-use Rattle.lab_engine.proofs.Common.{Bool, false, If, Level, refl, rules_of, sym, true, true≢false, Where, ◌≡◌}
-use Rattle.lab_engine.specs.declared.event.Level.TheVariants.{Locking}
+use Rattle.lab_engine.{proofs.Common.{Bool, false, If, Level, refl, rules_of, sym, true, true≢false, Where, ◌≡◌}, specs.declared.event.Level.TheVariants.{Locking}}
 
 -- where readers are waited for so are writers, of what is matched and of what would be written, and what has committed by now is seen
 pub readers_locked : (level : Level) → (rules_of level).read_blocks ≡ true

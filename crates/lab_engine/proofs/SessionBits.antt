@@ -1,8 +1,6 @@
 -- Bits of a set of sessions.
-use Rattle.std.specs.Int.{bit_at, trailing_zeros, w16}
+use Rattle.std.{specs.Int.{bit_at, trailing_zeros, w16, Bits.{mask_lt}}, proofs.lemmas.Nat.Bits.{bit_at_and, bit_at_or, bit_at-lt, bit_at-zero, bit_at_set_same, bit_at_set_other, shr_and_one, bit_at-trailing_zeros, bit_at_ones, same_from_bits}}
 use Rattle.lab_engine.proofs.Common.{and_parts, ap, AreSessions, arith, bit_and, bit_or, both_ways, cases_eq, cases_lt, eq-eqb, eqb-true, false, has, IfSome, inl, inr, IsSome, IsTrue, min, ne_eqb, None, Option, or_cases, refl, Some, subst, sym, true, ℕ, ◌%◌, ◌&&◌, ◌*◌, ◌-◌, ◌/◌, ◌<◌, ◌==◌, ◌^◌, ◌||◌, ◌↔◌, ◌∙◌, ◌≡◌, ◌≤◌}
-use Rattle.std.proofs.lemmas.Nat.Bits.{bit_at_and, bit_at_or, bit_at-lt, bit_at-zero, bit_at_set_same, bit_at_set_other, shr_and_one, bit_at-trailing_zeros, bit_at_ones, same_from_bits}
-use Rattle.std.specs.Int.Bits.{mask_lt}
 
 -- the set of nobody
 pub has_nobody : (n : ℕ) → has 0 n ≡ false

@@ -1,6 +1,5 @@
 -- Which sessions wait for which after a log.
-use Rattle.std.proofs.lemmas.Map.Views.{any-filter_same}
-use Rattle.std.proofs.lemmas.List.Kept.{IsStrictlyIncreasing-filter}
+use Rattle.std.proofs.lemmas.{Map.Views.{any-filter_same}, List.Kept.{IsStrictlyIncreasing-filter}}
 use Rattle.lab_engine.proofs.Common.{active, Agree, all_sessions, and_from, and_parts, Any-from_list_any, ap, AreBlockers, AreOthers, AreWaits, Asker, BlockedBy, Blocks, cases_eq, cond, Contains, Describes, DescribesSession, eq-eqb, eqb-true, filter, get_or, has, inl, inr, IsAsker, IsRunning, IsTrue, length, length-map, Level, List, list_any, list_any_at, MayAsk, ne_eqb, none_some, or_cases, or_left, or_right, Past, refl, RunningTxn, same_Some, SessionState, Situation, Some, some_is, Statement, subst, sym, Table, take, take_all, Txn, waiting, waits_for, WaitsOn, ℕ, ◌&&◌, ◌+◌, ◌<◌, ◌==◌, ◌↔◌, ◌∙◌, ◌≡◌, ◌≢◌, ◌≤◌}
 use Rattle.lab_engine.proofs.Describing.{kept_txn}
 use Rattle.lab_engine.proofs.States.{describes_one}

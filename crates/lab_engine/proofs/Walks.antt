@@ -1,7 +1,6 @@
 -- Walks to a goal along the graph of who waits for whom.
 use Rattle.lab_engine.proofs.Common.{AllByRecursion, AllDistinct, Any-from_list_any, ap, arith, Bool, both_ways, eq-eqb, eqb-false, eqb-true, false, false_from_ne_true, inl, inr, IsRound, IsTrue, IsWalk, length, List, list_any, list_any_at, ne_eqb, or_cases, or_parts, refl, subst, sym, true, waits_for, [], ℕ, ◌<◌, ◌==◌, ◌∙◌, ◌∷◌, ◌≡◌, ◌≤◌, ◌⊎◌}
-use Rattle.std.specs.List.{IsDistinct}
-use Rattle.std.proofs.lemmas.Map.Steps.{length-le_from_distinct_below}
+use Rattle.std.{specs.List.{IsDistinct}, proofs.lemmas.Map.Steps.{length-le_from_distinct_below}}
 use Rattle.lab_engine.proofs.WaitGraphs.{waiter_range}
 
 -- from each session on a walk on which nobody stands twice such a walk leads to the goal, which is no longer

@@ -1,10 +1,6 @@
 -- How many lines a text has.
-use Rattle.std.proofs.Common.{◌≡◌, ◌≢◌, ℕ, zero, suc, ◌+◌, ◌-◌, ◌/◌, ◌%◌, ◌≤◌, ◌<◌, Bool, true, false, cond, Option, Some, None, List, [], ◌∷◌, ◌++◌, refl, sym, ap, ◌∙◌, arith, inl, inr, subst}
-use Rattle.std.specs.Prelude.{◌==◌, nat_le, codes}
-use Rattle.std.specs.Fmt.{digits, digits_onto, digit_glyph, decimal}
-use Rattle.std.proofs.lemmas.Bool.{cases_Bool, eqb-false}
-use Rattle.std.proofs.lemmas.Bool.Decides.{nat_tests}
-use Rattle.std.proofs.lemmas.List.Sums.{sum_by-append}
+use Rattle.std.proofs.{Common.{◌≡◌, ◌≢◌, ℕ, zero, suc, ◌+◌, ◌-◌, ◌/◌, ◌%◌, ◌≤◌, ◌<◌, Bool, true, false, cond, Option, Some, None, List, [], ◌∷◌, ◌++◌, refl, sym, ap, ◌∙◌, arith, inl, inr, subst}, lemmas.{Bool.{cases_Bool, eqb-false, Decides.{nat_tests}}, List.Sums.{sum_by-append}}}
+use Rattle.std.specs.{Prelude.{◌==◌, nat_le, codes}, Fmt.{digits, digits_onto, digit_glyph, decimal}}
 use Rattle.lab_explain.specs.Lines.{lines, first_lines, left_out, joined, begun, placed, room_behind, standing, front, with_left_out, cut, capped}
 
 -- no lines of a text are nothing

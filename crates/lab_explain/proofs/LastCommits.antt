@@ -1,9 +1,7 @@
 -- Who committed last before a place.
 use Rattle.std.proofs.Common.{◌≡◌, ◌<◌, ◌≤◌, ◌⊎◌, inl, inr, ℕ, Bool, true, false, cond, ◌&&◌, Option, Some, None, List, [], ◌∷◌, ◌++◌, refl, sym, subst, arith, append_assoc, append-nil}
-use Rattle.std.specs.Prelude.{nat_lt, get_or}
-use Rattle.std.specs.List.{All}
-use Rattle.std.proofs.lemmas.Bool.Decides.{nat_tests}
-use Rattle.std.proofs.lemmas.List.Elements.{All-nil, All-cons, All-append, Contains-append_left, Contains-push}
+use Rattle.std.specs.{Prelude.{nat_lt, get_or}, List.{All}}
+use Rattle.std.proofs.lemmas.{Bool.Decides.{nat_tests}, List.Elements.{All-nil, All-cons, All-append, Contains-append_left, Contains-push}}
 use Rattle.lab_judge.specs.Runs.{Span}
 use Rattle.lab_explain.specs.Places.{IsLastBefore, later, last_before}
 

@@ -4,8 +4,7 @@ use Rattle.lab_history.specs.History.{History}
 use Rattle.lab_judge.proofs.OneJudgement.{one_judgement}
 use Rattle.lab_streams.specs.declared.ending.Ending.{Ending}
 use Rattle.lab_reports.specs.declared.phenomenon.Phenomenon.{Phenomenon}
-use Rattle.lab_explain.specs.Answer.{IsExplanationOf, Explains}
-use Rattle.lab_explain.specs.Explanation.{explanation_of}
+use Rattle.lab_explain.specs.{Answer.{IsExplanationOf, Explains}, Explanation.{explanation_of}}
 
 -- a history has one explanation
 one_of_history : (history : History) (asked : Option Phenomenon) (one other : List ℕ) → IsExplanationOf history asked one → IsExplanationOf history asked other → one ≡ other

@@ -1,16 +1,9 @@
 -- Where what is said of another cycle is cut, how to have it explained stands in the explanation.
-use Rattle.std.proofs.Common.{◌≡◌, ◌<◌, ℕ, false, cond, None, List, [], ◌∷◌, ◌++◌, ap, ◌∙◌, append_assoc, arith}
-use Rattle.std.specs.Prelude.{nat_le}
-use Rattle.std.specs.Str.{bytes_eq}
-use Rattle.std.proofs.lemmas.Bool.Decides.{nat_tests}
+use Rattle.std.{proofs.{Common.{◌≡◌, ◌<◌, ℕ, false, cond, None, List, [], ◌∷◌, ◌++◌, ap, ◌∙◌, append_assoc, arith}, lemmas.Bool.Decides.{nat_tests}}, specs.{Prelude.{nat_le}, Str.{bytes_eq}}}
 use Rattle.lab_history.specs.History.{History}
 use Rattle.lab_deps.specs.declared.edge.Edge.{Edge}
-use Rattle.lab_judge.specs.ReportText.{walk_text}
-use Rattle.lab_judge.specs.declared.report.Finding.TheVariants.{Walk}
-use Rattle.lab_judge.specs.declared.report.Report.{Report}
-use Rattle.lab_reports.specs.Phenomena.{finding_of}
-use Rattle.lab_reports.specs.declared.phenomenon.Phenomenon.{Phenomenon}
-use Rattle.lab_reports.specs.declared.phenomenon.Phenomenon.TheVariants.{G0, G1a, G1b, G1c, GSingle, G2Item, G2}
+use Rattle.lab_judge.specs.{ReportText.{walk_text}, declared.report.{Finding.TheVariants.{Walk}, Report.{Report}}}
+use Rattle.lab_reports.specs.{Phenomena.{finding_of}, declared.phenomenon.Phenomenon.{Phenomenon, TheVariants.{G0, G1a, G1b, G1c, GSingle, G2Item, G2}}}
 use Rattle.lab_explain.specs.Lines.{lines, paragraph, cut, capped}
 use Rattle.lab_explain.specs.Explanation.{serial_sentences, findings_lines, verdict_lines, whole_text, explanation_of}
 use Rattle.lab_explain.specs.Findings.{alone_sentences, beside, by_walk, pointer, cut_walk, few_beside, finding_lines}

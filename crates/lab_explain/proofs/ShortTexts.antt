@@ -1,18 +1,9 @@
 -- An explanation has few lines.
-use Rattle.std.proofs.Common.{◌≡◌, ℕ, ◌+◌, ◌≤◌, Bool, true, false, cond, Option, Some, None, List, [], ◌∷◌, ◌++◌, refl, arith}
-use Rattle.std.specs.Prelude.{nat_le}
-use Rattle.std.specs.Str.{bytes_eq}
-use Rattle.std.proofs.lemmas.Bool.Decides.{nat_tests}
+use Rattle.std.{proofs.{Common.{◌≡◌, ℕ, ◌+◌, ◌≤◌, Bool, true, false, cond, Option, Some, None, List, [], ◌∷◌, ◌++◌, refl, arith}, lemmas.Bool.Decides.{nat_tests}}, specs.{Prelude.{nat_le}, Str.{bytes_eq}}}
 use Rattle.lab_history.specs.History.{History}
-use Rattle.lab_judge.specs.ReportText.{walk_text}
-use Rattle.lab_judge.specs.declared.report.Finding.{Finding}
-use Rattle.lab_judge.specs.declared.report.Finding.TheVariants.{Absent, Walk, At, NotJudged}
-use Rattle.lab_judge.specs.declared.report.Grade.{Grade}
+use Rattle.lab_judge.specs.{ReportText.{walk_text}, declared.report.{Finding.{Finding, TheVariants.{Absent, Walk, At, NotJudged}}, Grade.{Grade}, Report.{Report}}}
 use Rattle.lab_judge.specs.declared.report.Grade.TheVariants as grade
-use Rattle.lab_judge.specs.declared.report.Report.{Report}
-use Rattle.lab_reports.specs.Phenomena.{phenomenon_name, finding_of}
-use Rattle.lab_reports.specs.declared.phenomenon.Phenomenon.{Phenomenon}
-use Rattle.lab_reports.specs.declared.phenomenon.Phenomenon.TheVariants.{G0, G1a, G1b, G1c, GSingle, G2Item, G2}
+use Rattle.lab_reports.specs.{Phenomena.{phenomenon_name, finding_of}, declared.phenomenon.Phenomenon.{Phenomenon, TheVariants.{G0, G1a, G1b, G1c, GSingle, G2Item, G2}}}
 use Rattle.lab_explain.specs.Lines.{lines, paragraph, cut, capped}
 use Rattle.lab_explain.specs.Explanation.{serial_sentences, findings_lines, verdict_lines, whole_text, one_text, explanation_of}
 use Rattle.lab_explain.specs.Findings.{alone_sentences, beside, by_walk, pointer, cut_beside, few_beside, finding_lines}

@@ -1,10 +1,6 @@
 -- What stands of sentences that are cut: the first ones, each whole.
-use Rattle.std.proofs.Common.{◌≡◌, ℕ, ◌+◌, ◌-◌, ◌<◌, ◌≤◌, ◌⊎◌, inl, inr, Bool, true, false, cond, Option, Some, None, List, [], ◌∷◌, ◌++◌, refl, sym, ap, ◌∙◌, arith, append_assoc, append-nil}
-use Rattle.std.specs.Prelude.{nat_le, is_none}
-use Rattle.std.proofs.lemmas.Bool.Decides.{nat_tests}
-use Rattle.lab_explain.specs.Lines.{lines, first_lines, joined, begun, standing, front, with_left_out, cut, capped}
-use Rattle.lab_explain.specs.Cuts.{MayBegin, IsStanding, IsCutOff, IsCut}
-use Rattle.lab_explain.proofs.Capped.{lines_append}
+use Rattle.std.{proofs.{Common.{◌≡◌, ℕ, ◌+◌, ◌-◌, ◌<◌, ◌≤◌, ◌⊎◌, inl, inr, Bool, true, false, cond, Option, Some, None, List, [], ◌∷◌, ◌++◌, refl, sym, ap, ◌∙◌, arith, append_assoc, append-nil}, lemmas.Bool.Decides.{nat_tests}}, specs.Prelude.{nat_le, is_none}}
+use Rattle.lab_explain.{specs.{Lines.{lines, first_lines, joined, begun, standing, front, with_left_out, cut, capped}, Cuts.{MayBegin, IsStanding, IsCutOff, IsCut}}, proofs.Capped.{lines_append}}
 
 -- where there is no room nothing stands
 none_stand : (most : ℕ) (sentences : List (List ℕ)) → standing most None sentences ≡ []

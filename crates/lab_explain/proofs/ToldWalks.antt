@@ -1,18 +1,11 @@
 -- Each dependency of a walk that a report names has its sentence.
-use Rattle.std.proofs.Common.{◌≡◌, List, Option, ap}
-use Rattle.std.specs.Prelude.{Contains}
+use Rattle.std.{proofs.Common.{◌≡◌, List, Option, ap}, specs.Prelude.{Contains}}
 use Rattle.lab_history.specs.History.{History}
 use Rattle.lab_deps.specs.declared.edge.Edge.{Edge}
-use Rattle.lab_judge.specs.Judgement.{IsExactJudgement}
-use Rattle.lab_judge.specs.declared.report.Report.{Report}
-use Rattle.lab_picture.specs.ArrowLaws.{IsArrowOf, NamesWalk}
+use Rattle.lab_judge.specs.{Judgement.{IsExactJudgement}, declared.report.Report.{Report}}
+use Rattle.lab_picture.{specs.{ArrowLaws.{IsArrowOf, NamesWalk}, declared.drawing.Arrow.{Arrow}}, proofs.{JudgedWalks.{is_found}, DrawnWalks.{edge_of}, MadeArrows.{has_arrow}}}
 use Rattle.lab_reports.specs.declared.phenomenon.Phenomenon.{Phenomenon}
-use Rattle.lab_picture.specs.declared.drawing.Arrow.{Arrow}
-use Rattle.lab_picture.proofs.JudgedWalks.{is_found}
-use Rattle.lab_picture.proofs.DrawnWalks.{edge_of}
-use Rattle.lab_picture.proofs.MadeArrows.{has_arrow}
-use Rattle.lab_explain.specs.Lines.{step}
-use Rattle.lab_explain.specs.Steps.{edge_text, told_edge, edge_step}
+use Rattle.lab_explain.specs.{Lines.{step}, Steps.{edge_text, told_edge, edge_step}}
 
 pub told : (h : History) (report : Report) (asked : Option Phenomenon) (walk : List Edge) → IsExactJudgement h report → NamesWalk report asked walk
     → (e : Edge) → Contains walk e → (a : Arrow) × (edge_step h e ≡ step (edge_text h e a)) × IsArrowOf h e a

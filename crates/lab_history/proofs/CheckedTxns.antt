@@ -1,18 +1,9 @@
 -- The walk along the transactions, at one of them.
-use Rattle.std.proofs.Common.{◌≡◌, ◌≤◌, ◌<◌, ℕ, ◌+◌, ◌==◌, Bool, true, false, not, List, [], ◌∷◌, ◌++◌, length, take, drop, get_or, Result, Ok, Err, inr, refl, sym, ap, ◌∙◌}
-use Rattle.std.specs.Prelude.{⊤, nat_lt}
-use Rattle.std.specs.Result.{IsErrAnd}
-use Rattle.std.specs.List.{list_any}
-use Rattle.std.proofs.lemmas.Bool.{true≢false, lt-ltb, le-ltb}
-use Rattle.std.proofs.lemmas.List.{at_drop_more, take_more}
-use Rattle.lab_history.specs.Faults.{◌>>=◌, refused_if, Gives}
-use Rattle.lab_history.specs.HistoryRules.{operations}
-use Rattle.lab_history.specs.FirstPartsFault.{ops_checked, txn_checked, txns_checked}
-use Rattle.lab_history.specs.declared.transaction.Txn.{Txn}
-use Rattle.lab_history.specs.declared.fault.FileFault.{FileFault}
+use Rattle.std.proofs.{Common.{◌≡◌, ◌≤◌, ◌<◌, ℕ, ◌+◌, ◌==◌, Bool, true, false, not, List, [], ◌∷◌, ◌++◌, length, take, drop, get_or, Result, Ok, Err, inr, refl, sym, ap, ◌∙◌}, lemmas.{Bool.{true≢false, lt-ltb, le-ltb}, List.{at_drop_more, take_more}}}
+use Rattle.std.specs.{Prelude.{⊤, nat_lt}, Result.{IsErrAnd}, List.{list_any}}
+use Rattle.lab_history.{specs.{Faults.{◌>>=◌, refused_if, Gives}, HistoryRules.{operations}, FirstPartsFault.{ops_checked, txn_checked, txns_checked}, declared.{transaction.Txn.{Txn}, fault.FileFault.{FileFault}}}, proofs.Standing.{operations_push}}
 use Rattle.lab_history.specs.declared.fault.FileFault.TheVariants as fault
 use Rattle.lab_history.specs.declared.fault.Limit.TheVariants as limit
-use Rattle.lab_history.proofs.Standing.{operations_push}
 
 module _ (before : List Txn) (index : ℕ) (t : Txn) where
   pub repeated : list_any (λ m. m.no == t.no) before ≡ true → txn_checked before index t ≡ Err (fault.RepeatedTxn t.no)

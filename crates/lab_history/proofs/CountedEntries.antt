@@ -1,18 +1,8 @@
 -- Entries counted along the lists are their sum, where that is within the limit.
-use Rattle.std.proofs.Common.{◌≡◌, ◌≤◌, ◌<◌, ℕ, suc, ◌+◌, true, false, List, [], ◌∷◌, length, map, sum, Option, Some, None, refl, sym, ap, ◌∙◌, arith}
-use Rattle.std.specs.Prelude.{nat_le, option_and_then, if◌then◌else◌}
-use Rattle.std.specs.FinMap.{entries}
-use Rattle.std.proofs.lemmas.Bool.{leb-true, leb-false, le-leb, lt-leb}
-use Rattle.std.proofs.lemmas.List.{map-append}
-use Rattle.std.proofs.lemmas.List.Sums.{sum_by-cons, sum_by-append}
-use Rattle.std.proofs.lemmas.Option.{none-some}
+use Rattle.std.proofs.{Common.{◌≡◌, ◌≤◌, ◌<◌, ℕ, suc, ◌+◌, true, false, List, [], ◌∷◌, length, map, sum, Option, Some, None, refl, sym, ap, ◌∙◌, arith}, lemmas.{Bool.{leb-true, leb-false, le-leb, lt-leb}, List.{map-append, Sums.{sum_by-cons, sum_by-append}}, Option.{none-some}}}
+use Rattle.std.specs.{Prelude.{nat_le, option_and_then, if◌then◌else◌}, FinMap.{entries}}
 use Rattle.lab_table.specs.Row.{Row}
-use Rattle.lab_history.specs.VersionName.{new_states}
-use Rattle.lab_history.specs.declared.operation.State.{State}
-use Rattle.lab_history.specs.declared.operation.Op.{Op}
-use Rattle.lab_history.specs.declared.transaction.Txn.{Txn}
-use Rattle.lab_history.specs.HistoryRules.{operations, op_entries}
-use Rattle.lab_history.specs.RunningCounts.{counted, op_counted, ops_counted, txns_counted}
+use Rattle.lab_history.specs.{VersionName.{new_states}, declared.{operation.{State.{State}, Op.{Op}}, transaction.Txn.{Txn}}, HistoryRules.{operations, op_entries}, RunningCounts.{counted, op_counted, ops_counted, txns_counted}}
 
 -- new states are as many as the states
 pub length_new_states : (es : List (Row × State)) → length (new_states es) ≡ length es

@@ -1,26 +1,10 @@
 -- A rising list of rows, to which the rows of lists were added, has each of them once.
 use Rattle.std.proofs.Common.{◌≡◌, ◌+◌, ◌≤◌, Bool, true, false, cond, ◌||◌, List, [], ◌∷◌, ◌++◌, length, map, suc, refl, sym, ap, subst, ◌∙◌, arith, one-add}
-use Rattle.std.specs.List.{list_any, AllByRecursion, flat_map}
-use Rattle.std.specs.List.Sorted.{IsStrictlySortedBy}
-use Rattle.std.specs.Ordering.{match_ordering, ordering_reverse}
-use Rattle.std.specs.declared.cmp.Ordering.{Ordering}
-use Rattle.std.specs.declared.cmp.Ordering.TheVariants.{Less, Equal, Greater}
-use Rattle.std.specs.Set.{distinct_count, unique_keys}
-use Rattle.std.specs.BTreeSet.{insert_key}
-use Rattle.std.specs.FinMap.{entries, keys}
-use Rattle.std.proofs.lemmas.Cmp.{eq_by_cmp_equiv}
-use Rattle.std.proofs.lemmas.Map.Keys.{IsDistinct-from_sorted}
-use Rattle.std.proofs.lemmas.Map.Made.{length-from_keys, length-le_from_is_member}
-use Rattle.std.proofs.lemmas.Grind.{flat_map-append}
+use Rattle.std.specs.{List.{list_any, AllByRecursion, flat_map, Sorted.{IsStrictlySortedBy}}, Ordering.{match_ordering, ordering_reverse}, declared.cmp.Ordering.{Ordering, TheVariants.{Less, Equal, Greater}}, Set.{distinct_count, unique_keys}, BTreeSet.{insert_key}, FinMap.{entries, keys}}
+use Rattle.std.proofs.lemmas.{Cmp.{eq_by_cmp_equiv}, Map.{Keys.{IsDistinct-from_sorted}, Made.{length-from_keys, length-le_from_is_member}}, Grind.{flat_map-append}}
 use Rattle.std.proofs.Math.Bool.{or_self_left, or_assoc, or-false}
 use Rattle.lab_table.specs.Row.{Row, row_cmp, row_eq, rows_total, rows_apart}
-use Rattle.lab_history.specs.VersionName.{new_states}
-use Rattle.lab_history.specs.declared.operation.State.{State}
-use Rattle.lab_history.specs.declared.operation.Op.{Op}
-use Rattle.lab_history.specs.declared.transaction.Txn.{Txn}
-use Rattle.lab_history.specs.History.{History}
-use Rattle.lab_history.specs.HistoryRules.{operations, op_rows, named_rows, distinct_rows}
-use Rattle.lab_history.specs.RunningCounts.{with_rows, with_op, with_ops, with_txns}
+use Rattle.lab_history.specs.{VersionName.{new_states}, declared.{operation.{State.{State}, Op.{Op}}, transaction.Txn.{Txn}}, History.{History}, HistoryRules.{operations, op_rows, named_rows, distinct_rows}, RunningCounts.{with_rows, with_op, with_ops, with_txns}}
 
 -- ---- one row more
 

@@ -1,24 +1,11 @@
 -- Tables that were met one by one are as many as there are different ones, and a fifth ends the walk.
 use Rattle.std.proofs.Common.{◌≡◌, ℕ, ◌+◌, ◌≤◌, ◌<◌, ◌⊎◌, inl, inr, map, Bool, true, false, cond, ◌||◌, List, [], ◌∷◌, ◌++◌, length, suc, Option, Some, None, refl, sym, ap, subst, ◌∙◌, arith, one-add}
-use Rattle.std.specs.Prelude.{nat_le, nat_lt, is_some, option_and_then, option_map, if◌then◌else◌}
-use Rattle.std.specs.List.{list_all, AllByRecursion, IsDistinct, flat_map}
-use Rattle.std.specs.Set.{distinct_count, unique_keys}
-use Rattle.std.specs.Cmp.Lexicographic.{nat_list_eq_equiv, bytes_decides}
-use Rattle.std.proofs.lemmas.Bool.{ltb-true, ltb-false, le-leb, lt-leb, or_parts, and_parts}
-use Rattle.std.proofs.lemmas.List.{length-append, map-append}
-use Rattle.std.proofs.lemmas.List.Folds.{list_any-append}
-use Rattle.std.proofs.lemmas.Map.Made.{length-from_keys}
-use Rattle.std.proofs.lemmas.Grind.{flat_map-append}
+use Rattle.std.specs.{Prelude.{nat_le, nat_lt, is_some, option_and_then, option_map, if◌then◌else◌}, List.{list_all, AllByRecursion, IsDistinct, flat_map}, Set.{distinct_count, unique_keys}, Cmp.Lexicographic.{nat_list_eq_equiv, bytes_decides}, FinMap.{entries, keys}}
+use Rattle.std.proofs.lemmas.{Bool.{ltb-true, ltb-false, le-leb, lt-leb, or_parts, and_parts}, List.{length-append, map-append, Folds.{list_any-append}}, Map.Made.{length-from_keys}, Grind.{flat_map-append}}
 use Rattle.std.proofs.Math.Bool.{or_assoc, or-false}
-use Rattle.lab_table.specs.TableName.{table_name_eq}
-use Rattle.lab_table.specs.TableSet.{is_among, with_name}
-use Rattle.std.specs.FinMap.{entries, keys}
-use Rattle.lab_table.specs.Row.{Row, of_table}
-use Rattle.lab_table.specs.Placed.{is_of}
+use Rattle.lab_table.specs.{TableName.{table_name_eq}, TableSet.{is_among, with_name}, Row.{Row, of_table}, Placed.{is_of}}
 use Rattle.lab_history.specs.History.{History}
-use Rattle.lab_history.specs.declared.operation.Op.{Op}
-use Rattle.lab_history.specs.declared.operation.State.{State}
-use Rattle.lab_history.specs.declared.transaction.Txn.{Txn}
+use Rattle.lab_history.specs.declared.{operation.{Op.{Op}, State.{State}}, transaction.Txn.{Txn}}
 use Rattle.lab_history.specs.VersionName.{new_states}
 use Rattle.lab_history.specs.HistoryRules.{operations, op_rows, tables_of, op_tables, named_tables, distinct_tables}
 use Rattle.lab_history.specs.RunningTables.{with_table, tables_within, rows_within, op_within, ops_within, txns_within, all_within}

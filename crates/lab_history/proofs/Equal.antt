@@ -1,6 +1,5 @@
 -- Whether entries are the same.
-use Rattle.std.proofs.Common.{◌≡◌, Bool, ◌&&◌, Decides, ap, ◌∙◌}
-use Rattle.std.proofs.lemmas.Bool.{and_parts}
+use Rattle.std.proofs.{Common.{◌≡◌, Bool, ◌&&◌, Decides, ap, ◌∙◌}, lemmas.Bool.{and_parts}}
 use Rattle.lab_table.specs.Row.{Row, row_test, rows_decided}
 
 -- a test of rows and one of what they have, together

@@ -1,21 +1,10 @@
 -- Rows that are all in ranges are no more than these have.
 use Rattle.std.proofs.Common.{◌≡◌, ℕ, ◌+◌, ◌-◌, ◌≤◌, ◌<◌, Bool, true, false, ◌&&◌, ◌||◌, List, [], ◌∷◌, length, map, refl, sym, ap, ◌∙◌, arith}
-use Rattle.std.specs.List.{list_any, list_all, flat_map, sum_by, range_with_len}
-use Rattle.std.proofs.lemmas.Bool.{false≢true, and_parts, leb-true, ltb-true}
-use Rattle.std.proofs.lemmas.Cmp.{eq_by_cmp_equiv}
-use Rattle.std.proofs.lemmas.List.{length-append}
-use Rattle.std.proofs.lemmas.List.Folds.{list_any-append, list_any_at}
-use Rattle.std.proofs.lemmas.List.Sums.{sum_by-cons}
-use Rattle.std.proofs.lemmas.List.FromFn.{length-map-range_with_len, get_or-map-range_with_len}
+use Rattle.std.specs.{List.{list_any, list_all, flat_map, sum_by, range_with_len}, Cmp.{Equal-is, Lexicographic.{bytes_decides}}}
+use Rattle.std.proofs.lemmas.{Bool.{false≢true, and_parts, leb-true, ltb-true}, Cmp.{eq_by_cmp_equiv}, List.{length-append, Folds.{list_any-append, list_any_at}, Sums.{sum_by-cons}, FromFn.{length-map-range_with_len, get_or-map-range_with_len}}}
 use Rattle.std.proofs.Math.Bool.{or-true}
-use Rattle.std.specs.Cmp.{Equal-is}
-use Rattle.std.specs.Cmp.Lexicographic.{bytes_decides}
-use Rattle.lab_table.specs.Row.{Row, row_eq, row_made, row_cmp, numbered, rows_apart, rows_total}
-use Rattle.lab_table.specs.TableName.{table_name_eq}
-use Rattle.lab_history.specs.HistoryRules.{distinct_rows}
-use Rattle.lab_history.specs.IdRanges.{rows_in, has_row, have_row}
-use Rattle.lab_history.specs.declared.id_range.IdRange.{IdRange}
-use Rattle.lab_history.proofs.CountedRows.{distinct_among}
+use Rattle.lab_table.specs.{Row.{Row, row_eq, row_made, row_cmp, numbered, rows_apart, rows_total}, TableName.{table_name_eq}}
+use Rattle.lab_history.{specs.{HistoryRules.{distinct_rows}, IdRanges.{rows_in, has_row, have_row}, declared.id_range.IdRange.{IdRange}}, proofs.CountedRows.{distinct_among}}
 
 -- ---- the rows of ranges
 

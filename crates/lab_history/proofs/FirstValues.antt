@@ -1,14 +1,7 @@
 -- Laws of the first value that a list gives a key.
-use Rattle.std.proofs.Common.{◌≡◌, ℕ, true, false, cond, ◌==◌, T, subst, List, [], ◌∷◌, ◌++◌, Option, Some, None, refl, sym, ap, ◌∙◌}
-use Rattle.std.proofs.lemmas.List.{reverse-append}
-use Rattle.std.specs.Prelude.{reverse}
-use Rattle.std.specs.Option.{option_or}
-use Rattle.std.specs.Cmp.{unsigned_ties, tied_itself, nat_cmp_total}
-use Rattle.std.specs.Ordering.{nat_cmp, is_eq, ordering_then}
-use Rattle.std.specs.declared.cmp.Ordering.{Ordering}
-use Rattle.std.specs.declared.cmp.Ordering.TheVariants.{Less, Equal, Greater}
-use Rattle.lab_table.specs.Row.{Row, row_cmp, rows_total}
-use Rattle.lab_table.proofs.Orderings.{eq_reversed}
+use Rattle.std.proofs.{Common.{◌≡◌, ℕ, true, false, cond, ◌==◌, T, subst, List, [], ◌∷◌, ◌++◌, Option, Some, None, refl, sym, ap, ◌∙◌}, lemmas.List.{reverse-append}}
+use Rattle.std.specs.{Prelude.{reverse}, Option.{option_or}, Cmp.{unsigned_ties, tied_itself, nat_cmp_total}, Ordering.{nat_cmp, is_eq, ordering_then}, declared.cmp.Ordering.{Ordering, TheVariants.{Less, Equal, Greater}}}
+use Rattle.lab_table.{specs.Row.{Row, row_cmp, rows_total}, proofs.Orderings.{eq_reversed}}
 use Rattle.lab_history.specs.Keyed.{value_at}
 
 -- numbers compare alike where they are equal

@@ -1,10 +1,7 @@
 -- The last write of a row is the greatest place of an operation that writes it; a number's place in a list is the least.
-use Rattle.std.proofs.Common.{◌≡◌, ℕ, zero, suc, ◌+◌, ◌≤◌, ◌==◌, Bool, true, false, cond, List, [], ◌∷◌, Option, Some, None, is_some, option_map, refl, sym, ap, subst, ◌∙◌, arith, inl, inr}
-use Rattle.std.specs.Option.{option_or}
-use Rattle.std.proofs.lemmas.Bool.{cases_Bool, eqb-true, eq-eqb, false≢true}
+use Rattle.std.{proofs.{Common.{◌≡◌, ℕ, zero, suc, ◌+◌, ◌≤◌, ◌==◌, Bool, true, false, cond, List, [], ◌∷◌, Option, Some, None, is_some, option_map, refl, sym, ap, subst, ◌∙◌, arith, inl, inr}, lemmas.Bool.{cases_Bool, eqb-true, eq-eqb, false≢true}}, specs.Option.{option_or}}
 use Rattle.lab_table.specs.Row.{Row}
-use Rattle.lab_history.specs.Version.{new_state, last_write, WritesAt, IsLastWrite, place_in, StandsAt, IsPlaceOf}
-use Rattle.lab_history.specs.declared.operation.Op.{Op}
+use Rattle.lab_history.specs.{Version.{new_state, last_write, WritesAt, IsLastWrite, place_in, StandsAt, IsPlaceOf}, declared.operation.Op.{Op}}
 
 -- ---- last writes
 

@@ -1,20 +1,8 @@
 -- Walks that stop where there are too many different rows, beside those along all lists.
-use Rattle.std.proofs.Common.{◌≡◌, ◌≤◌, ◌<◌, ◌⊎◌, inl, inr, true, false, List, [], ◌∷◌, length, Option, Some, None, refl, sym, ap, ◌∙◌, subst, arith}
-use Rattle.std.specs.Prelude.{nat_le, option_and_then}
-use Rattle.std.specs.Ordering.{match_ordering}
-use Rattle.std.specs.declared.cmp.Ordering.{Ordering}
-use Rattle.std.specs.declared.cmp.Ordering.TheVariants.{Less, Equal, Greater}
-use Rattle.std.specs.BTreeSet.{insert_key}
-use Rattle.std.specs.FinMap.{entries}
-use Rattle.std.proofs.lemmas.Bool.{leb-false, lt-leb}
-use Rattle.std.proofs.lemmas.Option.{none-some, same_Some}
+use Rattle.std.proofs.{Common.{◌≡◌, ◌≤◌, ◌<◌, ◌⊎◌, inl, inr, true, false, List, [], ◌∷◌, length, Option, Some, None, refl, sym, ap, ◌∙◌, subst, arith}, lemmas.{Bool.{leb-false, lt-leb}, Option.{none-some, same_Some}}}
+use Rattle.std.specs.{Prelude.{nat_le, option_and_then}, Ordering.{match_ordering}, declared.cmp.Ordering.{Ordering, TheVariants.{Less, Equal, Greater}}, BTreeSet.{insert_key}, FinMap.{entries}}
 use Rattle.lab_table.specs.Row.{Row, row_cmp}
-use Rattle.lab_history.specs.History.{History}
-use Rattle.lab_history.specs.HistoryRules.{named_rows, distinct_rows}
-use Rattle.lab_history.specs.RunningCounts.{with_rows, with_op, with_ops, with_txns, only_if, ops_within, txns_within}
-use Rattle.lab_history.specs.declared.operation.Op.{Op}
-use Rattle.lab_history.specs.declared.transaction.Txn.{Txn}
-use Rattle.lab_history.proofs.CountedRows.{length_rows_in}
+use Rattle.lab_history.{specs.{History.{History}, HistoryRules.{named_rows, distinct_rows}, RunningCounts.{with_rows, with_op, with_ops, with_txns, only_if, ops_within, txns_within}, declared.{operation.Op.{Op}, transaction.Txn.{Txn}}}, proofs.CountedRows.{length_rows_in}}
 
 -- ---- lists only grow
 

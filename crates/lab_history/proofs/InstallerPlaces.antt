@@ -1,18 +1,7 @@
 -- The places of installers.
-use Rattle.std.proofs.Common.{◌≡◌, ℕ, suc, ◌+◌, Bool, true, false, cond, ◌==◌, T, List, [], ◌∷◌, Option, Some, None, refl, sym, ap, ◌∙◌, subst}
-use Rattle.std.specs.Prelude.{option_map, unwrap_or}
-use Rattle.std.specs.Option.{option_or}
-use Rattle.std.specs.FinMap.{find, is_sorted}
-use Rattle.std.specs.FinMap.Entries.{below_all}
-use Rattle.std.specs.Ordering.{nat_cmp, is_eq}
-use Rattle.lab_table.specs.Row.{Row, row_cmp}
-use Rattle.lab_table.proofs.Maps.{same_row, find_below}
-use Rattle.lab_table.proofs.Tests.{both}
-use Rattle.lab_history.specs.Index.{txn_row_cmp, placed_from, placed}
-use Rattle.lab_history.specs.Keyed.{value_at}
-use Rattle.lab_history.specs.Version.{place_in}
-use Rattle.lab_history.proofs.FirstValues.{same_number, other_row, apart_second, same_second_row, or_none, value_at-append}
-use Rattle.lab_history.proofs.LastWrites.{counted, uncounted}
+use Rattle.std.{proofs.Common.{◌≡◌, ℕ, suc, ◌+◌, Bool, true, false, cond, ◌==◌, T, List, [], ◌∷◌, Option, Some, None, refl, sym, ap, ◌∙◌, subst}, specs.{Prelude.{option_map, unwrap_or}, Option.{option_or}, FinMap.{find, is_sorted, Entries.{below_all}}, Ordering.{nat_cmp, is_eq}}}
+use Rattle.lab_table.{specs.Row.{Row, row_cmp}, proofs.{Maps.{same_row, find_below}, Tests.{both}}}
+use Rattle.lab_history.{specs.{Index.{txn_row_cmp, placed_from, placed}, Keyed.{value_at}, Version.{place_in}}, proofs.{FirstValues.{same_number, other_row, apart_second, same_second_row, or_none, value_at-append}, LastWrites.{counted, uncounted}}}
 
 module _ (row : Row) (n : ℕ) where
   -- the first entry for the row and the transaction

@@ -1,7 +1,6 @@
 -- What operations keep, joined and parted.
 use Rattle.std.proofs.Common.{List, [], ◌∷◌, ◌++◌}
-use Rattle.lab_history.specs.HistoryRules.{OpsKeep}
-use Rattle.lab_history.specs.declared.operation.Op.{Op}
+use Rattle.lab_history.specs.{HistoryRules.{OpsKeep}, declared.operation.Op.{Op}}
 
 -- operations that keep to what is asked of them do so joined
 pub ops_joined : (ops more : List Op) → OpsKeep ops → OpsKeep more → OpsKeep (ops ++ more)

@@ -1,29 +1,19 @@
 -- Parts have no fault exactly where they keep what a history keeps.
-use Rattle.std.proofs.Common.{◌≡◌, ◌≤◌, ℕ, ◌+◌, ◌==◌, true, false, not, List, [], ◌∷◌, ◌++◌, length, map, sum, Result, Ok, Err, refl, sym, ◌∙◌, arith}
-use Rattle.std.specs.Prelude.{⊤, nat_lt}
-use Rattle.std.specs.List.{list_any, list_all}
+use Rattle.std.proofs.{Common.{◌≡◌, ◌≤◌, ℕ, ◌+◌, ◌==◌, true, false, not, List, [], ◌∷◌, ◌++◌, length, map, sum, Result, Ok, Err, refl, sym, ◌∙◌, arith}, lemmas.{Bool.{ltb-false, le-ltb, and_parts, or_parts, or_from, not-false, and_from, not_from_true}, List.{length-append, Folds.{list_any-append}}}}
+use Rattle.std.specs.{Prelude.{⊤, nat_lt}, List.{list_any, list_all}}
 use Rattle.std.specs.FinMap as finite
-use Rattle.std.proofs.lemmas.Bool.{ltb-false, le-ltb, and_parts, or_parts, or_from, not-false, and_from, not_from_true}
-use Rattle.std.proofs.lemmas.List.{length-append}
-use Rattle.std.proofs.lemmas.List.Folds.{list_any-append}
 use Rattle.lab_table.specs.Row.{Row}
 use Rattle.lab_history.specs.Faults.{◌>>=◌, refused_if}
 use Rattle.lab_history.specs.History.{History}
 use Rattle.lab_history.specs.HistoryRules.{AllDistinct, operations, named_tables, distinct_tables, named_rows, distinct_rows, op_entries, OpsKeep, has_installer, Keeps}
 use Rattle.lab_history.specs.WithinLimits.{within_limits}
 use Rattle.lab_history.specs.FirstPartsFault.{ops_checked, txn_checked, txns_checked, installed_checked, checked}
-use Rattle.lab_history.specs.declared.fault.FileFault.{FileFault}
+use Rattle.lab_history.specs.declared.{fault.FileFault.{FileFault}, transaction.Txn.{Txn}}
 use Rattle.lab_history.specs.declared.fault.FileFault.TheVariants as fault
 use Rattle.lab_history.specs.declared.fault.Limit.TheVariants as limit
 use Rattle.lab_history.specs.declared.path.ListPlace.TheVariants as list
 use Rattle.lab_history.specs.declared.path.Path.TheVariants as path
-use Rattle.lab_history.specs.declared.transaction.Txn.{Txn}
-use Rattle.lab_history.proofs.CheckedTxns.{operations_decide}
-use Rattle.lab_history.proofs.LimitsKept.{limits_kept}
-use Rattle.lab_history.proofs.KeptOperations.{ops_joined, ops_parted}
-use Rattle.lab_history.proofs.PassedOps.{both_pass, passed_then, not_refused, ops_pass, pass_ops}
-use Rattle.lab_history.proofs.Standing.{unlike, operations_push}
-use Rattle.lab_history.proofs.Steps.{refused_is}
+use Rattle.lab_history.proofs.{CheckedTxns.{operations_decide}, LimitsKept.{limits_kept}, KeptOperations.{ops_joined, ops_parted}, PassedOps.{both_pass, passed_then, not_refused, ops_pass, pass_ops}, Standing.{unlike, operations_push}, Steps.{refused_is}}
 
 -- ---- numbers
 

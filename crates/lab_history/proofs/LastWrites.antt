@@ -1,20 +1,8 @@
 -- The last writes of transactions.
-use Rattle.std.proofs.Common.{◌≡◌, ℕ, suc, ◌+◌, Bool, true, false, cond, ◌==◌, List, [], ◌∷◌, map, Option, Some, None, refl, sym, ap, ◌∙◌, subst, arith}
-use Rattle.std.proofs.lemmas.Bool.{eqb-true, or_parts}
-use Rattle.std.specs.Prelude.{reverse, is_some, option_map}
-use Rattle.std.specs.List.{list_any}
-use Rattle.std.specs.Option.{option_or}
-use Rattle.std.specs.FinMap.{find, get, entries, get-entries}
-use Rattle.std.specs.Ordering.{nat_cmp, is_eq, ordering_then}
+use Rattle.std.proofs.{Common.{◌≡◌, ℕ, suc, ◌+◌, Bool, true, false, cond, ◌==◌, List, [], ◌∷◌, map, Option, Some, None, refl, sym, ap, ◌∙◌, subst, arith}, lemmas.Bool.{eqb-true, or_parts}}
+use Rattle.std.specs.{Prelude.{reverse, is_some, option_map}, List.{list_any}, Option.{option_or}, FinMap.{find, get, entries, get-entries}, Ordering.{nat_cmp, is_eq, ordering_then}}
 use Rattle.lab_table.specs.Row.{Row, row_cmp}
-use Rattle.lab_history.specs.Index.{txn_row_cmp, written_by, written_from, written}
-use Rattle.lab_history.specs.Keyed.{value_at}
-use Rattle.lab_history.specs.HistoryRules.{AllDistinct}
-use Rattle.lab_history.specs.Version.{find_txn, ops_in, last_write}
-use Rattle.lab_history.specs.VersionName.{new_states}
-use Rattle.lab_history.specs.declared.operation.Op.{Op}
-use Rattle.lab_history.specs.declared.operation.State.{State}
-use Rattle.lab_history.specs.declared.transaction.Txn.{Txn}
+use Rattle.lab_history.specs.{Index.{txn_row_cmp, written_by, written_from, written}, Keyed.{value_at}, HistoryRules.{AllDistinct}, Version.{find_txn, ops_in, last_write}, VersionName.{new_states}, declared.{operation.{Op.{Op}, State.{State}}, transaction.Txn.{Txn}}}
 use Rattle.lab_history.proofs.FirstValues.{same_number, other_row, apart_first, same_first, or_none, value_at-reverse}
 
 -- the rows that are written don't depend on the states

@@ -1,13 +1,6 @@
 -- The limits on tables, ids and entries, where the counts are known.
-use Rattle.std.proofs.Common.{◌≡◌, ◌≤◌, ◌<◌, ℕ, map, sum, Some, None, Ok, Err, ap, ◌∙◌}
-use Rattle.std.specs.Prelude.{⊤, nat_lt, Result}
-use Rattle.std.proofs.lemmas.Bool.{lt-ltb, le-ltb}
-use Rattle.lab_history.specs.Faults.{◌>>=◌, refused_if}
-use Rattle.lab_history.specs.History.{History}
-use Rattle.lab_history.specs.HistoryRules.{operations, named_tables, distinct_tables, named_rows, distinct_rows, op_entries}
-use Rattle.lab_history.specs.WithinLimits.{within_limits}
-use Rattle.lab_history.specs.RunningCounts.{txns_counted}
-use Rattle.lab_history.specs.declared.fault.FileFault.{FileFault}
+use Rattle.std.{proofs.{Common.{◌≡◌, ◌≤◌, ◌<◌, ℕ, map, sum, Some, None, Ok, Err, ap, ◌∙◌}, lemmas.Bool.{lt-ltb, le-ltb}}, specs.Prelude.{⊤, nat_lt, Result}}
+use Rattle.lab_history.specs.{Faults.{◌>>=◌, refused_if}, History.{History}, HistoryRules.{operations, named_tables, distinct_tables, named_rows, distinct_rows, op_entries}, WithinLimits.{within_limits}, RunningCounts.{txns_counted}, declared.fault.FileFault.{FileFault}}
 use Rattle.lab_history.specs.declared.fault.FileFault.TheVariants as fault
 use Rattle.lab_history.specs.declared.fault.Limit.TheVariants as limit
 use Rattle.lab_history.proofs.CountedEntries.{few_entries, many_entries}

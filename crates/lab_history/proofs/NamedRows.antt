@@ -1,16 +1,7 @@
 -- What passes for all rows that a history names passes for the rows of each of its lists.
-use Rattle.std.proofs.Common.{◌≡◌, Bool, ◌&&◌, List, [], ◌∷◌, refl, ap, ◌∙◌}
-use Rattle.std.specs.List.{list_all, flat_map}
-use Rattle.std.specs.FinMap.{entries}
-use Rattle.std.proofs.lemmas.List.Folds.{list_all-append, list_all-map}
-use Rattle.std.proofs.lemmas.Grind.{flat_map-append}
+use Rattle.std.{proofs.{Common.{◌≡◌, Bool, ◌&&◌, List, [], ◌∷◌, refl, ap, ◌∙◌}, lemmas.{List.Folds.{list_all-append, list_all-map}, Grind.{flat_map-append}}}, specs.{List.{list_all, flat_map}, FinMap.{entries}}}
 use Rattle.lab_table.specs.Row.{Row}
-use Rattle.lab_history.specs.VersionName.{new_states}
-use Rattle.lab_history.specs.declared.operation.State.{State}
-use Rattle.lab_history.specs.declared.operation.Op.{Op}
-use Rattle.lab_history.specs.declared.transaction.Txn.{Txn}
-use Rattle.lab_history.specs.History.{History}
-use Rattle.lab_history.specs.HistoryRules.{operations, op_rows, named_rows}
+use Rattle.lab_history.specs.{VersionName.{new_states}, declared.{operation.{State.{State}, Op.{Op}}, transaction.Txn.{Txn}}, History.{History}, HistoryRules.{operations, op_rows, named_rows}}
 
 module _ (p : Row → Bool) where
   -- the rows of states are those of the new states

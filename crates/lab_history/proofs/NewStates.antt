@@ -1,13 +1,7 @@
 -- Written rows by their new states: the same rows, each with its state as contracts see it.
-use Rattle.std.proofs.Common.{◌≡◌, true, false, cond, ◌&&◌, List, [], ◌∷◌, Some, refl, ap, ◌∙◌}
-use Rattle.std.specs.Prelude.{ℤ, Option, option_map}
-use Rattle.std.specs.Ordering.{is_eq, is_lt}
-use Rattle.std.specs.FinMap.{find, is_sorted}
-use Rattle.std.specs.FinMap.Entries.{below_all}
+use Rattle.std.{proofs.Common.{◌≡◌, true, false, cond, ◌&&◌, List, [], ◌∷◌, Some, refl, ap, ◌∙◌}, specs.{Prelude.{ℤ, Option, option_map}, Ordering.{is_eq, is_lt}, FinMap.{find, is_sorted, Entries.{below_all}}}}
 use Rattle.lab_table.specs.Row.{Row, row_cmp}
-use Rattle.lab_history.specs.VersionName.{new_states, state_value}
-use Rattle.lab_history.specs.declared.operation.State.{State}
-use Rattle.lab_history.specs.declared.operation.State.TheVariants.{Absent, Present}
+use Rattle.lab_history.specs.{VersionName.{new_states, state_value}, declared.operation.State.{State, TheVariants.{Absent, Present}}}
 
 -- the rows stay
 below_states : (row : Row) (es : List (Row × State)) → below_all row_cmp row (new_states es) ≡ below_all row_cmp row es

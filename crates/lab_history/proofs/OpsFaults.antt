@@ -1,18 +1,13 @@
 -- The first fault of operations is true of them.
-use Rattle.std.proofs.Common.{◌≡◌, ◌⊎◌, inl, inr, ℕ, suc, ◌+◌, Bool, true, false, not, List, [], ◌∷◌, Some, Result, Ok, Err, refl, sym, ap, ◌∙◌, arith, subst}
-use Rattle.std.specs.Prelude.{⊤, slice_get}
+use Rattle.std.{proofs.{Common.{◌≡◌, ◌⊎◌, inl, inr, ℕ, suc, ◌+◌, Bool, true, false, not, List, [], ◌∷◌, Some, Result, Ok, Err, refl, sym, ap, ◌∙◌, arith, subst}, lemmas.Bool.{not-true, both_ways}}, specs.Prelude.{⊤, slice_get}}
 use Rattle.std.specs.FinMap as finite
-use Rattle.std.proofs.lemmas.Bool.{not-true, both_ways}
 use Rattle.lab_table.specs.Row.{Row}
 use Rattle.lab_history.specs.Faults.{◌>>=◌, refused_if}
 use Rattle.lab_history.specs.HistoryRules.{is_listed}
 use Rattle.lab_history.specs.FirstPartsFault.{statement_prints, listed_from, op_checked, ops_checked}
 use Rattle.lab_history.specs.PartsFault.{IsOpFault, unprintable, unlisted}
-use Rattle.lab_history.specs.declared.fault.FileFault.{FileFault}
+use Rattle.lab_history.specs.declared.{fault.FileFault.{FileFault}, operation.{Op.{Op}, VersionName.{VersionName}}, path.ListPlace.{ListPlace}}
 use Rattle.lab_history.specs.declared.fault.FileFault.TheVariants as fault
-use Rattle.lab_history.specs.declared.operation.Op.{Op}
-use Rattle.lab_history.specs.declared.operation.VersionName.{VersionName}
-use Rattle.lab_history.specs.declared.path.ListPlace.{ListPlace}
 use Rattle.lab_history.specs.declared.path.ListPlace.TheVariants as list
 use Rattle.lab_history.specs.declared.path.Path.TheVariants as path
 use Rattle.lab_history.proofs.PassedOps.{true_prints}

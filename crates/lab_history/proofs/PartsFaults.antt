@@ -1,26 +1,20 @@
 -- The first fault of parts is true of them.
 use Rattle.std.proofs.Common.{◌≡◌, ◌≤◌, inl, inr, ℕ, zero, suc, ◌+◌, ◌==◌, Bool, true, false, not, List, [], ◌∷◌, ◌++◌, length, map, sum, Some, Err, refl, sym, ap, ◌∙◌, arith, subst, append_assoc}
-use Rattle.std.specs.Prelude.{nat_lt, slice_get}
-use Rattle.std.specs.List.{list_any}
+use Rattle.std.specs.{Prelude.{nat_lt, slice_get}, List.{list_any}}
 use Rattle.std.specs.FinMap as finite
-use Rattle.std.proofs.lemmas.Bool.{ltb-true, eqb-true, or_cases, not-true}
-use Rattle.std.proofs.lemmas.Grind.{flat_map-append}
-use Rattle.std.proofs.lemmas.List.{length-append}
-use Rattle.std.proofs.lemmas.Option.{slice_get_within}
-use Rattle.lab_table.proofs.Tests.{slice_get-middle}
-use Rattle.lab_table.specs.Row.{Row}
+use Rattle.std.proofs.lemmas.{Bool.{ltb-true, eqb-true, or_cases, not-true}, Grind.{flat_map-append}, List.{length-append}, Option.{slice_get_within}}
+use Rattle.lab_table.{proofs.Tests.{slice_get-middle}, specs.Row.{Row}}
 use Rattle.lab_history.specs.Faults.{◌>>=◌, refused_if}
 use Rattle.lab_history.specs.History.{History}
 use Rattle.lab_history.specs.HistoryRules.{operations, named_tables, distinct_tables, named_rows, distinct_rows, op_entries, has_installer}
 use Rattle.lab_history.specs.WithinLimits.{within_limits}
 use Rattle.lab_history.specs.FirstPartsFault.{ops_checked, txn_checked, txns_checked, installed_checked, checked}
 use Rattle.lab_history.specs.PartsFault.{IsOpFault, IsPartsFault, many_transactions, repeated, many_operations, of_operation, no_installer, many_tables, many_ids, many_entries}
-use Rattle.lab_history.specs.declared.fault.FileFault.{FileFault}
+use Rattle.lab_history.specs.declared.{fault.FileFault.{FileFault}, transaction.Txn.{Txn}}
 use Rattle.lab_history.specs.declared.fault.FileFault.TheVariants as fault
 use Rattle.lab_history.specs.declared.fault.Limit.TheVariants as limit
 use Rattle.lab_history.specs.declared.path.ListPlace.TheVariants as list
 use Rattle.lab_history.specs.declared.path.Path.TheVariants as path
-use Rattle.lab_history.specs.declared.transaction.Txn.{Txn}
 use Rattle.lab_history.proofs.OpsFaults.{first_or_second, refused_for, IsOpsFault, ops_fault}
 
 -- ---- transactions

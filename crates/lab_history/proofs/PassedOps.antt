@@ -1,22 +1,10 @@
 -- Operations have no fault exactly where they keep what operations keep.
-use Rattle.std.proofs.Common.{◌≡◌, ℕ, ◌+◌, Bool, true, false, not, List, [], ◌∷◌, length, map, Result, Ok, Err, refl, ap, ◌∙◌}
-use Rattle.std.specs.Prelude.{⊤, nat_le}
-use Rattle.std.specs.List.{list_all}
+use Rattle.std.{proofs.{Common.{◌≡◌, ℕ, ◌+◌, Bool, true, false, not, List, [], ◌∷◌, length, map, Result, Ok, Err, refl, ap, ◌∙◌}, lemmas.Bool.{leb-true, le-leb, and_parts, not-false, and_from, not_from_true}}, specs.{Prelude.{⊤, nat_le}, List.{list_all}}}
 use Rattle.std.specs.FinMap as finite
-use Rattle.std.proofs.lemmas.Bool.{leb-true, le-leb, and_parts, not-false, and_from, not_from_true}
-use Rattle.lab_table.specs.Row.{Row}
-use Rattle.lab_table.specs.declared.statement.Statement.{Statement}
-use Rattle.lab_statement.specs.Depth.{statement_depth}
-use Rattle.lab_statement.specs.Printed.{printed_statement}
-use Rattle.lab_statement.specs.Limits.{StatementPrints}
-use Rattle.lab_history.specs.Faults.{◌>>=◌, refused_if}
-use Rattle.lab_history.specs.HistoryRules.{is_listed, OpKeeps, OpsKeep}
-use Rattle.lab_history.specs.FirstPartsFault.{statement_prints, listed_from, op_checked, ops_checked}
-use Rattle.lab_history.specs.declared.fault.FileFault.{FileFault}
+use Rattle.lab_table.specs.{Row.{Row}, declared.statement.Statement.{Statement}}
+use Rattle.lab_statement.specs.{Depth.{statement_depth}, Printed.{printed_statement}, Limits.{StatementPrints}}
+use Rattle.lab_history.specs.{Faults.{◌>>=◌, refused_if}, HistoryRules.{is_listed, OpKeeps, OpsKeep}, FirstPartsFault.{statement_prints, listed_from, op_checked, ops_checked}, declared.{fault.FileFault.{FileFault}, operation.{Op.{Op}, VersionName.{VersionName}}, path.ListPlace.{ListPlace}}}
 use Rattle.lab_history.specs.declared.fault.FileFault.TheVariants as fault
-use Rattle.lab_history.specs.declared.operation.Op.{Op}
-use Rattle.lab_history.specs.declared.operation.VersionName.{VersionName}
-use Rattle.lab_history.specs.declared.path.ListPlace.{ListPlace}
 use Rattle.lab_history.specs.declared.path.ListPlace.TheVariants as list
 use Rattle.lab_history.specs.declared.path.Path.TheVariants as path
 use Rattle.lab_history.proofs.Steps.{refused_is}

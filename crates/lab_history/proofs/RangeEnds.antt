@@ -1,24 +1,10 @@
 -- A list of rows that rises from one row of a range to another has rows of that range alone.
 use Rattle.std.proofs.Common.{◌≡◌, ℕ, ◌-◌, ◌≤◌, ◌<◌, Bool, true, false, ◌&&◌, ◌||◌, T, List, [], ◌∷◌, length, Some, refl, sym, ap, subst, ◌∙◌, arith}
-use Rattle.std.specs.Prelude.{slice_get}
-use Rattle.std.specs.List.{list_any, list_all}
-use Rattle.std.specs.FinMap.{is_sorted}
-use Rattle.std.specs.FinMap.Entries.{below_all}
-use Rattle.std.specs.Cmp.Lexicographic.{bytes_decides}
-use Rattle.std.specs.declared.cmp.Ordering.TheVariants.{Less}
-use Rattle.std.proofs.lemmas.Bool.{false≢true, and_parts, and_from, leb-true, ltb-true, le-leb, lt-ltb}
-use Rattle.std.proofs.lemmas.Cmp.{ranked}
-use Rattle.std.proofs.lemmas.Option.{same_Some, get_or_from_slice_get}
+use Rattle.std.specs.{Prelude.{slice_get}, List.{list_any, list_all}, FinMap.{is_sorted, Entries.{below_all}}, Cmp.Lexicographic.{bytes_decides}, declared.cmp.Ordering.TheVariants.{Less}}
+use Rattle.std.proofs.lemmas.{Bool.{false≢true, and_parts, and_from, leb-true, ltb-true, le-leb, lt-ltb}, Cmp.{ranked}, Option.{same_Some, get_or_from_slice_get}}
 use Rattle.std.proofs.Math.Bool.{or-true}
-use Rattle.lab_table.specs.Row.{Row, row_cmp, of_table}
-use Rattle.lab_table.specs.TableName.{table_name_eq}
-use Rattle.lab_table.specs.Placed.{is_of}
-use Rattle.lab_table.proofs.RowOrder.{in_one_table}
-use Rattle.lab_table.proofs.SortedRows.{below_at}
-use Rattle.lab_table.proofs.OneTable.{all_are}
-use Rattle.lab_table.proofs.Tests.{both}
-use Rattle.lab_history.specs.IdRanges.{has_ends, has_row, have_row}
-use Rattle.lab_history.specs.declared.id_range.IdRange.{IdRange}
+use Rattle.lab_table.{specs.{Row.{Row, row_cmp, of_table}, TableName.{table_name_eq}, Placed.{is_of}}, proofs.{RowOrder.{in_one_table}, SortedRows.{below_at}, OneTable.{all_are}, Tests.{both}}}
+use Rattle.lab_history.specs.{IdRanges.{has_ends, has_row, have_row}, declared.id_range.IdRange.{IdRange}}
 
 -- lesser rows of a table have lesser numbers
 ids_rise : (table : List ℕ) (a b : Row) → a.table ≡ table → b.table ≡ table → row_cmp a b ≡ Less → a.id < b.id

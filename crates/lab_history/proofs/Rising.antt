@@ -1,12 +1,6 @@
 -- Rows that rise strictly, looked at from the front.
-use Rattle.std.proofs.Common.{◌≡◌, Bool, true, false, ◌&&◌, T, List, [], ◌∷◌, Option, Some, None, refl, ap, ◌∙◌}
-use Rattle.std.specs.Ordering.{is_lt}
-use Rattle.std.specs.FinMap.{is_sorted}
-use Rattle.std.specs.FinMap.Entries.{below_all}
-use Rattle.std.specs.declared.cmp.Ordering.{Ordering}
-use Rattle.std.specs.declared.cmp.Ordering.TheVariants.{Less, Equal, Greater}
-use Rattle.lab_table.specs.Row.{Row, row_cmp}
-use Rattle.lab_table.proofs.SortedRows.{lower}
+use Rattle.std.{proofs.Common.{◌≡◌, Bool, true, false, ◌&&◌, T, List, [], ◌∷◌, Option, Some, None, refl, ap, ◌∙◌}, specs.{Ordering.{is_lt}, FinMap.{is_sorted, Entries.{below_all}}, declared.cmp.Ordering.{Ordering, TheVariants.{Less, Equal, Greater}}}}
+use Rattle.lab_table.{specs.Row.{Row, row_cmp}, proofs.SortedRows.{lower}}
 use Rattle.lab_history.specs.RowOrder.{follows}
 
 -- whether the rows rise strictly behind a row

@@ -1,17 +1,12 @@
 -- A row that is looked for in a rising list, and put there.
 use Rattle.std.proofs.Common.{◌≡◌, ℕ, zero, suc, true, false, T, List, [], ◌∷◌, length, map, refl, sym, ap, ◌∙◌, subst, arith}
 use Rattle.std.specs.Ordering.{is_lt, match_ordering}
-use Rattle.std.specs.declared.cmp.Ordering.{Ordering}
-use Rattle.std.specs.declared.cmp.Ordering.TheVariants.{Less, Equal, Greater}
+use Rattle.std.specs.declared.cmp.Ordering.{Ordering, TheVariants.{Less, Equal, Greater}}
 use Rattle.std.specs.BTreeSet.{insert_key}
 use Rattle.std.specs.FinMap.{FinMap, empty, entries, keys, insert, put, is_sorted, entries_sorted, entries-insert, len-entries, len-empty}
 use Rattle.std.specs.FinMap.Entries.{below_all, by_order}
 use Rattle.std.specs.Cmp.{tied_itself}
-use Rattle.lab_table.specs.Row.{Row, row_cmp, rows_total}
-use Rattle.lab_table.specs.Placed.{is_row_at}
-use Rattle.lab_table.proofs.Maps.{tested_same}
-use Rattle.lab_table.proofs.Orderings.{is_less, turned_back}
-use Rattle.lab_table.proofs.Tests.{both}
+use Rattle.lab_table.{specs.{Row.{Row, row_cmp, rows_total}, Placed.{is_row_at}}, proofs.{Maps.{tested_same}, Orderings.{is_less, turned_back}, Tests.{both}}}
 
 -- nothing is both false and true
 never : (P : Type 0) → false ≡ true → P

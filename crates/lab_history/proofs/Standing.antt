@@ -1,8 +1,6 @@
 -- The numbers of transactions, and how many operations they have.
-use Rattle.std.proofs.Common.{◌≡◌, ℕ, ◌+◌, ◌==◌, false, List, [], ◌∷◌, ◌++◌, length, map, sym, ap, ◌∙◌, append-nil, length-append, ne_eqb, eq-eqb}
-use Rattle.std.proofs.lemmas.Grind.{flat_map-append}
-use Rattle.lab_history.specs.HistoryRules.{operations}
-use Rattle.lab_history.specs.declared.transaction.Txn.{Txn}
+use Rattle.std.proofs.{Common.{◌≡◌, ℕ, ◌+◌, ◌==◌, false, List, [], ◌∷◌, ◌++◌, length, map, sym, ap, ◌∙◌, append-nil, length-append, ne_eqb, eq-eqb}, lemmas.Grind.{flat_map-append}}
+use Rattle.lab_history.specs.{HistoryRules.{operations}, declared.transaction.Txn.{Txn}}
 
 -- the numbers of transactions
 abbrev pub numbers : List Txn → List ℕ

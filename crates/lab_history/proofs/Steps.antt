@@ -1,11 +1,7 @@
 -- Reading step by step: what follows from its end, and how it ends.
-use Rattle.std.proofs.Common.{◌≡◌, ℕ, ◌≤◌, ◌⊎◌, inl, inr, Bool, true, false, Option, Some, None, Result, Ok, Err, refl, ap, ◌∙◌, ltb-false, ltb-true, nat_lt, arith, option_and_then, if◌then◌else◌}
-use Rattle.std.specs.Prelude.{⊤}
-use Rattle.std.proofs.lemmas.Bool.{false_from_ne_true}
-use Rattle.lab_history.specs.Faults.{◌>>=◌, required, refused_if}
-use Rattle.lab_history.specs.declared.fault.FileFault.{FileFault}
+use Rattle.std.{proofs.{Common.{◌≡◌, ℕ, ◌≤◌, ◌⊎◌, inl, inr, Bool, true, false, Option, Some, None, Result, Ok, Err, refl, ap, ◌∙◌, ltb-false, ltb-true, nat_lt, arith, option_and_then, if◌then◌else◌}, lemmas.Bool.{false_from_ne_true}}, specs.Prelude.{⊤}}
+use Rattle.lab_history.specs.{Faults.{◌>>=◌, required, refused_if}, declared.{fault.FileFault.{FileFault}, path.Path.{Path}}}
 use Rattle.lab_history.specs.declared.fault.FileFault.TheVariants as fault
-use Rattle.lab_history.specs.declared.path.Path.{Path}
 
 module _ {A B : Type 0} where
   -- what ended well did so in both steps

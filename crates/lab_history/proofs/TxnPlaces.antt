@@ -1,12 +1,6 @@
 -- The places of transactions.
-use Rattle.std.proofs.Common.{◌≡◌, ℕ, suc, ◌+◌, Bool, true, false, cond, ◌==◌, List, [], ◌∷◌, Some, refl, ap, ◌∙◌, arith, zero-add}
-use Rattle.std.specs.Prelude.{slice_get, option_and_then}
-use Rattle.std.specs.Ordering.{nat_cmp}
-use Rattle.lab_history.specs.Index.{numbers_from}
-use Rattle.lab_history.specs.Keyed.{value_at}
-use Rattle.lab_history.specs.Version.{find_txn}
-use Rattle.lab_history.specs.declared.transaction.Txn.{Txn}
-use Rattle.lab_history.proofs.FirstValues.{same_number}
+use Rattle.std.{proofs.Common.{◌≡◌, ℕ, suc, ◌+◌, Bool, true, false, cond, ◌==◌, List, [], ◌∷◌, Some, refl, ap, ◌∙◌, arith, zero-add}, specs.{Prelude.{slice_get, option_and_then}, Ordering.{nat_cmp}}}
+use Rattle.lab_history.{specs.{Index.{numbers_from}, Keyed.{value_at}, Version.{find_txn}, declared.transaction.Txn.{Txn}}, proofs.FirstValues.{same_number}}
 
 module _ (n : ℕ) (all : List Txn) where
   -- at the place of a number stands its transaction

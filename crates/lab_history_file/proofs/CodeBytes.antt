@@ -1,9 +1,5 @@
 -- Bytes of code are ASCII.
-use Rattle.std.proofs.Common.{◌≡◌, ℕ, zero, suc, ◌<◌, true, List, [], ◌∷◌, arith}
-use Rattle.std.specs.Prelude.{IsUtf8, IsAscii}
-use Rattle.std.specs.List.{list_all}
-use Rattle.std.proofs.lemmas.Str.{IsUtf8-from_ascii}
-use Rattle.std.proofs.lemmas.Bool.{and_parts}
+use Rattle.std.{proofs.{Common.{◌≡◌, ℕ, zero, suc, ◌<◌, true, List, [], ◌∷◌, arith}, lemmas.{Str.{IsUtf8-from_ascii}, Bool.{and_parts}}}, specs.{Prelude.{IsUtf8, IsAscii}, List.{list_all}}}
 use Rattle.lab_statement.specs.Text.{is_code_byte}
 
 code_byte_below : (b : ℕ) → is_code_byte b ≡ true → b < 128

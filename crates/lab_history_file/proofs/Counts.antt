@@ -1,8 +1,6 @@
 -- How many members a list of a file has.
-use Rattle.std.proofs.Common.{◌≡◌, ℕ, ◌+◌, ◌<◌, ◌≤◌, nat_lt, true, false, List, [], ◌∷◌, length, refl, arith}
-use Rattle.std.proofs.lemmas.Bool.{lt-ltb, le-ltb}
-use Rattle.serde_json.specs.declared.value.Value.{Value}
-use Rattle.serde_json.specs.View.{items_view}
+use Rattle.std.proofs.{Common.{◌≡◌, ℕ, ◌+◌, ◌<◌, ◌≤◌, nat_lt, true, false, List, [], ◌∷◌, length, refl, arith}, lemmas.Bool.{lt-ltb, le-ltb}}
+use Rattle.serde_json.specs.{declared.value.Value.{Value}, View.{items_view}}
 use Rattle.lab_history_file.specs.Member.{count}
 
 -- they are counted as in code

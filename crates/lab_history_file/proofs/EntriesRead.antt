@@ -1,31 +1,17 @@
 -- The lists of a history file are read as the maps that they stand for, and as nothing else.
-use Rattle.std.proofs.Common.{◌≡◌, ◌≢◌, ℕ, ◌+◌, ℤ, T, List, [], ◌∷◌, Option, Some, None, Result, Ok, refl, sym, ap, subst, ◌∙◌}
+use Rattle.std.{proofs.Common.{◌≡◌, ◌≢◌, ℕ, ◌+◌, ℤ, T, List, [], ◌∷◌, Option, Some, None, Result, Ok, refl, sym, ap, subst, ◌∙◌}, specs.FinMap.{FinMap}}
 use Rattle.std.specs.FinMap as finite
-use Rattle.std.specs.FinMap.{FinMap}
-use Rattle.serde_json.specs.Data.{Data, array, Items, no_items, item}
-use Rattle.serde_json.specs.Find.{as_array}
+use Rattle.serde_json.specs.{Data.{Data, array, Items, no_items, item}, Find.{as_array}}
 use Rattle.lab_table.specs.Row.{Row, row_cmp}
-use Rattle.lab_history.specs.Faults.{required}
+use Rattle.lab_history.specs.{Faults.{required}, declared.{fault.FileFault.{FileFault}, operation.{VersionName.{VersionName, TheVariants.{Of}}, State.{State}}, path.ListPlace.{ListPlace}}, VersionName.{new_states}}
 use Rattle.lab_history_file.specs.Member.{Key, with_key, key_parts, row_in, count, member_in}
 use Rattle.lab_history_file.specs.Entries.{txn_in_number, op_in_number, value_in, state_in, entry_in, one_in, version_name_in, installer_in, installers_of, installers_in, values_in, writes_in, view_in, installed_in}
 use Rattle.lab_history_file.specs.FileOf.{AreEach, IsListOf, IsMapOf, IsPair, IsValue, IsState, IsVersion, IsInstalled}
-use Rattle.lab_history.specs.declared.fault.FileFault.{FileFault}
 use Rattle.lab_history_file.specs.declared.file_version.FileVersion.{FileVersion}
-use Rattle.lab_history.specs.declared.operation.VersionName.{VersionName}
-use Rattle.lab_history.specs.declared.operation.VersionName.TheVariants.{Of}
-use Rattle.lab_history.specs.declared.path.ListPlace.{ListPlace}
 use Rattle.lab_history.specs.declared.path.ListPlace.TheVariants as list
 use Rattle.lab_history.specs.declared.path.Path.TheVariants as path
-use Rattle.lab_history.proofs.Steps.{both_ok, step_on, required_ok, required_is}
-use Rattle.lab_history_file.proofs.JsonShapes.{array_of}
-use Rattle.lab_history_file.proofs.FileKeys.{begins_with, with_begins}
-use Rattle.lab_history_file.proofs.ItemsRead.{each_read, each_is_read}
-use Rattle.lab_history_file.proofs.MemberKeys.{one_part, two_parts, member_begins, member_with}
-use Rattle.lab_history_file.proofs.ListsRead.{entries_read, map_read, entries_are_read}
-use Rattle.lab_history_file.proofs.PlainWrites.{plain_writes, code_writes}
-use Rattle.lab_history.proofs.NewStates.{new_states_sorted}
-use Rattle.lab_history.specs.VersionName.{new_states}
-use Rattle.lab_history.specs.declared.operation.State.{State}
+use Rattle.lab_history.proofs.{Steps.{both_ok, step_on, required_ok, required_is}, NewStates.{new_states_sorted}}
+use Rattle.lab_history_file.proofs.{JsonShapes.{array_of}, FileKeys.{begins_with, with_begins}, ItemsRead.{each_read, each_is_read}, MemberKeys.{one_part, two_parts, member_begins, member_with}, ListsRead.{entries_read, map_read, entries_are_read}, PlainWrites.{plain_writes, code_writes}}
 
 -- ---- members
 

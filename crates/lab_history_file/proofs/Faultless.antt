@@ -1,8 +1,6 @@
 -- No fault is true of a file: each value of it fits at its place, and it keeps the limits.
-use Rattle.std.proofs.Common.{◌≡◌, ◌≢◌, ℕ, ◌≤◌, ◌==◌, true, map, Some, is_some, option_and_then, slice_get, codes, refl, sym, ap, subst, ◌∙◌, arith, eqb-true}
-use Rattle.std.specs.Prelude.{sum, nat_lt}
-use Rattle.serde_json.specs.Data.{Data, array}
-use Rattle.serde_json.specs.Find.{as_array, as_object, as_str, at}
+use Rattle.std.{proofs.Common.{◌≡◌, ◌≢◌, ℕ, ◌≤◌, ◌==◌, true, map, Some, is_some, option_and_then, slice_get, codes, refl, sym, ap, subst, ◌∙◌, arith, eqb-true}, specs.Prelude.{sum, nat_lt}}
+use Rattle.serde_json.specs.{Data.{Data, array}, Find.{as_array, as_object, as_str, at}}
 use Rattle.lab_history_file.specs.Entries.{txn_in_number, state_in}
 use Rattle.lab_history_file.specs.FaultOf.{all_ops, IsWrong, IsRepeated, IsBadStatement, IsUnsorted, IsOverLimit, IsTrueIn, IsTrueFault}
 use Rattle.lab_history_file.specs.Member.{key_parts, count}
@@ -12,20 +10,12 @@ use Rattle.lab_history_file.specs.ValueAt.{txn_at, operation_at, list_at, value_
 use Rattle.lab_history_file.specs.FileOf.{SpellsIn, IsValue, IsState, IsFileIn, IsFileOf, IsOperation, IsTransaction}
 use Rattle.lab_history_file.specs.Keys.{txn_keys, op_keys}
 use Rattle.lab_history_file.specs.Format.{at_key, has_keys, outcome_named, number_said, said_by, version_said}
-use Rattle.lab_history.specs.History.{History}
-use Rattle.lab_history.specs.HistoryRules.{operations, named_tables, distinct_tables, named_rows, distinct_rows, op_entries}
-use Rattle.lab_history.specs.declared.fault.FileFault.{FileFault}
+use Rattle.lab_history.specs.{History.{History}, HistoryRules.{operations, named_tables, distinct_tables, named_rows, distinct_rows, op_entries}, declared.{fault.{FileFault.{FileFault}, Limit.{Limit}}, operation.Op.{Op}, path.{ListPlace.{ListPlace}, Path.{Path}}, transaction.Txn.{Txn}}}
 use Rattle.lab_history.specs.declared.fault.FileFault.TheVariants as fault
-use Rattle.lab_history.specs.declared.fault.Limit.{Limit}
 use Rattle.lab_history.specs.declared.fault.Limit.TheVariants as limit
-use Rattle.lab_history_file.specs.declared.file_version.FileVersion.{FileVersion}
-use Rattle.lab_history_file.specs.declared.file_version.FileVersion.TheVariants.{One, Two}
-use Rattle.lab_history.specs.declared.operation.Op.{Op}
-use Rattle.lab_history.specs.declared.path.ListPlace.{ListPlace}
+use Rattle.lab_history_file.specs.declared.file_version.FileVersion.{FileVersion, TheVariants.{One, Two}}
 use Rattle.lab_history.specs.declared.path.ListPlace.TheVariants as list
-use Rattle.lab_history.specs.declared.path.Path.{Path}
 use Rattle.lab_history.specs.declared.path.Path.TheVariants as path
-use Rattle.lab_history.specs.declared.transaction.Txn.{Txn}
 use Rattle.lab_history.proofs.Steps.{both_some}
 use Rattle.lab_history_file.proofs.OperationsRead.{each_count}
 use Rattle.lab_history_file.proofs.FileKeys.{state_read}

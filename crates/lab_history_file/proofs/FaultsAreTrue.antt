@@ -1,29 +1,18 @@
 -- A fault that reading has is true.
-use Rattle.std.proofs.Common.{◌≡◌, ◌≢◌, ℕ, ◌==◌, ⊎_elim, Bool, true, false, List, Option, Some, None, is_some, option_and_then, Ok, Err, if◌then◌else◌, codes, nat_lt, bytes_eq, refl, sym, ap, subst, ◌∙◌, ltb-true, eq-eqb}
-use Rattle.std.specs.Prelude.{⊤}
-use Rattle.serde_json.specs.Data.{Data}
-use Rattle.serde_json.specs.Find.{as_object, as_str}
-use Rattle.lab_history.specs.Faults.{required, refused_if}
+use Rattle.std.{proofs.Common.{◌≡◌, ◌≢◌, ℕ, ◌==◌, ⊎_elim, Bool, true, false, List, Option, Some, None, is_some, option_and_then, Ok, Err, if◌then◌else◌, codes, nat_lt, bytes_eq, refl, sym, ap, subst, ◌∙◌, ltb-true, eq-eqb}, specs.Prelude.{⊤}}
+use Rattle.serde_json.specs.{Data.{Data}, Find.{as_object, as_str}}
+use Rattle.lab_history.{specs.{Faults.{required, refused_if}, History.{History}, HistoryRules.{named_tables, distinct_tables, named_rows, distinct_rows}, WithinLimits.{within_limits}, declared.fault.FileFault.{FileFault}}, proofs.Steps.{both_ok, either_err, required_ok, required_err, refused_err}}
 use Rattle.lab_history_file.specs.Entries.{value_in, values_in, installed_in}
 use Rattle.lab_history_file.specs.FaultOf.{IsTrueFault, IsTrueIn}
 use Rattle.lab_history_file.specs.PlaceShape.{is_format}
 use Rattle.lab_history_file.specs.Keys.{root_keys}
 use Rattle.lab_history_file.specs.Format.{at_key, has_keys, keyed, format_in, number_said, numbered_version, version_in, said_by, version_said, txns_in, parts_of_version, parts_in, history_in}
-use Rattle.lab_history.specs.History.{History}
-use Rattle.lab_history.specs.HistoryRules.{named_tables, distinct_tables, named_rows, distinct_rows}
-use Rattle.lab_history.specs.WithinLimits.{within_limits}
-use Rattle.lab_history.specs.declared.fault.FileFault.{FileFault}
 use Rattle.lab_history.specs.declared.fault.FileFault.TheVariants as fault
 use Rattle.lab_history.specs.declared.fault.Limit.TheVariants as limit
-use Rattle.lab_history_file.specs.declared.file_version.FileVersion.{FileVersion}
-use Rattle.lab_history_file.specs.declared.file_version.FileVersion.TheVariants.{One, Two}
+use Rattle.lab_history_file.specs.declared.file_version.FileVersion.{FileVersion, TheVariants.{One, Two}}
 use Rattle.lab_history.specs.declared.path.ListPlace.TheVariants as list
 use Rattle.lab_history.specs.declared.path.Path.TheVariants as path
-use Rattle.lab_history.proofs.Steps.{both_ok, either_err, required_ok, required_err, refused_err}
-use Rattle.lab_history_file.proofs.FaultsOfLists.{pairs_fault, installed_fault}
-use Rattle.lab_history_file.proofs.ListWalks.{is_wrong}
-use Rattle.lab_history_file.proofs.FaultsOfOperations.{none_when, keyed_err}
-use Rattle.lab_history_file.proofs.FaultsOfTransactions.{txns_fault}
+use Rattle.lab_history_file.proofs.{FaultsOfLists.{pairs_fault, installed_fault}, ListWalks.{is_wrong}, FaultsOfOperations.{none_when, keyed_err}, FaultsOfTransactions.{txns_fault}}
 
 -- what the reading makes of a text where the format's name is wanted
 abbrev name_read : List ℕ → Option ⊤

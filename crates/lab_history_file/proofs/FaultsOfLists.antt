@@ -1,31 +1,19 @@
 -- The faults of lists whose members begin with a row are true.
-use Rattle.std.proofs.Common.{◌≡◌, ℕ, ◌+◌, ◌<◌, ⊎_elim, [], Bool, true, false, Option, Some, None, is_some, option_and_then, Result, Ok, Err, if◌then◌else◌, refl, ap, sym, subst, ◌∙◌, arith, codes}
-use Rattle.std.specs.Prelude.{nat_lt}
-use Rattle.std.proofs.lemmas.Bool.{lt-ltb}
-use Rattle.serde_json.specs.Data.{Data, array, Items, no_items, item}
-use Rattle.serde_json.specs.Find.{as_array, at, get_item}
+use Rattle.std.{proofs.{Common.{◌≡◌, ℕ, ◌+◌, ◌<◌, ⊎_elim, [], Bool, true, false, Option, Some, None, is_some, option_and_then, Result, Ok, Err, if◌then◌else◌, refl, ap, sym, subst, ◌∙◌, arith, codes}, lemmas.Bool.{lt-ltb}}, specs.Prelude.{nat_lt}}
+use Rattle.serde_json.specs.{Data.{Data, array, Items, no_items, item}, Find.{as_array, at, get_item}}
 use Rattle.lab_table.specs.Row.{Row}
-use Rattle.lab_history.specs.Faults.{required}
+use Rattle.lab_history.{specs.{Faults.{required}, declared.{fault.FileFault.{FileFault}, path.ListPlace.{ListPlace}}}, proofs.Steps.{either_err, required_ok, required_err}}
 use Rattle.lab_history_file.specs.Member.{Key, with_key, key_parts, id_in, table_in, row_in, row_of, plain_in, full_in, count, sized, split_key, member_in}
 use Rattle.lab_history_file.specs.Entries.{entries_in, txn_in_number, op_in_number, entry_in, one_in, version_name_in, items_from, installer_in, installers_of, installers_in, installed_in}
 use Rattle.lab_history_file.specs.FaultOf.{IsTrueIn}
 use Rattle.lab_history_file.specs.PlaceShape.{parts_behind, parts_of, has_items, second_fits, part_fits}
 use Rattle.lab_history_file.specs.ValueAt.{list_at}
 use Rattle.lab_history_file.specs.Format.{at_key}
-use Rattle.lab_history.specs.declared.fault.FileFault.{FileFault}
 use Rattle.lab_history.specs.declared.fault.FileFault.TheVariants as fault
-use Rattle.lab_history_file.specs.declared.file_version.FileVersion.{FileVersion}
-use Rattle.lab_history_file.specs.declared.file_version.FileVersion.TheVariants.{One, Two}
-use Rattle.lab_history.specs.declared.path.ListPlace.{ListPlace}
+use Rattle.lab_history_file.specs.declared.file_version.FileVersion.{FileVersion, TheVariants.{One, Two}}
 use Rattle.lab_history.specs.declared.path.ListPlace.TheVariants as list
 use Rattle.lab_history.specs.declared.path.Path.TheVariants as path
-use Rattle.lab_history.proofs.Steps.{either_err, required_ok, required_err}
-use Rattle.lab_history_file.proofs.JsonShapes.{array_of}
-use Rattle.lab_history_file.proofs.MemberKeys.{sized_some, sized_none, one_part, two_parts, member_begins}
-use Rattle.lab_history_file.proofs.KeyParts.{first_behind, second_behind, first_fits, last_fits, own_part, key_begins}
-use Rattle.lab_history_file.proofs.EntriesRead.{entry_read}
-use Rattle.lab_history_file.proofs.ItemsRead.{each_err}
-use Rattle.lab_history_file.proofs.ListWalks.{is_wrong, list_fault}
+use Rattle.lab_history_file.proofs.{JsonShapes.{array_of}, MemberKeys.{sized_some, sized_none, one_part, two_parts, member_begins}, KeyParts.{first_behind, second_behind, first_fits, last_fits, own_part, key_begins}, EntriesRead.{entry_read}, ItemsRead.{each_err}, ListWalks.{is_wrong, list_fault}}
 
 -- ---- members
 

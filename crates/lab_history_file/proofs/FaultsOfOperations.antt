@@ -1,26 +1,20 @@
 -- The faults of operations are true.
 use Rattle.std.proofs.Common.{◌≡◌, ℕ, ◌+◌, ⊎_elim, Bool, true, false, List, Option, Some, None, is_some, option_and_then, option_map, Err, if◌then◌else◌, codes, refl, sym, ap, subst, ◌∙◌}
-use Rattle.serde_json.specs.Data.{Data}
-use Rattle.serde_json.specs.Find.{as_str, at, as_object}
+use Rattle.serde_json.specs.{Data.{Data}, Find.{as_str, at, as_object}}
 use Rattle.lab_table.specs.declared.statement.Statement.{Statement}
 use Rattle.lab_statement.specs.StatementText.{statement_in}
-use Rattle.lab_history.specs.Faults.{required}
+use Rattle.lab_history.{specs.{Faults.{required}, declared.{fault.FileFault.{FileFault}, path.Path.{Path}}}, proofs.Steps.{either_err, required_ok, required_err}}
 use Rattle.lab_history_file.specs.Entries.{txn_in_number, value_in, state_in, values_in, writes_in, view_in}
 use Rattle.lab_history_file.specs.FileOf.{SpellsIn}
 use Rattle.lab_history_file.specs.FaultOf.{IsTrueIn}
 use Rattle.lab_history_file.specs.ValueAt.{txn_at, operation_at}
 use Rattle.lab_history_file.specs.Keys.{op_keys}
 use Rattle.lab_history_file.specs.Format.{at_key, has_keys, keyed, only_in, spelled_in, op_in}
-use Rattle.lab_history.specs.declared.fault.FileFault.{FileFault}
 use Rattle.lab_history.specs.declared.fault.FileFault.TheVariants as fault
 use Rattle.lab_history_file.specs.declared.file_version.FileVersion.{FileVersion}
 use Rattle.lab_history.specs.declared.path.ListPlace.TheVariants as list
-use Rattle.lab_history.specs.declared.path.Path.{Path}
 use Rattle.lab_history.specs.declared.path.Path.TheVariants as path
-use Rattle.lab_history.proofs.Steps.{either_err, required_ok, required_err}
-use Rattle.lab_history_file.proofs.OperationsRead.{spells_are_read}
-use Rattle.lab_history_file.proofs.FaultsOfLists.{pairs_fault, view_fault}
-use Rattle.lab_history_file.proofs.ListWalks.{is_wrong}
+use Rattle.lab_history_file.proofs.{OperationsRead.{spells_are_read}, FaultsOfLists.{pairs_fault, view_fault}, ListWalks.{is_wrong}}
 
 -- what isn't found failed the test
 pub none_when : {A : Type 0} (b : Bool) (x : A) → (if b then Some x else None) ≡ None → b ≡ false

@@ -1,10 +1,8 @@
 -- The faults of transactions are true.
-use Rattle.std.proofs.Common.{◌≡◌, ℕ, ◌+◌, ◌≤◌, ◌<◌, ◌==◌, ◌⊎◌, inl, inr, ⊎_elim, Bool, true, false, ◌||◌, List, [], ◌∷◌, ◌++◌, length, Some, is_some, option_and_then, option_map, Ok, Err, codes, nat_lt, refl, sym, ap, subst, ◌∙◌, arith, ltb-true, eqb-true}
+use Rattle.std.proofs.{Common.{◌≡◌, ℕ, ◌+◌, ◌≤◌, ◌<◌, ◌==◌, ◌⊎◌, inl, inr, ⊎_elim, Bool, true, false, ◌||◌, List, [], ◌∷◌, ◌++◌, length, Some, is_some, option_and_then, option_map, Ok, Err, codes, nat_lt, refl, sym, ap, subst, ◌∙◌, arith, ltb-true, eqb-true}, lemmas.Bool.{or_cases, or_right}}
 use Rattle.std.specs.List.{list_any}
-use Rattle.std.proofs.lemmas.Bool.{or_cases, or_right}
-use Rattle.serde_json.specs.Data.{Data, array, Items, item}
-use Rattle.serde_json.specs.Find.{as_array, as_str, at, get_item}
-use Rattle.lab_history.specs.Faults.{required, refused_if}
+use Rattle.serde_json.specs.{Data.{Data, array, Items, item}, Find.{as_array, as_str, at, get_item}}
+use Rattle.lab_history.{specs.{Faults.{required, refused_if}, HistoryRules.{operations}, declared.{fault.FileFault.{FileFault}, transaction.Txn.{Txn}}}, proofs.{Steps.{either_err, required_ok, required_err, refused_err}, Standing.{operations_push}}}
 use Rattle.lab_history_file.specs.Entries.{txn_in_number, items_from}
 use Rattle.lab_history_file.specs.FaultOf.{IsNumber, listed_ops, all_ops, IsTrueIn}
 use Rattle.lab_history_file.specs.ValueAt.{txn_at}
@@ -12,21 +10,11 @@ use Rattle.lab_history_file.specs.FileOf.{IsTransaction, IsOperation}
 use Rattle.lab_history_file.specs.Member.{count}
 use Rattle.lab_history_file.specs.Keys.{txn_keys}
 use Rattle.lab_history_file.specs.Format.{at_key, keyed, op_behind, outcome_named, txn_in, txns_in}
-use Rattle.lab_history.specs.HistoryRules.{operations}
-use Rattle.lab_history.specs.declared.fault.FileFault.{FileFault}
 use Rattle.lab_history.specs.declared.fault.FileFault.TheVariants as fault
 use Rattle.lab_history.specs.declared.fault.Limit.TheVariants as limit
 use Rattle.lab_history_file.specs.declared.file_version.FileVersion.{FileVersion}
 use Rattle.lab_history.specs.declared.path.Path.TheVariants as path
-use Rattle.lab_history.specs.declared.transaction.Txn.{Txn}
-use Rattle.lab_history.proofs.Steps.{either_err, required_ok, required_err, refused_err}
-use Rattle.lab_history_file.proofs.JsonShapes.{array_of}
-use Rattle.lab_history_file.proofs.OperationsRead.{each_count}
-use Rattle.lab_history_file.proofs.TransactionsRead.{txn_read}
-use Rattle.lab_history.proofs.Standing.{operations_push}
-use Rattle.lab_history_file.proofs.ItemsRead.{tail_all, items_err, each_err}
-use Rattle.lab_history_file.proofs.ListWalks.{is_wrong}
-use Rattle.lab_history_file.proofs.FaultsOfOperations.{keyed_err, op_fault}
+use Rattle.lab_history_file.proofs.{JsonShapes.{array_of}, OperationsRead.{each_count}, TransactionsRead.{txn_read}, ItemsRead.{tail_all, items_err, each_err}, ListWalks.{is_wrong}, FaultsOfOperations.{keyed_err, op_fault}}
 
 -- the numbers of transactions that were read stand before a place
 abbrev Known : Data → List Txn → ℕ → Type 0

@@ -1,17 +1,10 @@
 -- The history of a file is read from it.
 use Rattle.std.proofs.Common.{◌≡◌, [], Ok, refl}
 use Rattle.serde_json.specs.Data.{Data}
-use Rattle.lab_history_file.specs.FileOf.{IsFileIn}
-use Rattle.lab_history_file.specs.Format.{parts_in, history_in}
-use Rattle.lab_history.specs.History.{History}
-use Rattle.lab_history.specs.HistoryRules.{Keeps}
-use Rattle.lab_history.specs.WithinLimits.{within_limits}
+use Rattle.lab_history_file.{specs.{FileOf.{IsFileIn}, Format.{parts_in, history_in}, declared.file_version.FileVersion.{FileVersion}}, proofs.{TransactionsStand.{stand}, PartsRead.{parts_are_read}}}
+use Rattle.lab_history.{specs.{History.{History}, HistoryRules.{Keeps}, WithinLimits.{within_limits}}, proofs.Steps.{step_on, limit_kept}}
 use Rattle.lab_history.specs.declared.fault.FileFault.TheVariants as fault
 use Rattle.lab_history.specs.declared.fault.Limit.TheVariants as limit
-use Rattle.lab_history_file.specs.declared.file_version.FileVersion.{FileVersion}
-use Rattle.lab_history.proofs.Steps.{step_on, limit_kept}
-use Rattle.lab_history_file.proofs.TransactionsStand.{stand}
-use Rattle.lab_history_file.proofs.PartsRead.{parts_are_read}
 
 -- what keeps the limits isn't refused
 pub kept_within : (h : History) → Keeps h → within_limits h ≡ Ok tt

@@ -1,20 +1,9 @@
 -- The keys of the format are those that are read, and so are the states.
-use Rattle.std.proofs.Common.{◌≡◌, Bool, true, List, [], ◌∷◌, ◌++◌, Option, Some, None, option_map, if◌then◌else◌, refl, sym, ap, subst, ◌∙◌}
-use Rattle.std.specs.Prelude.{ℕ, ℤ}
-use Rattle.serde_json.specs.Data.{Data, null, boolean, number, string, array, object, Items}
-use Rattle.serde_json.specs.Find.{as_str}
-use Rattle.serde_json.specs.View.{items_of}
-use Rattle.lab_table.specs.Row.{Row, in_test, numbered}
-use Rattle.lab_table.specs.TableName.{is_table_name}
-use Rattle.lab_table.proofs.Tests.{mapped_some}
-use Rattle.lab_history.proofs.Steps.{both_some, when_found}
-use Rattle.lab_history.specs.VersionName.{state_value}
-use Rattle.lab_history.specs.declared.operation.State.TheVariants.{Present}
-use Rattle.lab_history_file.specs.Member.{Key, plain, full, with_key, id_in, name_in, table_in, plain_row, full_row, row_in}
-use Rattle.lab_history_file.specs.Entries.{value_in, state_in, written_in}
-use Rattle.lab_history_file.specs.FileOf.{IsKey, BeginsWith, IsState}
-use Rattle.lab_history_file.specs.declared.file_version.FileVersion.{FileVersion}
-use Rattle.lab_history_file.specs.declared.file_version.FileVersion.TheVariants.{One, Two}
+use Rattle.std.{proofs.Common.{◌≡◌, Bool, true, List, [], ◌∷◌, ◌++◌, Option, Some, None, option_map, if◌then◌else◌, refl, sym, ap, subst, ◌∙◌}, specs.Prelude.{ℕ, ℤ}}
+use Rattle.serde_json.specs.{Data.{Data, null, boolean, number, string, array, object, Items}, Find.{as_str}, View.{items_of}}
+use Rattle.lab_table.{specs.{Row.{Row, in_test, numbered}, TableName.{is_table_name}}, proofs.Tests.{mapped_some}}
+use Rattle.lab_history.{proofs.Steps.{both_some, when_found}, specs.{VersionName.{state_value}, declared.operation.State.TheVariants.{Present}}}
+use Rattle.lab_history_file.specs.{Member.{Key, plain, full, with_key, id_in, name_in, table_in, plain_row, full_row, row_in}, Entries.{value_in, state_in, written_in}, FileOf.{IsKey, BeginsWith, IsState}, declared.file_version.FileVersion.{FileVersion, TheVariants.{One, Two}}}
 use Rattle.lab_history_file.proofs.JsonShapes.{string_of}
 
 -- the rows of an id, and of a name and an id

@@ -1,23 +1,17 @@
 -- The lists of a file are right: each member has its parts, and the rows rise.
-use Rattle.std.proofs.Common.{◌≡◌, ℕ, zero, suc, ◌+◌, true, T, List, [], ◌∷◌, Some, is_some, slice_get, is_lt, refl, sym, ap, subst, ◌∙◌, arith, eq-eqb}
+use Rattle.std.{proofs.Common.{◌≡◌, ℕ, zero, suc, ◌+◌, true, T, List, [], ◌∷◌, Some, is_some, slice_get, is_lt, refl, sym, ap, subst, ◌∙◌, arith, eq-eqb}, specs.FinMap.{FinMap}}
 use Rattle.std.specs.FinMap as finite
-use Rattle.std.specs.FinMap.{FinMap}
-use Rattle.serde_json.specs.Data.{Data, array, Items, no_items, item}
-use Rattle.serde_json.specs.Find.{as_array, at, get_item}
-use Rattle.lab_table.specs.Row.{Row, row_cmp}
+use Rattle.serde_json.specs.{Data.{Data, array, Items, no_items, item}, Find.{as_array, at, get_item}}
+use Rattle.lab_table.{specs.Row.{Row, row_cmp}, proofs.Tests.{both}}
 use Rattle.lab_history_file.specs.Member.{Key, with_key, key_parts, row_in, row_of, count, has_size}
 use Rattle.lab_history_file.specs.Entries.{txn_in_number, op_in_number}
 use Rattle.lab_history_file.specs.FaultOf.{FallsSomewhere}
 use Rattle.lab_history_file.specs.PlaceShape.{parts_behind, parts_of, has_items, second_fits, behind_fits, part_fits}
 use Rattle.lab_history_file.specs.FileOf.{AreEach, IsMapOf, IsPair, IsVersion, IsInstalled}
 use Rattle.lab_history_file.specs.declared.file_version.FileVersion.{FileVersion}
-use Rattle.lab_history.specs.declared.operation.VersionName.{VersionName}
-use Rattle.lab_history.specs.declared.path.ListPlace.{ListPlace}
+use Rattle.lab_history.specs.declared.{operation.VersionName.{VersionName}, path.ListPlace.{ListPlace}}
 use Rattle.lab_history.specs.declared.path.ListPlace.TheVariants as list
-use Rattle.lab_table.proofs.Tests.{both}
-use Rattle.lab_history_file.proofs.FileKeys.{begins_with}
-use Rattle.lab_history_file.proofs.KeyParts.{first_behind, key_begins, parts_fit}
-use Rattle.lab_history_file.proofs.MemberKeys.{key_count}
+use Rattle.lab_history_file.proofs.{FileKeys.{begins_with}, KeyParts.{first_behind, key_begins, parts_fit}, MemberKeys.{key_count}}
 
 -- what an item at a place stands for
 pub each_at : {X : Type 0} (Is : Data → X → Type 0) (ds : Items) (xs : List X) → AreEach Is ds xs → (k : ℕ) (m : Data) → get_item k ds ≡ Some m

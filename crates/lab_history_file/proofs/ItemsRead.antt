@@ -1,16 +1,8 @@
 -- The items of a list, each read with those before it.
-use Rattle.std.proofs.Common.{◌≡◌, ℕ, ◌<◌, ◌+◌, ⊎_elim, List, [], ◌∷◌, ◌++◌, length, drop, get_or, Some, refl, suc, arith, Result, Ok, Err, sym, ap, subst, ◌∙◌, append_assoc, append-nil}
-use Rattle.std.proofs.Math.Seq.{drop-length}
-use Rattle.std.proofs.lemmas.List.{at_drop_more}
-use Rattle.serde_json.specs.Data.{Data, Items, no_items, item}
-use Rattle.serde_json.specs.Find.{get_item}
-use Rattle.serde_json.specs.declared.value.Value.{Value}
-use Rattle.serde_json.specs.View.{view, items_view}
-use Rattle.lab_history.specs.Faults.{◌>>=◌}
-use Rattle.lab_history.specs.declared.fault.FileFault.{FileFault}
-use Rattle.lab_history.proofs.Steps.{both_ok, either_err, step_on}
-use Rattle.lab_history_file.specs.Entries.{items_from}
-use Rattle.lab_history_file.specs.FileOf.{AreEach}
+use Rattle.std.proofs.{Common.{◌≡◌, ℕ, ◌<◌, ◌+◌, ⊎_elim, List, [], ◌∷◌, ◌++◌, length, drop, get_or, Some, refl, suc, arith, Result, Ok, Err, sym, ap, subst, ◌∙◌, append_assoc, append-nil}, Math.Seq.{drop-length}, lemmas.List.{at_drop_more}}
+use Rattle.serde_json.specs.{Data.{Data, Items, no_items, item}, Find.{get_item}, declared.value.Value.{Value}, View.{view, items_view}}
+use Rattle.lab_history.{specs.{Faults.{◌>>=◌}, declared.fault.FileFault.{FileFault}}, proofs.Steps.{both_ok, either_err, step_on}}
+use Rattle.lab_history_file.specs.{Entries.{items_from}, FileOf.{AreEach}}
 
 -- the items from a place on
 abbrev pub Tail : Items → ℕ → Items → Type 0

@@ -1,13 +1,8 @@
 -- JSON values of a kind, and objects with given keys.
-use Rattle.std.proofs.Common.{◌≡◌, ℕ, true, List, [], ◌∷◌, Option, Some, None, Ok, refl, ap, ◌∙◌, bytes_eq}
-use Rattle.std.specs.Prelude.{⊤}
-use Rattle.std.proofs.lemmas.Bool.{and_parts}
-use Rattle.std.proofs.lemmas.Slice.Eq.{bytes_eq-Decides}
-use Rattle.serde_json.specs.Data.{Data, null, boolean, number, string, array, object, Items, Members, no_members, member}
-use Rattle.serde_json.specs.Find.{as_array, as_str, as_object}
+use Rattle.std.{proofs.{Common.{◌≡◌, ℕ, true, List, [], ◌∷◌, Option, Some, None, Ok, refl, ap, ◌∙◌, bytes_eq}, lemmas.{Bool.{and_parts}, Slice.Eq.{bytes_eq-Decides}}}, specs.Prelude.{⊤}}
+use Rattle.serde_json.specs.{Data.{Data, null, boolean, number, string, array, object, Items, Members, no_members, member}, Find.{as_array, as_str, as_object}}
 use Rattle.lab_history_file.specs.Format.{are_keys, has_keys, keyed}
-use Rattle.lab_history.specs.declared.path.Path.{Path}
-use Rattle.lab_history.proofs.Steps.{required_ok, when_found}
+use Rattle.lab_history.{specs.declared.path.Path.{Path}, proofs.Steps.{required_ok, when_found}}
 
 pub array_of : (d : Data) (ds : Items) → as_array d ≡ Some ds → d ≡ array ds
 array_of null ds e = absurd cc

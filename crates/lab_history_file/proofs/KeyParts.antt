@@ -1,13 +1,8 @@
 -- Where the parts of a member stand.
 use Rattle.std.proofs.Common.{◌≡◌, ℕ, zero, suc, ◌+◌, ◌==◌, true, Option, Some, None, is_some, refl, subst}
-use Rattle.serde_json.specs.Data.{Data, array, Items, item}
-use Rattle.serde_json.specs.Find.{at, get_item}
+use Rattle.serde_json.specs.{Data.{Data, array, Items, item}, Find.{at, get_item}}
 use Rattle.lab_table.specs.Row.{Row}
-use Rattle.lab_history_file.specs.Entries.{op_in_number}
-use Rattle.lab_history_file.specs.Member.{Key, plain, full, with_key, key_parts, id_in, table_in, plain_row, full_row, row_in, row_of}
-use Rattle.lab_history_file.specs.PlaceShape.{second_fits, behind_fits, part_fits}
-use Rattle.lab_history_file.specs.declared.file_version.FileVersion.{FileVersion}
-use Rattle.lab_history_file.specs.declared.file_version.FileVersion.TheVariants.{One, Two}
+use Rattle.lab_history_file.specs.{Entries.{op_in_number}, Member.{Key, plain, full, with_key, key_parts, id_in, table_in, plain_row, full_row, row_in, row_of}, PlaceShape.{second_fits, behind_fits, part_fits}, declared.file_version.FileVersion.{FileVersion, TheVariants.{One, Two}}}
 use Rattle.lab_history.specs.declared.path.ListPlace.{ListPlace}
 
 -- ---- behind a key

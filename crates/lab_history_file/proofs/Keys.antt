@@ -1,10 +1,6 @@
 -- The keys of objects.
-use Rattle.std.proofs.Common.{◌≡◌, ◌<◌, ℕ, zero, suc, List, [], ◌∷◌, ◌&&◌, length, map, drop, Bool, true, false, refl, arith, String, Global}
-use Rattle.std.specs.Prelude.{string_bytes}
-use Rattle.std.specs.Map.{keys_of}
-use Rattle.std.specs.Str.{bytes_eq}
-use Rattle.serde_json.specs.declared.value.Value.{Value}
-use Rattle.serde_json.specs.View.{members_view}
+use Rattle.std.{proofs.Common.{◌≡◌, ◌<◌, ℕ, zero, suc, List, [], ◌∷◌, ◌&&◌, length, map, drop, Bool, true, false, refl, arith, String, Global}, specs.{Prelude.{string_bytes}, Map.{keys_of}, Str.{bytes_eq}}}
+use Rattle.serde_json.specs.{declared.value.Value.{Value}, View.{members_view}}
 use Rattle.lab_history_file.specs.Format.{are_keys}
 
 -- whether keys are these names, in order

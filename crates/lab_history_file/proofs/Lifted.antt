@@ -1,21 +1,14 @@
 -- A file of version 1, as one of version 2, is a file of the same history.
 use Rattle.std.proofs.Common.{◌≡◌, ℕ, List, [], ◌∷◌, ◌++◌, Some, Ok, refl, sym, ap, subst, ◌∙◌}
-use Rattle.serde_json.specs.Data.{Data, null, boolean, number, unsigned, string, array, object, Items, no_items, item}
-use Rattle.lab_table.specs.Row.{Row}
-use Rattle.lab_table.specs.TableName.{is_table_name}
-use Rattle.serde_json.specs.View.{items_of}
+use Rattle.serde_json.specs.{Data.{Data, null, boolean, number, unsigned, string, array, object, Items, no_items, item}, View.{items_of}}
+use Rattle.lab_table.specs.{Row.{Row}, TableName.{is_table_name}}
 use Rattle.lab_history_file.specs.Entries.{txn_in_number}
 use Rattle.lab_history_file.specs.FileOf.{outcome_text, AreEach, IsListOf, BeginsWith, IsPair, IsValue, IsState, IsVersion, IsInstalled, IsOperation, IsTransaction, HoldsIn, IsFileIn, IsFileOf}
 use Rattle.lab_history_file.specs.Format.{version_said, history_in}
 use Rattle.lab_history_file.specs.Lift.{each_item, in_list, lift_member, lift_list, lift_op, lift_txn, lift}
-use Rattle.lab_history.specs.History.{History}
+use Rattle.lab_history.specs.{History.{History}, declared.{operation.{Op.{Op}, VersionName.{VersionName}}, transaction.Txn.{Txn}}}
 use Rattle.lab_history_file.specs.declared.file_version.FileVersion.TheVariants.{One, Two}
-use Rattle.lab_history.specs.declared.operation.Op.{Op}
-use Rattle.lab_history.specs.declared.operation.VersionName.{VersionName}
-use Rattle.lab_history.specs.declared.transaction.Txn.{Txn}
-use Rattle.lab_history_file.proofs.FileIsRead.{file_is_read}
-use Rattle.lab_history_file.proofs.ReadIsFile.{read_is_file}
-use Rattle.lab_history_file.proofs.Faultless.{says}
+use Rattle.lab_history_file.proofs.{FileIsRead.{file_is_read}, ReadIsFile.{read_is_file}, Faultless.{says}}
 use Rattle.lab_history_file.specs.Keys.{txn_keys, object_with}
 
 -- ---- lists

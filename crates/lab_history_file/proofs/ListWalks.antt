@@ -1,25 +1,12 @@
 -- The walk along a list whose members begin with a row.
 use Rattle.std.proofs.Common.{◌≡◌, ℕ, ◌+◌, ⊎_elim, Bool, true, false, List, [], ◌∷◌, ◌++◌, Option, Some, None, is_some, Result, Ok, Err, if◌then◌else◌, is_lt, refl, sym, ap, subst, ◌∙◌}
-use Rattle.serde_json.specs.Data.{Data, array, Items}
-use Rattle.serde_json.specs.Find.{as_array, at, get_item}
+use Rattle.serde_json.specs.{Data.{Data, array, Items}, Find.{as_array, at, get_item}}
 use Rattle.lab_table.specs.Row.{Row, row_cmp}
-use Rattle.lab_history.specs.Faults.{required}
-use Rattle.lab_history.specs.RowOrder.{follows}
-use Rattle.lab_history_file.specs.Entries.{last_row, placed_in, entries_in}
-use Rattle.lab_history_file.specs.Member.{row_of}
-use Rattle.lab_history_file.specs.FaultOf.{FallsSomewhere, IsTrueIn}
-use Rattle.lab_history_file.specs.PlaceShape.{fits}
-use Rattle.lab_history_file.specs.ValueAt.{list_at, value_at}
-use Rattle.lab_history.specs.declared.fault.FileFault.{FileFault}
+use Rattle.lab_history.{specs.{Faults.{required}, RowOrder.{follows}, declared.{fault.FileFault.{FileFault}, path.{ListPlace.{ListPlace}, Path.{Path}}}}, proofs.Steps.{either_err, required_ok, required_err}}
+use Rattle.lab_history_file.specs.{Entries.{last_row, placed_in, entries_in}, Member.{row_of}, FaultOf.{FallsSomewhere, IsTrueIn}, PlaceShape.{fits}, ValueAt.{list_at, value_at}, declared.file_version.FileVersion.{FileVersion}}
 use Rattle.lab_history.specs.declared.fault.FileFault.TheVariants as fault
-use Rattle.lab_history_file.specs.declared.file_version.FileVersion.{FileVersion}
-use Rattle.lab_history.specs.declared.path.ListPlace.{ListPlace}
-use Rattle.lab_history.specs.declared.path.Path.{Path}
 use Rattle.lab_history.specs.declared.path.Path.TheVariants as path
-use Rattle.lab_history.proofs.Steps.{either_err, required_ok, required_err}
-use Rattle.lab_history_file.proofs.ItemsRead.{tail_all, items_err}
-use Rattle.lab_history_file.proofs.ListsRead.{last_pushed, placed_ok}
-use Rattle.lab_history_file.proofs.JsonShapes.{array_of}
+use Rattle.lab_history_file.proofs.{ItemsRead.{tail_all, items_err}, ListsRead.{last_pushed, placed_ok}, JsonShapes.{array_of}}
 
 -- a value that may not stand at its path
 pub is_wrong : (version : FileVersion) (d : Data) (f : FileFault) (p : Path) (v : Data) → f ≡ fault.WrongFormat p → value_at version d p ≡ Some v → fits version p v ≡ false → IsTrueIn version d f

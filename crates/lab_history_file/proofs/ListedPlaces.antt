@@ -1,19 +1,8 @@
 -- What a file's lists have at their places.
-use Rattle.std.proofs.Common.{◌≡◌, ℕ, zero, suc, ◌+◌, ◌<◌, ◌==◌, Bool, true, false, List, [], ◌∷◌, length, Option, Some, None, is_some, slice_get, refl, sym, ap, ◌∙◌, arith, eq-eqb, length-append}
-use Rattle.std.specs.Prelude.{if◌then◌else◌}
-use Rattle.std.specs.List.{list_any}
-use Rattle.std.proofs.lemmas.Bool.{or_parts}
+use Rattle.std.{proofs.{Common.{◌≡◌, ℕ, zero, suc, ◌+◌, ◌<◌, ◌==◌, Bool, true, false, List, [], ◌∷◌, length, Option, Some, None, is_some, slice_get, refl, sym, ap, ◌∙◌, arith, eq-eqb, length-append}, lemmas.Bool.{or_parts}}, specs.{Prelude.{if◌then◌else◌}, List.{list_any}}}
 use Rattle.serde_json.specs.Data.{Data, Items, no_items, item}
-use Rattle.lab_history_file.specs.FaultOf.{all_ops}
-use Rattle.lab_history_file.specs.FileOf.{AreEach, IsTransaction, outcome_text}
-use Rattle.lab_history_file.specs.Format.{outcome_named}
-use Rattle.lab_history.specs.HistoryRules.{AllDistinct, operations}
-use Rattle.lab_history_file.specs.declared.file_version.FileVersion.{FileVersion}
-use Rattle.lab_history.specs.declared.transaction.Txn.{Txn}
-use Rattle.lab_history.specs.declared.transaction.Outcome.{Outcome}
-use Rattle.lab_history.specs.declared.transaction.Outcome.TheVariants.{Committed, Aborted}
-use Rattle.lab_history.proofs.Standing.{numbers}
-use Rattle.lab_history_file.proofs.FaultsOfTransactions.{read_count}
+use Rattle.lab_history_file.{specs.{FaultOf.{all_ops}, FileOf.{AreEach, IsTransaction, outcome_text}, Format.{outcome_named}, declared.file_version.FileVersion.{FileVersion}}, proofs.FaultsOfTransactions.{read_count}}
+use Rattle.lab_history.{specs.{HistoryRules.{AllDistinct, operations}, declared.transaction.{Txn.{Txn}, Outcome.{Outcome, TheVariants.{Committed, Aborted}}}}, proofs.Standing.{numbers}}
 
 pub outcome_fits : (outcome : Outcome) → is_some (outcome_named (outcome_text outcome)) ≡ true
 outcome_fits Committed = refl

@@ -1,26 +1,11 @@
 -- A list whose members begin with a row is read as what its items stand for, and as nothing else.
-use Rattle.std.proofs.Common.{◌≡◌, ℕ, ◌≤◌, Bool, true, false, T, List, [], ◌∷◌, ◌++◌, length, Some, Result, Ok, Err, refl, sym, ap, subst, ◌∙◌}
-use Rattle.std.specs.Prelude.{if◌then◌else◌}
+use Rattle.std.{proofs.{Common.{◌≡◌, ℕ, ◌≤◌, Bool, true, false, T, List, [], ◌∷◌, ◌++◌, length, Some, Result, Ok, Err, refl, sym, ap, subst, ◌∙◌}, lemmas.List.{drop_all}}, specs.{Prelude.{if◌then◌else◌}, FinMap.{FinMap}}}
 use Rattle.std.specs.FinMap as finite
-use Rattle.std.specs.FinMap.{FinMap}
-use Rattle.std.proofs.lemmas.List.{drop_all}
-use Rattle.serde_json.specs.Data.{Data}
-use Rattle.serde_json.specs.Find.{as_array}
-use Rattle.serde_json.specs.View.{items_view}
-use Rattle.serde_json.specs.declared.value.Value.{Value}
-use Rattle.lab_table.specs.Row.{Row, row_cmp}
-use Rattle.lab_table.proofs.Tests.{both, joined}
-use Rattle.lab_history.specs.Faults.{required}
-use Rattle.lab_history.specs.RowOrder.{follows}
-use Rattle.lab_history_file.specs.Entries.{items_from, last_row, placed_in, entries_in}
-use Rattle.lab_history_file.specs.FileOf.{IsListOf, IsMapOf}
-use Rattle.lab_history.specs.declared.fault.FileFault.{FileFault}
-use Rattle.lab_history.specs.declared.path.ListPlace.{ListPlace}
+use Rattle.serde_json.specs.{Data.{Data}, Find.{as_array}, View.{items_view}, declared.value.Value.{Value}}
+use Rattle.lab_table.{specs.Row.{Row, row_cmp}, proofs.Tests.{both, joined}}
+use Rattle.lab_history.{specs.{Faults.{required}, RowOrder.{follows}, declared.{fault.FileFault.{FileFault}, path.ListPlace.{ListPlace}}}, proofs.{Steps.{both_ok, step_on, required_ok, required_is}, Rising.{rises_after, rises_all}}}
+use Rattle.lab_history_file.{specs.{Entries.{items_from, last_row, placed_in, entries_in}, FileOf.{IsListOf, IsMapOf}}, proofs.{ItemsRead.{AllStand, read_on, items_read, items_are_read}, JsonShapes.{array_of}}}
 use Rattle.lab_history.specs.declared.path.Path.TheVariants as path
-use Rattle.lab_history.proofs.Steps.{both_ok, step_on, required_ok, required_is}
-use Rattle.lab_history.proofs.Rising.{rises_after, rises_all}
-use Rattle.lab_history_file.proofs.ItemsRead.{AllStand, read_on, items_read, items_are_read}
-use Rattle.lab_history_file.proofs.JsonShapes.{array_of}
 
 -- a map of entries in order is the map again
 pub map_again : {X : Type 0} (m : FinMap row_cmp X) → finite.from_sorted (finite.entries m) ≡ m

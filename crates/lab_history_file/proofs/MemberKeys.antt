@@ -1,15 +1,10 @@
 -- What a member is read as: its key, and what stands behind that.
 use Rattle.std.proofs.Common.{◌≡◌, ℕ, ◌+◌, Bool, true, false, Option, Some, None, option_map, Ok, if◌then◌else◌, refl, ap, sym, ◌∙◌, arith, eqb-true, eq-eqb}
 use Rattle.serde_json.specs.Data.{Data, Items, no_items, item}
-use Rattle.lab_table.specs.Row.{Row, in_test, numbered}
-use Rattle.lab_history.specs.Faults.{required}
-use Rattle.lab_history_file.specs.Member.{Key, plain, full, with_key, key_parts, id_in, table_in, plain_row, full_row, row_in, plain_in, full_in, count, has_size, sized, split_key, member_in}
-use Rattle.lab_history_file.specs.declared.file_version.FileVersion.{FileVersion}
-use Rattle.lab_history_file.specs.declared.file_version.FileVersion.TheVariants.{One, Two}
-use Rattle.lab_history.specs.declared.path.ListPlace.{ListPlace}
+use Rattle.lab_table.{specs.Row.{Row, in_test, numbered}, proofs.Tests.{mapped_some}}
+use Rattle.lab_history.{specs.{Faults.{required}, declared.path.ListPlace.{ListPlace}}, proofs.Steps.{both_ok, both_some, step_on, required_ok, required_is, when_found}}
+use Rattle.lab_history_file.specs.{Member.{Key, plain, full, with_key, key_parts, id_in, table_in, plain_row, full_row, row_in, plain_in, full_in, count, has_size, sized, split_key, member_in}, declared.file_version.FileVersion.{FileVersion, TheVariants.{One, Two}}}
 use Rattle.lab_history.specs.declared.path.Path.TheVariants as path
-use Rattle.lab_history.proofs.Steps.{both_ok, both_some, step_on, required_ok, required_is, when_found}
-use Rattle.lab_table.proofs.Tests.{mapped_some}
 
 -- ---- sizes
 

@@ -1,16 +1,11 @@
 -- Members of lists that are lists themselves.
 use Rattle.std.proofs.Common.{◌≡◌, ◌≢◌, ◌<◌, ℕ, List, [], ◌∷◌, length, Some, None, Bool, if◌then◌else◌, Err, refl, ap, ◌∙◌, arith, ne_eqb}
-use Rattle.serde_json.specs.declared.value.Value.{Value}
-use Rattle.serde_json.specs.View.{items_view}
-use Rattle.lab_history_file.specs.Member.{sized, split_key}
-use Rattle.lab_history_file.specs.Entries.{items_from, installer_in, installers_of}
+use Rattle.serde_json.specs.{declared.value.Value.{Value}, View.{items_view}}
+use Rattle.lab_history_file.{specs.{Member.{sized, split_key}, Entries.{items_from, installer_in, installers_of}, declared.file_version.FileVersion.TheVariants.{One, Two}}, proofs.{Counts.{items_count}, MemberKeys.{sized_is}}}
 use Rattle.lab_history.specs.declared.fault.FileFault.TheVariants as fault
-use Rattle.lab_history_file.specs.declared.file_version.FileVersion.TheVariants.{One, Two}
 use Rattle.lab_history.specs.declared.path.Path.TheVariants as path
 use Rattle.lab_history.specs.declared.path.ListPlace.{ListPlace}
 use Rattle.lab_history.specs.declared.path.ListPlace.TheVariants as list
-use Rattle.lab_history_file.proofs.Counts.{items_count}
-use Rattle.lab_history_file.proofs.MemberKeys.{sized_is}
 
 -- a list of so many parts, and of another number
 pub parts_sized : (n : ℕ) (vs : List Value) → length vs ≡ n → sized n (Some (items_view vs)) ≡ Some (items_view vs)

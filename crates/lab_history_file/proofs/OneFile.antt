@@ -1,15 +1,8 @@
 -- Bytes are a file of one history at most, or have one fault.
-use Rattle.std.proofs.Common.{◌≡◌, ℕ, List, Ok, Err, sym, ap, ◌∙◌, arith}
-use Rattle.std.specs.Result.{is_ok, result_ok, result_err}
-use Rattle.std.proofs.lemmas.Bool.{false≢true}
-use Rattle.std.proofs.lemmas.Option.{same_Some, none-some}
+use Rattle.std.{proofs.{Common.{◌≡◌, ℕ, List, Ok, Err, sym, ap, ◌∙◌, arith}, lemmas.{Bool.{false≢true}, Option.{same_Some, none-some}}}, specs.Result.{is_ok, result_ok, result_err}}
 use Rattle.serde_json.specs.Data.{Data}
-use Rattle.lab_history_file.specs.FileRead.{IsTextOf}
-use Rattle.lab_history_file.specs.Format.{history_in}
-use Rattle.lab_history.specs.History.{History}
-use Rattle.lab_history.specs.declared.fault.FileFault.{FileFault}
-use Rattle.lab_history_file.proofs.FileIsRead.{file_is_read}
-use Rattle.lab_history_file.specs.HistoryFile.{HoldsHistory, IsFormatFault, IsFileFault}
+use Rattle.lab_history_file.{specs.{FileRead.{IsTextOf}, Format.{history_in}, HistoryFile.{HoldsHistory, IsFormatFault, IsFileFault}}, proofs.FileIsRead.{file_is_read}}
+use Rattle.lab_history.specs.{History.{History}, declared.fault.FileFault.{FileFault}}
 
 -- bytes are the text of one value at most
 one_value : (bytes : List ℕ) (c d : Data) → IsTextOf bytes c → IsTextOf bytes d → history_in c ≡ history_in d

@@ -1,11 +1,10 @@
 -- Operations are read as what they stand for, and as nothing else.
 use Rattle.std.proofs.Common.{◌≡◌, ℕ, ◌+◌, arith, List, [], ◌∷◌, length, Option, Some, None, option_and_then, Ok, if◌then◌else◌, refl, sym, ap, subst, ◌∙◌}
 use Rattle.std.specs.FinMap as finite
-use Rattle.serde_json.specs.Data.{Data, Items, no_items, item}
-use Rattle.serde_json.specs.Find.{as_str}
+use Rattle.serde_json.specs.{Data.{Data, Items, no_items, item}, Find.{as_str}}
 use Rattle.lab_table.specs.declared.statement.Statement.{Statement}
-use Rattle.lab_statement.specs.StatementText.{statement_in}
-use Rattle.lab_history.specs.Faults.{required}
+use Rattle.lab_statement.{specs.StatementText.{statement_in}, proofs.StatementRead.{spells_in, in_spells}}
+use Rattle.lab_history.{specs.{Faults.{required}, VersionName.{new_states}, declared.operation.Op.{Op}}, proofs.Steps.{both_ok, both_some, step_on, required_ok, when_found}}
 use Rattle.lab_history_file.specs.Entries.{items_from, values_in, writes_in, view_in}
 use Rattle.lab_history_file.specs.FileVersion.{may_have}
 use Rattle.lab_history_file.specs.FileOf.{AreEach, SpellsIn, IsOperation}
@@ -13,16 +12,9 @@ use Rattle.lab_history_file.specs.Member.{count}
 use Rattle.lab_history_file.specs.Keys.{op_keys, object_with}
 use Rattle.lab_history_file.specs.Format.{keyed, only_in, spelled_in, op_in, op_behind}
 use Rattle.lab_history_file.specs.declared.file_version.FileVersion.{FileVersion}
-use Rattle.lab_history.specs.VersionName.{new_states}
-use Rattle.lab_history.specs.declared.operation.Op.{Op}
 use Rattle.lab_history.specs.declared.path.ListPlace.TheVariants as list
 use Rattle.lab_history.specs.declared.path.Path.TheVariants as path
-use Rattle.lab_statement.proofs.StatementRead.{spells_in, in_spells}
-use Rattle.lab_history.proofs.Steps.{both_ok, both_some, step_on, required_ok, when_found}
-use Rattle.lab_history_file.proofs.JsonShapes.{string_of, keyed_shape}
-use Rattle.lab_history_file.proofs.ItemsRead.{each_read, each_is_read}
-use Rattle.lab_history_file.proofs.ListsRead.{map_again}
-use Rattle.lab_history_file.proofs.EntriesRead.{values_read, values_are_read, writes_read, writes_are_read, view_read, view_is_read}
+use Rattle.lab_history_file.proofs.{JsonShapes.{string_of, keyed_shape}, ItemsRead.{each_read, each_is_read}, ListsRead.{map_again}, EntriesRead.{values_read, values_are_read, writes_read, writes_are_read, view_read, view_is_read}}
 
 -- a text that spells a statement which a file of the version may have, is read so, and one that is read so does
 pub spells_read : (version : FileVersion) (text : List ℕ) (s : Statement) → option_and_then (only_in version) (statement_in text) ≡ Some s → SpellsIn version text s

@@ -1,28 +1,13 @@
 -- The parts of a history are read as what the table of the format says, and as nothing else.
-use Rattle.std.proofs.Common.{◌≡◌, ℕ, ◌≤◌, ◌==◌, Bool, true, false, [], ◌∷◌, length, Option, Some, None, Ok, Err, codes, option_and_then, if◌then◌else◌, bytes_eq, refl, sym, ap, subst, ◌∙◌, eqb-true}
-use Rattle.std.specs.Prelude.{⊤}
+use Rattle.std.{proofs.{Common.{◌≡◌, ℕ, ◌≤◌, ◌==◌, Bool, true, false, [], ◌∷◌, length, Option, Some, None, Ok, Err, codes, option_and_then, if◌then◌else◌, bytes_eq, refl, sym, ap, subst, ◌∙◌, eqb-true}, lemmas.Slice.Eq.{bytes_eq-Decides}}, specs.Prelude.{⊤}}
 use Rattle.std.specs.FinMap as finite
-use Rattle.std.proofs.lemmas.Slice.Eq.{bytes_eq-Decides}
-use Rattle.serde_json.specs.Data.{Data, string}
-use Rattle.serde_json.specs.Find.{as_str}
-use Rattle.lab_history.specs.Faults.{◌>>=◌, required}
-use Rattle.lab_history_file.specs.Entries.{values_in, installed_in}
-use Rattle.lab_history_file.specs.FileVersion.{version_number}
-use Rattle.lab_history_file.specs.FileOf.{HoldsIn}
-use Rattle.lab_history_file.specs.Keys.{root_keys, object_with}
-use Rattle.lab_history_file.specs.Format.{format_in, numbered_version, version_in, keyed, txns_in, parts_in}
-use Rattle.lab_history.specs.History.{History}
+use Rattle.serde_json.specs.{Data.{Data, string}, Find.{as_str}}
+use Rattle.lab_history.{specs.{Faults.{◌>>=◌, required}, History.{History}}, proofs.Steps.{both_ok, both_some, step_on, required_ok, when_found}}
+use Rattle.lab_history_file.specs.{Entries.{values_in, installed_in}, FileVersion.{version_number}, FileOf.{HoldsIn}, Keys.{root_keys, object_with}, Format.{format_in, numbered_version, version_in, keyed, txns_in, parts_in}, declared.file_version.FileVersion.{FileVersion, TheVariants.{One, Two}}}
 use Rattle.lab_history.specs.declared.fault.FileFault.TheVariants as fault
-use Rattle.lab_history_file.specs.declared.file_version.FileVersion.{FileVersion}
-use Rattle.lab_history_file.specs.declared.file_version.FileVersion.TheVariants.{One, Two}
 use Rattle.lab_history.specs.declared.path.ListPlace.TheVariants as list
 use Rattle.lab_history.specs.declared.path.Path.TheVariants as path
-use Rattle.lab_history.proofs.Steps.{both_ok, both_some, step_on, required_ok, when_found}
-use Rattle.lab_history_file.proofs.JsonShapes.{string_of, keyed_shape}
-use Rattle.lab_history_file.proofs.ListsRead.{map_again}
-use Rattle.lab_history_file.proofs.EntriesRead.{values_read, values_are_read, installed_list_read, installed_list_is_read}
-use Rattle.lab_history_file.proofs.ItemsRead.{AllStand}
-use Rattle.lab_history_file.proofs.TransactionsRead.{Stands, list_read, list_is_read}
+use Rattle.lab_history_file.proofs.{JsonShapes.{string_of, keyed_shape}, ListsRead.{map_again}, EntriesRead.{values_read, values_are_read, installed_list_read, installed_list_is_read}, ItemsRead.{AllStand}, TransactionsRead.{Stands, list_read, list_is_read}}
 
 -- the parts of a history stand in a value of either version, where each transaction may stand behind those before it
 abbrev pub Holds : Data → History → Type 0

@@ -1,20 +1,10 @@
 -- Lists of written rows, with states as the code has them and with plain ones.
-use Rattle.std.proofs.Common.{◌≡◌, List, [], ◌∷◌, map, option_map, refl, ap, sym, subst, ◌∙◌}
-use Rattle.std.specs.Prelude.{ℤ, Option, Some, None, is_some, Result, Ok, Err, OnOk}
+use Rattle.std.{proofs.Common.{◌≡◌, List, [], ◌∷◌, map, option_map, refl, ap, sym, subst, ◌∙◌}, specs.{Prelude.{ℤ, Option, Some, None, is_some, Result, Ok, Err, OnOk}, FinMap.{FinMap}}}
 use Rattle.std.specs.FinMap as finite
-use Rattle.std.specs.FinMap.{FinMap}
-use Rattle.serde_json.specs.Data.{Items, array, no_items, item}
-use Rattle.serde_json.specs.View.{items_of}
-use Rattle.lab_table.specs.Row.{Row, row_cmp}
-use Rattle.lab_table.proofs.Tests.{mapped_some}
-use Rattle.lab_history_file.specs.Entries.{state_in}
-use Rattle.lab_history_file.specs.FileOf.{AreEach, IsListOf, IsMapOf, IsPair, IsState}
-use Rattle.lab_history_file.specs.Tree.{written_tree, state_tree, pair_tree, list_tree, map_tree}
-use Rattle.lab_history.specs.VersionName.{state_value, new_states}
-use Rattle.lab_history_file.specs.declared.file_version.FileVersion.{FileVersion}
-use Rattle.lab_history_file.specs.declared.file_version.FileVersion.TheVariants.{Two}
-use Rattle.lab_history.specs.declared.operation.State.{State}
-use Rattle.lab_history_file.proofs.FileKeys.{state_is, state_read}
+use Rattle.serde_json.specs.{Data.{Items, array, no_items, item}, View.{items_of}}
+use Rattle.lab_table.{specs.Row.{Row, row_cmp}, proofs.Tests.{mapped_some}}
+use Rattle.lab_history_file.{specs.{Entries.{state_in}, FileOf.{AreEach, IsListOf, IsMapOf, IsPair, IsState}, Tree.{written_tree, state_tree, pair_tree, list_tree, map_tree}, declared.file_version.FileVersion.{FileVersion, TheVariants.{Two}}}, proofs.FileKeys.{state_is, state_read}}
+use Rattle.lab_history.specs.{VersionName.{state_value, new_states}, declared.operation.State.{State}}
 
 -- the same values have states of both kinds
 pub written_there : (o : Option State) → is_some o ≡ is_some (option_map state_value o)

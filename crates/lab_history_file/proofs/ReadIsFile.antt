@@ -1,13 +1,8 @@
 -- A value from which a history is read is a file of it.
 use Rattle.std.proofs.Common.{◌≡◌, Ok, subst}
 use Rattle.serde_json.specs.Data.{Data}
-use Rattle.lab_history_file.specs.FileOf.{IsFileOf}
-use Rattle.lab_history_file.specs.Format.{parts_in, history_in}
-use Rattle.lab_history.specs.History.{History}
-use Rattle.lab_history.specs.WithinLimits.{within_limits}
-use Rattle.lab_history.proofs.Steps.{both_ok}
-use Rattle.lab_history_file.proofs.PartsRead.{parts_read}
-use Rattle.lab_history_file.proofs.ReadKeeps.{read_keeps}
+use Rattle.lab_history_file.{specs.{FileOf.{IsFileOf}, Format.{parts_in, history_in}}, proofs.{PartsRead.{parts_read}, ReadKeeps.{read_keeps}}}
+use Rattle.lab_history.{specs.{History.{History}, WithinLimits.{within_limits}}, proofs.Steps.{both_ok}}
 
 file_of_parts : (d : Data) (h : History) → parts_in d ≡ Ok h → within_limits h ≡ Ok tt → IsFileOf d h
 file_of_parts d h e within = let found = parts_read d h e in (found.0, record { holds = found.1; keeps = read_keeps d h e within })

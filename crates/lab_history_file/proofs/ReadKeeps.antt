@@ -1,30 +1,17 @@
 -- What is read of a history file keeps what every history keeps.
-use Rattle.std.proofs.Common.{◌≡◌, ◌≢◌, ℕ, true, List, [], ◌∷◌, map, Some, Ok, option_and_then, nat_le, nat_lt, ◌&&◌, refl, ap, subst, ◌∙◌, arith}
-use Rattle.std.specs.List.{list_all}
+use Rattle.std.{proofs.{Common.{◌≡◌, ◌≢◌, ℕ, true, List, [], ◌∷◌, map, Some, Ok, option_and_then, nat_le, nat_lt, ◌&&◌, refl, ap, subst, ◌∙◌, arith}, lemmas.Bool.{and_from}}, specs.List.{list_all}}
 use Rattle.std.specs.FinMap as finite
-use Rattle.std.proofs.lemmas.Bool.{and_from}
-use Rattle.serde_json.specs.Data.{Data, Items, no_items, item}
-use Rattle.serde_json.specs.Find.{as_number, as_u64}
+use Rattle.serde_json.specs.{Data.{Data, Items, no_items, item}, Find.{as_number, as_u64}}
 use Rattle.lab_table.specs.Row.{Row}
-use Rattle.lab_history_file.specs.Entries.{op_in_number}
+use Rattle.lab_history_file.{specs.{Entries.{op_in_number}, FileOf.{AreEach, IsVersion, IsInstalled, IsOperation, IsTransaction}, Format.{parts_in}, declared.file_version.FileVersion.{FileVersion}}, proofs.{TransactionsStand.{standing}, StatementsPrint.{spelled_prints}, PartsRead.{parts_read}}}
 use Rattle.lab_history.specs.Faults.{refused_if}
-use Rattle.lab_history_file.specs.FileOf.{AreEach, IsVersion, IsInstalled, IsOperation, IsTransaction}
-use Rattle.lab_history_file.specs.Format.{parts_in}
 use Rattle.lab_history.specs.History.{History}
 use Rattle.lab_history.specs.HistoryRules.{operations, named_tables, distinct_tables, named_rows, distinct_rows, is_listed, has_installer, OpKeeps, OpsKeep, Keeps}
 use Rattle.lab_history.specs.WithinLimits.{within_limits}
 use Rattle.lab_history.specs.declared.fault.FileFault.TheVariants as fault
 use Rattle.lab_history.specs.declared.fault.Limit.TheVariants as limit
-use Rattle.lab_history_file.specs.declared.file_version.FileVersion.{FileVersion}
-use Rattle.lab_history.specs.declared.operation.Op.{Op}
-use Rattle.lab_history.specs.declared.operation.VersionName.{VersionName}
-use Rattle.lab_history.specs.declared.operation.VersionName.TheVariants.{Of}
-use Rattle.lab_history.specs.declared.transaction.Txn.{Txn}
-use Rattle.lab_history.proofs.Steps.{both_ok, both_some, when_found, kept_limit}
-use Rattle.lab_history_file.proofs.TransactionsStand.{standing}
-use Rattle.lab_history_file.proofs.StatementsPrint.{spelled_prints}
-use Rattle.lab_history_file.proofs.PartsRead.{parts_read}
-use Rattle.lab_history.proofs.KeptOperations.{ops_joined}
+use Rattle.lab_history.specs.declared.{operation.{Op.{Op}, VersionName.{VersionName, TheVariants.{Of}}}, transaction.Txn.{Txn}}
+use Rattle.lab_history.proofs.{Steps.{both_ok, both_some, when_found, kept_limit}, KeptOperations.{ops_joined}}
 
 -- an operation's number is from 1 to 10,000
 op_number_listed : (d : Data) (txn op : ℕ) → op_in_number d ≡ Some op → is_listed (Of txn op) ≡ true

@@ -1,11 +1,6 @@
 -- The names of tables in a file.
-use Rattle.std.proofs.Common.{◌≡◌, ℕ, zero, suc, ◌<◌, Bool, true, false, List, [], ◌∷◌, Some, None, if◌then◌else◌, bytes_eq, refl, sym, ap, ap₂, subst, ◌∙◌, arith}
-use Rattle.std.specs.Prelude.{IsUtf8, IsAscii}
-use Rattle.std.specs.Char.{to_ascii_lowercase}
-use Rattle.std.specs.List.{list_all}
-use Rattle.std.proofs.lemmas.Bool.{and_parts}
-use Rattle.std.proofs.lemmas.Str.{IsUtf8-from_ascii}
-use Rattle.std.proofs.lemmas.Slice.Eq.{bytes_eq-Decides}
+use Rattle.std.proofs.{Common.{◌≡◌, ℕ, zero, suc, ◌<◌, Bool, true, false, List, [], ◌∷◌, Some, None, if◌then◌else◌, bytes_eq, refl, sym, ap, ap₂, subst, ◌∙◌, arith}, lemmas.{Bool.{and_parts}, Str.{IsUtf8-from_ascii}, Slice.Eq.{bytes_eq-Decides}}}
+use Rattle.std.specs.{Prelude.{IsUtf8, IsAscii}, Char.{to_ascii_lowercase}, List.{list_all}}
 use Rattle.lab_table.specs.TableName.{is_name_letter, is_table_name, in_lower_case}
 use Rattle.lab_history_file.specs.Member.{name_in}
 

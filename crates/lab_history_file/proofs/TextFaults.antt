@@ -1,14 +1,7 @@
 -- What reading bytes that aren't too many comes to: the history that they hold, or their first fault.
-use Rattle.std.proofs.Common.{◌≢◌, ⊎_elim, ℕ, ◌≤◌, List, length, Result, Ok, Err, IfErr}
-use Rattle.std.specs.Prelude.{IfOk}
-use Rattle.lab_history.specs.History.{History}
-use Rattle.lab_history.specs.Limits.{max_file_bytes}
-use Rattle.lab_history.specs.declared.fault.FileFault.{FileFault}
-use Rattle.lab_history.specs.declared.fault.FileFault.TheVariants.{NoMemory}
-use Rattle.lab_history_file.specs.FileRead.{ReadsAs}
-use Rattle.lab_history_file.specs.Format.{history_in}
-use Rattle.lab_history_file.proofs.ReadIsFile.{read_is_file}
-use Rattle.lab_history_file.specs.HistoryFile.{HoldsHistory, IsFileFault, no_text, no_history, of_format}
+use Rattle.std.{proofs.Common.{◌≢◌, ⊎_elim, ℕ, ◌≤◌, List, length, Result, Ok, Err, IfErr}, specs.Prelude.{IfOk}}
+use Rattle.lab_history.specs.{History.{History}, Limits.{max_file_bytes}, declared.fault.FileFault.{FileFault, TheVariants.{NoMemory}}}
+use Rattle.lab_history_file.{specs.{FileRead.{ReadsAs}, Format.{history_in}, HistoryFile.{HoldsHistory, IsFileFault, no_text, no_history, of_format}}, proofs.ReadIsFile.{read_is_file}}
 
 module _ (bytes : List ℕ) (short : length bytes ≤ max_file_bytes) where
   pub what_is_read_is_held : (result : Result History FileFault) → ReadsAs history_in bytes result → IfOk result (HoldsHistory bytes)

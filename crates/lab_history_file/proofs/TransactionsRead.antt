@@ -1,27 +1,12 @@
 -- Transactions are read as what they stand for, and as nothing else.
-use Rattle.std.proofs.Common.{◌≡◌, ℕ, ◌+◌, ◌≤◌, ◌==◌, Bool, true, false, List, [], ◌∷◌, length, Some, None, Ok, codes, refl, sym, ap, subst, ◌∙◌, arith, option_and_then, nat_lt, if◌then◌else◌, bytes_eq}
-use Rattle.std.specs.List.{list_any}
-use Rattle.std.proofs.lemmas.Slice.Eq.{bytes_eq-Decides}
-use Rattle.serde_json.specs.Data.{Data, string}
-use Rattle.serde_json.specs.Find.{as_str, as_array}
-use Rattle.lab_history.specs.Faults.{required, refused_if}
-use Rattle.lab_history_file.specs.Entries.{txn_in_number, items_from}
-use Rattle.lab_history_file.specs.FileOf.{IsListOf, IsOperation, IsTransaction, outcome_text}
-use Rattle.lab_history_file.specs.Member.{count}
-use Rattle.lab_history_file.specs.Keys.{txn_keys, object_with}
-use Rattle.lab_history_file.specs.Format.{keyed, op_behind, outcome_named, txn_in, txns_in}
-use Rattle.lab_history.specs.HistoryRules.{operations}
+use Rattle.std.{proofs.{Common.{◌≡◌, ℕ, ◌+◌, ◌≤◌, ◌==◌, Bool, true, false, List, [], ◌∷◌, length, Some, None, Ok, codes, refl, sym, ap, subst, ◌∙◌, arith, option_and_then, nat_lt, if◌then◌else◌, bytes_eq}, lemmas.Slice.Eq.{bytes_eq-Decides}}, specs.List.{list_any}}
+use Rattle.serde_json.specs.{Data.{Data, string}, Find.{as_str, as_array}}
+use Rattle.lab_history.{specs.{Faults.{required, refused_if}, HistoryRules.{operations}, declared.transaction.{Outcome.{Outcome, TheVariants.{Committed, Aborted}}, Txn.{Txn}}}, proofs.Steps.{both_ok, both_some, step_on, required_ok, required_is, refused_ok, refused_is, kept_limit, limit_kept}}
+use Rattle.lab_history_file.specs.{Entries.{txn_in_number, items_from}, FileOf.{IsListOf, IsOperation, IsTransaction, outcome_text}, Member.{count}, Keys.{txn_keys, object_with}, Format.{keyed, op_behind, outcome_named, txn_in, txns_in}, declared.file_version.FileVersion.{FileVersion}}
 use Rattle.lab_history.specs.declared.fault.FileFault.TheVariants as fault
 use Rattle.lab_history.specs.declared.fault.Limit.TheVariants as limit
-use Rattle.lab_history_file.specs.declared.file_version.FileVersion.{FileVersion}
 use Rattle.lab_history.specs.declared.path.Path.TheVariants as path
-use Rattle.lab_history.specs.declared.transaction.Outcome.{Outcome}
-use Rattle.lab_history.specs.declared.transaction.Outcome.TheVariants.{Committed, Aborted}
-use Rattle.lab_history.specs.declared.transaction.Txn.{Txn}
-use Rattle.lab_history.proofs.Steps.{both_ok, both_some, step_on, required_ok, required_is, refused_ok, refused_is, kept_limit, limit_kept}
-use Rattle.lab_history_file.proofs.ItemsRead.{AllStand, items_read, items_are_read}
-use Rattle.lab_history_file.proofs.JsonShapes.{array_of, string_of, keyed_shape}
-use Rattle.lab_history_file.proofs.OperationsRead.{ops_read, ops_are_read, each_count}
+use Rattle.lab_history_file.proofs.{ItemsRead.{AllStand, items_read, items_are_read}, JsonShapes.{array_of, string_of, keyed_shape}, OperationsRead.{ops_read, ops_are_read, each_count}}
 
 -- ---- outcomes
 

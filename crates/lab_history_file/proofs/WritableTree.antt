@@ -1,17 +1,10 @@
 -- The value of a history's file has no float, and nests no deeper than JSON is read.
-use Rattle.std.proofs.Common.{◌≡◌, ◌≤◌, ℕ, ℤ, pos, negsuc, suc, false, Option, Some, None, List, [], ◌∷◌, refl, arith}
+use Rattle.std.{proofs.Common.{◌≡◌, ◌≤◌, ℕ, ℤ, pos, negsuc, suc, false, Option, Some, None, List, [], ◌∷◌, refl, arith}, specs.FinMap.{FinMap}}
 use Rattle.std.specs.FinMap as finite
-use Rattle.std.specs.FinMap.{FinMap}
-use Rattle.serde_json.specs.Data.{Data, depth}
-use Rattle.serde_json.specs.Read.{max_depth}
-use Rattle.serde_json.specs.Written.{has_float}
+use Rattle.serde_json.specs.{Data.{Data, depth}, Read.{max_depth}, Written.{has_float}}
 use Rattle.lab_table.specs.Row.{Row, row_cmp}
-use Rattle.lab_history.specs.History.{History}
+use Rattle.lab_history.specs.{History.{History}, declared.{operation.{Op.{Op}, VersionName.{VersionName, TheVariants.{Initial, Of}}}, transaction.Txn.{Txn}}}
 use Rattle.lab_history_file.specs.Tree.{natural_tree, value_tree, written_tree, list_tree, pair_tree, map_tree, version_tree, op_tree, txn_tree, tree_of}
-use Rattle.lab_history.specs.declared.operation.Op.{Op}
-use Rattle.lab_history.specs.declared.operation.VersionName.{VersionName}
-use Rattle.lab_history.specs.declared.operation.VersionName.TheVariants.{Initial, Of}
-use Rattle.lab_history.specs.declared.transaction.Txn.{Txn}
 
 -- ---- no float
 

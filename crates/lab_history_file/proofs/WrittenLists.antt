@@ -1,24 +1,12 @@
 -- Lists that are written element by element.
 use Rattle.std.proofs.Common.{◌≡◌, ℕ, ◌+◌, ◌<◌, ◌≤◌, Bool, true, List, [], ◌∷◌, ◌++◌, length, map, take, get_or, Vec, refl, ap, ap₂, sym, subst, ◌∙◌}
 use Rattle.std.specs.FinMap as finite
-use Rattle.std.specs.FinMap.{FinMap}
-use Rattle.std.specs.List.{All, list_all}
-use Rattle.std.proofs.lemmas.List.{map-append, take_more, take_all}
-use Rattle.std.proofs.lemmas.List.Folds.{list_all-map}
-use Rattle.std.proofs.lemmas.List.Sums.{AllPass-from_list_all}
-use Rattle.std.proofs.lemmas.List.Elements.{All-nil, All-cons, All-head, All-tail, All-more}
-use Rattle.std.specs.declared.alloc.Global.{Global}
-use Rattle.serde_json.specs.Data.{Data, array}
-use Rattle.serde_json.specs.View.{view, items_of}
-use Rattle.serde_json.specs.declared.value.Value.{Value, Array}
-use Rattle.serde_json.proofs.Views.{view-Array}
+use Rattle.std.specs.{FinMap.{FinMap}, List.{All, list_all}, declared.alloc.Global.{Global}}
+use Rattle.std.proofs.lemmas.List.{map-append, take_more, take_all, Folds.{list_all-map}, Sums.{AllPass-from_list_all}, Elements.{All-nil, All-cons, All-head, All-tail, All-more}}
+use Rattle.serde_json.{specs.{Data.{Data, array}, View.{view, items_of}, declared.value.Value.{Value, Array}}, proofs.Views.{view-Array}}
 use Rattle.lab_table.specs.Row.{Row, row_cmp}
-use Rattle.lab_history.specs.HistoryRules.{operations, OpKeeps, OpsKeep}
-use Rattle.lab_history.specs.declared.operation.Op.{Op}
-use Rattle.lab_history.specs.declared.transaction.Txn.{Txn}
-use Rattle.lab_history.proofs.KeptOperations.{ops_parted}
-use Rattle.lab_history_file.specs.FileOf.{AreEach, IsListOf}
-use Rattle.lab_history_file.specs.Tree.{list_tree}
+use Rattle.lab_history.{specs.{HistoryRules.{operations, OpKeeps, OpsKeep}, declared.{operation.Op.{Op}, transaction.Txn.{Txn}}}, proofs.KeptOperations.{ops_parted}}
+use Rattle.lab_history_file.specs.{FileOf.{AreEach, IsListOf}, Tree.{list_tree}}
 
 -- values that are the trees of elements, where each element's tree is what the format says of it
 pub record Written {X : Type 0} (tree : X → Data) (Is : Data → X → Type 0) (values : List Value) (xs : List X) : Type 0 where

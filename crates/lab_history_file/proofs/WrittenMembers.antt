@@ -1,16 +1,9 @@
 -- Members of lists as they are written: a key, and what stands behind it.
 use Rattle.std.proofs.Common.{◌≡◌, ◌≢◌, ℕ, true, List, [], ◌∷◌, Some, None, if◌then◌else◌, refl, ap, sym, ◌∙◌}
 use Rattle.lab_table.specs.Row.{Row}
-use Rattle.lab_history_file.specs.Entries.{txn_in_number}
+use Rattle.lab_history_file.{specs.{Entries.{txn_in_number}, FileOf.{IsListOf, IsPair, IsVersion, IsInstalled}, Member.{row_in, key_tree}, Tree.{natural_tree, list_tree, pair_tree, version_tree}, declared.file_version.FileVersion.TheVariants.{Two}}, proofs.FileKeys.{with_begins}}
 use Rattle.serde_json.specs.Data.{Data}
-use Rattle.lab_history_file.specs.FileOf.{IsListOf, IsPair, IsVersion, IsInstalled}
-use Rattle.lab_history.specs.HistoryRules.{is_listed, has_installer}
-use Rattle.lab_history_file.specs.Member.{row_in, key_tree}
-use Rattle.lab_history_file.specs.Tree.{natural_tree, list_tree, pair_tree, version_tree}
-use Rattle.lab_history_file.specs.declared.file_version.FileVersion.TheVariants.{Two}
-use Rattle.lab_history.specs.declared.operation.VersionName.{VersionName}
-use Rattle.lab_history.specs.declared.operation.VersionName.TheVariants.{Of}
-use Rattle.lab_history_file.proofs.FileKeys.{with_begins}
+use Rattle.lab_history.specs.{HistoryRules.{is_listed, has_installer}, declared.operation.VersionName.{VersionName, TheVariants.{Of}}}
 
 -- a value
 pub pair_stands : {X : Type 0} (Is : Data → X → Type 0) (tree : X → Data) (entry : Row × X) → row_in Two (key_tree entry.0) ≡ Some entry.0 → Is (tree entry.1) entry.1 → IsPair Two Is (pair_tree tree entry) entry

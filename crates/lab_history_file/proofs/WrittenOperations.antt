@@ -1,13 +1,10 @@
 -- An operation as it is written.
-use Rattle.std.proofs.Common.{◌≡◌, List, refl, subst}
-use Rattle.std.specs.Prelude.{ℤ}
+use Rattle.std.{proofs.Common.{◌≡◌, List, refl, subst}, specs.Prelude.{ℤ}}
 use Rattle.std.specs.FinMap as finite
 use Rattle.lab_table.specs.Row.{Row}
 use Rattle.lab_statement.specs.Printed.{printed_statement}
-use Rattle.lab_history_file.specs.FileOf.{IsListOf, IsMapOf, IsPair, IsValue, IsState, IsVersion, SpellsIn, IsOperation}
-use Rattle.lab_history_file.specs.Tree.{value_tree, written_tree, pair_tree, list_tree, map_tree, view_tree, op_tree}
+use Rattle.lab_history_file.specs.{FileOf.{IsListOf, IsMapOf, IsPair, IsValue, IsState, IsVersion, SpellsIn, IsOperation}, Tree.{value_tree, written_tree, pair_tree, list_tree, map_tree, view_tree, op_tree}, declared.file_version.FileVersion.TheVariants.{Two}}
 use Rattle.lab_history.specs.declared.operation.Op.{Op}
-use Rattle.lab_history_file.specs.declared.file_version.FileVersion.TheVariants.{Two}
 
 -- its rows, its statement's printed text, its view and its writes stand for it
 pub operation_stands : (op : Op) (rows : List (Row × ℤ)) → rows ≡ finite.entries op.rows → IsListOf (IsPair Two IsValue) (list_tree (pair_tree value_tree) rows) rows → SpellsIn Two (printed_statement op.statement) op.statement

@@ -1,24 +1,18 @@
 -- Two judgements of one history have the same verdicts.
 use Rattle.std.proofs.Common.{◌≡◌, ap}
 use Rattle.lab_history.specs.History.{History}
-use Rattle.lab_deps.proofs.FaultOrders.{one_first}
-use Rattle.lab_deps.specs.KindSets.{is_any}
-use Rattle.lab_order.proofs.BackCircles.{one_circle}
-use Rattle.lab_order.proofs.Least.{neither_after}
+use Rattle.lab_deps.{proofs.FaultOrders.{one_first}, specs.KindSets.{is_any}}
+use Rattle.lab_order.proofs.{BackCircles.{one_circle}, Least.{neither_after}}
 use Rattle.lab_judge.specs.Judgement.{IsSerialVerdict, IsSnapshotVerdict, RestsOnOrder, RestsOnPlaces, IsExactJudgement}
 use Rattle.lab_judge.specs.BackPoints.{HasBackCircle}
 use Rattle.lab_judge.specs.LeastPlaces.{IsLower, IsLeastPlacing}
 use Rattle.lab_judge.specs.LeastWalks.{HasDueWalk}
 use Rattle.lab_judge.specs.Places.{IsArrow}
 use Rattle.lab_judge.specs.Verdicts.{IsLeastOrder}
-use Rattle.lab_judge.specs.declared.places.Places.{Places}
+use Rattle.lab_judge.specs.declared.{places.Places.{Places}, report.Report.{Report}, serial.Serial.{Serial}}
 use Rattle.lab_judge.specs.declared.places.Places.TheVariants as places
-use Rattle.lab_judge.specs.declared.report.Report.{Report}
-use Rattle.lab_judge.specs.declared.serial.Serial.{Serial}
 use Rattle.lab_judge.specs.declared.serial.Serial.TheVariants as serial
-use Rattle.lab_judge.proofs.Excludes.{no_closed_walk, no_circle}
-use Rattle.lab_judge.proofs.OnePlacing.{not_both, lower_cases, one_least_placing}
-use Rattle.lab_judge.proofs.OneWalk.{one_back_walk}
+use Rattle.lab_judge.proofs.{Excludes.{no_closed_walk, no_circle}, OnePlacing.{not_both, lower_cases, one_least_placing}, OneWalk.{one_back_walk}}
 
 module _ (h : History) where
   orders : (s t : Serial) → IsSerialVerdict h s → IsSerialVerdict h t → RestsOnOrder h s → RestsOnOrder h t → IsLeastOrder h s → IsLeastOrder h t → HasDueWalk h s → HasDueWalk h t → s ≡ t

@@ -1,21 +1,8 @@
 -- The arrows of dependencies of some kinds are among those of all.
-use Rattle.std.proofs.Common.{◌≡◌, ℕ, ◌<◌, ◌==◌, ◌&&◌, Bool, true, List, length, sym, ◌∙◌, subst}
-use Rattle.std.specs.Prelude.{Contains}
-use Rattle.std.specs.List.{list_any, All}
-use Rattle.std.proofs.lemmas.Bool.{and_parts, and_from, eqb-true}
-use Rattle.std.proofs.lemmas.List.Elements.{All-contains}
-use Rattle.lab_order.specs.Arrows.{Arrows, nodes_of, before, has_arrow}
-use Rattle.lab_order.specs.Order.{position}
-use Rattle.lab_deps.specs.KindSets.{among}
-use Rattle.lab_deps.specs.declared.edge.Edge.{Edge}
-use Rattle.lab_deps.specs.declared.edge.Kind.{Kind}
-use Rattle.lab_deps.specs.declared.kinds.TheConstants.Kinds.{ALL}
-use Rattle.lab_judge.specs.Graphs.{ties, IsGraphOf}
-use Rattle.lab_judge.specs.Joining.{tail, head, landing, any_below}
-use Rattle.lab_judge.specs.declared.joining.Joining.{Joining}
-use Rattle.lab_deps.proofs.NamedKinds.{all_has}
-use Rattle.lab_judge.proofs.Joined.{some_passes, passes_some}
-use Rattle.lab_judge.proofs.Landings.{same_truth, some_below, below_some}
+use Rattle.std.{proofs.{Common.{◌≡◌, ℕ, ◌<◌, ◌==◌, ◌&&◌, Bool, true, List, length, sym, ◌∙◌, subst}, lemmas.{Bool.{and_parts, and_from, eqb-true}, List.Elements.{All-contains}}}, specs.{Prelude.{Contains}, List.{list_any, All}}}
+use Rattle.lab_order.specs.{Arrows.{Arrows, nodes_of, before, has_arrow}, Order.{position}}
+use Rattle.lab_deps.{specs.{KindSets.{among}, declared.{edge.{Edge.{Edge}, Kind.{Kind}}, kinds.TheConstants.Kinds.{ALL}}}, proofs.NamedKinds.{all_has}}
+use Rattle.lab_judge.{specs.{Graphs.{ties, IsGraphOf}, Joining.{tail, head, landing, any_below}, declared.joining.Joining.{Joining}}, proofs.{Joined.{some_passes, passes_some}, Landings.{same_truth, some_below, below_some}}}
 
 module _ (test : Kind → Bool) (joining : Joining) (nodes : List ℕ) (es : List Edge) (graph : Arrows) (is : IsGraphOf (among ALL) nodes es graph) (a b q : ℕ) where
   abbrev at : ℕ → Bool

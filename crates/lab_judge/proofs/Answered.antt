@@ -1,6 +1,5 @@
 -- What holds of each answer, where there is one.
-use Rattle.std.proofs.Common.{◌≡◌, List, [], ◌∷◌, map, Ok, Result, IfOk, subst}
-use Rattle.std.specs.List.{AllZip}
+use Rattle.std.{proofs.Common.{◌≡◌, List, [], ◌∷◌, map, Ok, Result, IfOk, subst}, specs.List.{AllZip}}
 
 -- the same of results that are all answers
 on_answers : {X A : Type 0} (E : Type 0) (P : X → A → Type 0) (xs : List X) (ys : List A) → AllZip (λ (x : X) (r : Result A E). IfOk r (P x)) xs (map Ok ys) → AllZip P xs ys

@@ -1,20 +1,8 @@
 -- Transactions on which nothing depends add no arrows.
-use Rattle.std.proofs.Common.{◌≡◌, ℕ, zero, suc, ◌+◌, ◌-◌, ◌<◌, ◌≤◌, ◌==◌, ◌&&◌, ◌||◌, Bool, false, Some, List, length, sym, ap, ◌∙◌, arith}
-use Rattle.std.specs.Prelude.{slice_get, slice_index, get_or}
-use Rattle.std.specs.List.{list_any, All}
-use Rattle.std.specs.List.Sorted.{IsStrictlyIncreasing}
-use Rattle.std.proofs.lemmas.Bool.{false≢true}
-use Rattle.std.proofs.lemmas.List.{get_or_default}
-use Rattle.std.proofs.lemmas.Option.{slice_get-get_or}
-use Rattle.lab_deps.specs.KindSets.{among}
-use Rattle.lab_deps.specs.KindsBetween.{AreKindsTo}
-use Rattle.lab_deps.specs.declared.edge.Edge.{Edge}
-use Rattle.lab_deps.specs.declared.edge.Kind.{Kind}
-use Rattle.lab_deps.specs.declared.kinds.Kinds.{Kinds}
-use Rattle.lab_judge.specs.Graphs.{HasEnds, ties}
-use Rattle.lab_judge.specs.Joining.{tail, head, landing, any_below}
-use Rattle.lab_judge.specs.declared.joining.Joining.{Joining}
-use Rattle.lab_judge.proofs.Ties.{row_tied}
+use Rattle.std.proofs.{Common.{◌≡◌, ℕ, zero, suc, ◌+◌, ◌-◌, ◌<◌, ◌≤◌, ◌==◌, ◌&&◌, ◌||◌, Bool, false, Some, List, length, sym, ap, ◌∙◌, arith}, lemmas.{Bool.{false≢true}, List.{get_or_default}, Option.{slice_get-get_or}}}
+use Rattle.std.specs.{Prelude.{slice_get, slice_index, get_or}, List.{list_any, All, Sorted.{IsStrictlyIncreasing}}}
+use Rattle.lab_deps.specs.{KindSets.{among}, KindsBetween.{AreKindsTo}, declared.{edge.{Edge.{Edge}, Kind.{Kind}}, kinds.Kinds.{Kinds}}}
+use Rattle.lab_judge.{specs.{Graphs.{HasEnds, ties}, Joining.{tail, head, landing, any_below}, declared.joining.Joining.{Joining}}, proofs.Ties.{row_tied}}
 
 -- where none from a number on passes, so many more change nothing
 none_more : (test : ℕ → Bool) (first n : ℕ) → ((q : ℕ) → first ≤ q → q < first + n → test q ≡ false) → any_below test (first + n) ≡ any_below test first

@@ -1,15 +1,8 @@
 -- The numbers of the committed transactions, each once.
-use Rattle.std.proofs.Common.{◌≡◌, ℕ, ◌+◌, ◌≤◌, ◌==◌, Bool, true, false, cond, Some, List, [], ◌∷◌, map, refl, sym, ap, ◌∙◌, subst, arith, inl, inr}
-use Rattle.std.specs.Prelude.{Contains, filter, option_map}
-use Rattle.std.specs.List.Sorted.{IsStrictlyIncreasing}
-use Rattle.std.proofs.lemmas.Bool.{eqb-true, cases_lt, false≢true}
-use Rattle.lab_history.specs.History.{History}
-use Rattle.lab_history.specs.Version.{outcome_of, find_txn}
-use Rattle.lab_history.specs.declared.transaction.Txn.{Txn}
-use Rattle.lab_deps.specs.Soundness.{has_committed}
-use Rattle.lab_deps.proofs.Places.{times, times_count, times_here}
-use Rattle.lab_judge.specs.Runs.{HoldsEachOnce}
-use Rattle.lab_judge.proofs.Numbers.{contained, contains_it, at_most_once}
+use Rattle.std.{proofs.{Common.{◌≡◌, ℕ, ◌+◌, ◌≤◌, ◌==◌, Bool, true, false, cond, Some, List, [], ◌∷◌, map, refl, sym, ap, ◌∙◌, subst, arith, inl, inr}, lemmas.Bool.{eqb-true, cases_lt, false≢true}}, specs.{Prelude.{Contains, filter, option_map}, List.Sorted.{IsStrictlyIncreasing}}}
+use Rattle.lab_history.specs.{History.{History}, Version.{outcome_of, find_txn}, declared.transaction.Txn.{Txn}}
+use Rattle.lab_deps.{specs.Soundness.{has_committed}, proofs.Places.{times, times_count, times_here}}
+use Rattle.lab_judge.{specs.Runs.{HoldsEachOnce}, proofs.Numbers.{contained, contains_it, at_most_once}}
 
 -- the numbers of the transactions whose number passes a test
 abbrev numbers_that : (ℕ → Bool) → List Txn → List ℕ

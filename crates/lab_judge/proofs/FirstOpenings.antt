@@ -1,29 +1,10 @@
 -- The first edge that opens a walk that leads back.
-use Rattle.std.proofs.Common.{◌≡◌, ℕ, ◌<◌, Bool, true, false, Some, None, Option, Ok, Err, Result, IfOk, List, slice_index, inl, inr, sym, ap, ◌∙◌, subst, arith}
-use Rattle.std.specs.Prelude.{Contains, IfSome, slice_get}
-use Rattle.std.specs.Cmp.{nat_cmp_is}
-use Rattle.std.specs.List.{All, list_any}
-use Rattle.std.specs.List.Sorted.{IsStrictlyIncreasing}
-use Rattle.std.specs.Ordering.{is_lt, nat_cmp, ordering_then}
-use Rattle.std.specs.declared.cmp.Ordering.{Ordering}
-use Rattle.std.specs.declared.cmp.Ordering.TheVariants.{Equal, Greater}
-use Rattle.std.proofs.lemmas.Bool.{false≢true, cases_lt}
-use Rattle.std.proofs.lemmas.List.Elements.{All-contains}
-use Rattle.std.proofs.lemmas.Option.{same_Some}
+use Rattle.std.proofs.{Common.{◌≡◌, ℕ, ◌<◌, Bool, true, false, Some, None, Option, Ok, Err, Result, IfOk, List, slice_index, inl, inr, sym, ap, ◌∙◌, subst, arith}, lemmas.{Bool.{false≢true, cases_lt}, List.Elements.{All-contains}, Option.{same_Some}}}
+use Rattle.std.specs.{Prelude.{Contains, IfSome, slice_get}, Cmp.{nat_cmp_is}, List.{All, list_any, Sorted.{IsStrictlyIncreasing}}, Ordering.{is_lt, nat_cmp, ordering_then}, declared.cmp.Ordering.{Ordering, TheVariants.{Equal, Greater}}}
 use Rattle.lab_table.specs.Row.{row_cmp}
-use Rattle.lab_order.specs.Arrows.{Arrows}
-use Rattle.lab_order.specs.Order.{position}
-use Rattle.lab_order.specs.Path.{Reaches}
-use Rattle.lab_deps.specs.EdgeOrder.{kind_place, edge_cmp}
-use Rattle.lab_deps.specs.declared.edge.Edge.{Edge}
-use Rattle.lab_deps.specs.declared.edge.Kind.{Kind}
-use Rattle.lab_judge.specs.Graphs.{HasEnds, ties}
-use Rattle.lab_judge.specs.Openings.{IsOpening}
-use Rattle.lab_judge.proofs.GraphWalks.{read_back}
-use Rattle.lab_judge.proofs.Joined.{read}
-use Rattle.lab_judge.proofs.Numbers.{stands, position_within}
-use Rattle.lab_judge.proofs.Openings.{tied_by}
-use Rattle.lab_judge.proofs.SerialVerdicts.{rises}
+use Rattle.lab_order.specs.{Arrows.{Arrows}, Order.{position}, Path.{Reaches}}
+use Rattle.lab_deps.specs.{EdgeOrder.{kind_place, edge_cmp}, declared.edge.{Edge.{Edge}, Kind.{Kind}}}
+use Rattle.lab_judge.{specs.{Graphs.{HasEnds, ties}, Openings.{IsOpening}}, proofs.{GraphWalks.{read_back}, Joined.{read}, Numbers.{stands, position_within}, Openings.{tied_by}, SerialVerdicts.{rises}}}
 
 -- how edges compare by kind and row, and by these behind their ends
 abbrev by_kind : Edge → Edge → Ordering

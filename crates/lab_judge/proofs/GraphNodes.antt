@@ -1,18 +1,9 @@
 -- The nodes of a graph, and of its orders.
-use Rattle.std.proofs.Common.{◌≡◌, ℕ, ◌<◌, ◌≤◌, ◌==◌, true, false, cond, List, [], nat_lt, refl, ap, ◌∙◌, arith, inl, inr}
-use Rattle.std.specs.Prelude.{Contains}
-use Rattle.std.specs.List.{All, list_any}
-use Rattle.std.proofs.lemmas.Bool.{both_ways, cases_lt, ltb-true, lt-ltb}
-use Rattle.std.proofs.lemmas.Bool.Decides.{Decides-eqb}
-use Rattle.std.proofs.lemmas.List.{get_or_past}
-use Rattle.std.proofs.lemmas.List.Elements.{All-weaker}
-use Rattle.lab_order.specs.Arrows.{Arrows, nodes_of, has_arrow, IsArrow, IsGraph}
+use Rattle.std.{proofs.{Common.{◌≡◌, ℕ, ◌<◌, ◌≤◌, ◌==◌, true, false, cond, List, [], nat_lt, refl, ap, ◌∙◌, arith, inl, inr}, lemmas.{Bool.{both_ways, cases_lt, ltb-true, lt-ltb, Decides.{Decides-eqb}}, List.{get_or_past, Elements.{All-weaker}}}}, specs.{Prelude.{Contains}, List.{All, list_any}}}
+use Rattle.lab_order.specs.{Arrows.{Arrows, nodes_of, has_arrow, IsArrow, IsGraph}, Order.{position}}
 use Rattle.lab_order.specs.Order as order
-use Rattle.lab_order.specs.Order.{position}
 use Rattle.lab_deps.proofs.Places.{times, times_count}
-use Rattle.lab_judge.proofs.LabelledKnots.{ring_all}
-use Rattle.lab_judge.proofs.Labels.{AreThings, IsOrderOf, all_there}
-use Rattle.lab_judge.proofs.Numbers.{contains_it}
+use Rattle.lab_judge.proofs.{LabelledKnots.{ring_all}, Labels.{AreThings, IsOrderOf, all_there}, Numbers.{contains_it}}
 
 module _ (graph : Arrows) (g : IsGraph graph) where
   -- an arrow's ends are nodes

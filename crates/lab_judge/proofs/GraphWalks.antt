@@ -1,21 +1,9 @@
 -- Walks along edges, and paths of the graph of these edges.
-use Rattle.std.proofs.Common.{◌≡◌, ℕ, ◌≤◌, ◌==◌, Bool, true, false, List, [], ◌∷◌, map, refl, sym, ap, ◌∙◌, subst, arith, slice_index}
-use Rattle.std.specs.Prelude.{Contains, IsTrue, not}
-use Rattle.std.proofs.lemmas.Bool.{eq-eqb}
-use Rattle.lab_order.specs.Arrows.{Arrows, has_arrow}
-use Rattle.lab_order.specs.Order.{position, IsOrder}
-use Rattle.lab_order.specs.Order.{position as rank}
-use Rattle.lab_order.specs.Path.{Leads, IsPath}
+use Rattle.std.{proofs.{Common.{◌≡◌, ℕ, ◌≤◌, ◌==◌, Bool, true, false, List, [], ◌∷◌, map, refl, sym, ap, ◌∙◌, subst, arith, slice_index}, lemmas.Bool.{eq-eqb}}, specs.Prelude.{Contains, IsTrue, not}}
+use Rattle.lab_order.specs.{Arrows.{Arrows, has_arrow}, Order.{position, IsOrder, position as rank}, Path.{Leads, IsPath}}
 use Rattle.lab_history.specs.History.{History}
-use Rattle.lab_deps.specs.Edges.{IsEdge}
-use Rattle.lab_deps.specs.declared.edge.Edge.{Edge}
-use Rattle.lab_deps.specs.declared.edge.Kind.{Kind}
-use Rattle.lab_judge.specs.Graphs.{ties, IsGraphOf, LeadsAlong, last_of, count_others}
-use Rattle.lab_judge.specs.Openings.{HasEdgesOf, IsClosedOf, LeadsBack}
-use Rattle.lab_judge.specs.Phenomena.{IsWalk}
-use Rattle.lab_judge.proofs.ClosedWalks.{times_are, Through, none_forbidden}
-use Rattle.lab_judge.proofs.Joined.{passes_some, along_path, path_ends, read}
-use Rattle.lab_judge.proofs.Numbers.{stands}
+use Rattle.lab_deps.specs.{Edges.{IsEdge}, declared.edge.{Edge.{Edge}, Kind.{Kind}}}
+use Rattle.lab_judge.{specs.{Graphs.{ties, IsGraphOf, LeadsAlong, last_of, count_others}, Openings.{HasEdgesOf, IsClosedOf, LeadsBack}, Phenomena.{IsWalk}}, proofs.{ClosedWalks.{times_are, Through, none_forbidden}, Joined.{passes_some, along_path, path_ends, read}, Numbers.{stands}}}
 
 -- an arrow forward each time leads forward
 rises : (graph : Arrows) (order : List ℕ) → IsOrder graph order → (a : ℕ) (ns : List ℕ) (b : ℕ) → Leads graph a ns b → rank order a ≤ rank order b

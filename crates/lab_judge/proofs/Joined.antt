@@ -1,21 +1,12 @@
 -- Nodes that dependencies join, and walks along them.
 use Rattle.std.proofs.Common.{◌≡◌, ◌⊎◌, ℕ, zero, suc, ◌+◌, ◌-◌, ◌<◌, ◌≤◌, ◌==◌, Bool, true, false, ◌||◌, Some, List, [], ◌∷◌, ◌++◌, length, get_or, take, drop, slice_index, refl, sym, ap, ◌∙◌, subst, arith, inl, inr}
-use Rattle.std.specs.Prelude.{slice_get, Contains}
-use Rattle.std.specs.List.{list_any, All}
-use Rattle.std.proofs.lemmas.Bool.{eqb-true, both_ways, or_cases, and_parts}
-use Rattle.std.proofs.lemmas.List.Elements.{All-contains}
-use Rattle.std.proofs.lemmas.Option.{get_or_from_slice_get}
-use Rattle.std.proofs.lemmas.List.{take_all}
+use Rattle.std.specs.{Prelude.{slice_get, Contains}, List.{list_any, All}}
+use Rattle.std.proofs.lemmas.{Bool.{eqb-true, both_ways, or_cases, and_parts}, List.{take_all, Elements.{All-contains}}, Option.{get_or_from_slice_get}}
 use Rattle.std.proofs.Math.Seq.{drop-cons}
-use Rattle.lab_order.specs.Arrows.{Arrows}
-use Rattle.lab_order.specs.Order.{position, IsTrail, IsCircle}
-use Rattle.lab_order.specs.Path.{Leads}
+use Rattle.lab_order.specs.{Arrows.{Arrows}, Order.{position, IsTrail, IsCircle}, Path.{Leads}}
 use Rattle.lab_history.specs.History.{History}
-use Rattle.lab_deps.specs.declared.edge.Edge.{Edge}
-use Rattle.lab_deps.specs.declared.edge.Kind.{Kind}
-use Rattle.lab_judge.specs.Graphs.{HasEnds, ties, IsGraphOf, LeadsAlong, last_of}
-use Rattle.lab_judge.specs.Phenomena.{IsWalk, IsClosedWalk}
-use Rattle.lab_judge.proofs.Numbers.{stands}
+use Rattle.lab_deps.specs.declared.edge.{Edge.{Edge}, Kind.{Kind}}
+use Rattle.lab_judge.{specs.{Graphs.{HasEnds, ties, IsGraphOf, LeadsAlong, last_of}, Phenomena.{IsWalk, IsClosedWalk}}, proofs.Numbers.{stands}}
 
 -- what passes a test somewhere is an element that passes it
 pub some_passes : {X : Type 0} (test : X → Bool) (xs : List X) → list_any test xs ≡ true → (x : X) × Contains xs x × (test x ≡ true)

@@ -1,21 +1,9 @@
 -- Graphs to which the arrows of all dependencies of some kinds have been added.
-use Rattle.std.proofs.Common.{◌≡◌, ◌⊎◌, ℕ, ◌*◌, ◌==◌, ◌&&◌, ◌||◌, Bool, true, false, cond, List, length, refl, sym, ap, ◌∙◌, inl, inr}
-use Rattle.std.specs.Prelude.{Contains}
-use Rattle.std.specs.List.{list_any}
-use Rattle.std.proofs.Math.Bool.{or_comm}
-use Rattle.std.proofs.lemmas.Bool.{and_parts, and_from, or_cases, or_left, or_right, cases_Bool}
-use Rattle.lab_order.specs.Arrows.{Arrows, nodes_of, has_arrow}
-use Rattle.lab_order.specs.Order.{position}
-use Rattle.lab_deps.specs.declared.edge.Edge.{Edge}
-use Rattle.lab_deps.specs.declared.edge.Kind.{Kind}
-use Rattle.lab_deps.specs.declared.edge.Kind.TheVariants.{Write, ItemRead, PredicateRead, ItemAnti, PredicateAnti}
-use Rattle.lab_judge.specs.Graphs.{IsGraphOf}
-use Rattle.lab_judge.specs.Joining.{lands}
-use Rattle.lab_judge.specs.Places.{is_anti, is_flow}
-use Rattle.lab_judge.specs.PlaceGraphs.{start_node, commit_node, spans, leads, IsPlaceGraph}
-use Rattle.lab_judge.specs.declared.joining.Joining.TheVariants.{Transactions, StartToCommit, CommitToStart}
-use Rattle.lab_judge.proofs.Joined.{some_passes, passes_some}
-use Rattle.lab_judge.proofs.Landings.{same_truth}
+use Rattle.std.{proofs.{Common.{◌≡◌, ◌⊎◌, ℕ, ◌*◌, ◌==◌, ◌&&◌, ◌||◌, Bool, true, false, cond, List, length, refl, sym, ap, ◌∙◌, inl, inr}, Math.Bool.{or_comm}, lemmas.Bool.{and_parts, and_from, or_cases, or_left, or_right, cases_Bool}}, specs.{Prelude.{Contains}, List.{list_any}}}
+use Rattle.lab_order.specs.{Arrows.{Arrows, nodes_of, has_arrow}, Order.{position}}
+use Rattle.lab_deps.specs.declared.edge.{Edge.{Edge}, Kind.{Kind, TheVariants.{Write, ItemRead, PredicateRead, ItemAnti, PredicateAnti}}}
+use Rattle.lab_judge.specs.{Graphs.{IsGraphOf}, Joining.{lands}, Places.{is_anti, is_flow}, PlaceGraphs.{start_node, commit_node, spans, leads, IsPlaceGraph}, declared.joining.Joining.TheVariants.{Transactions, StartToCommit, CommitToStart}}
+use Rattle.lab_judge.proofs.{Joined.{some_passes, passes_some}, Landings.{same_truth}}
 
 -- where the arrows of allowed kinds are added to none, the graph is theirs
 pub is_graph : (allowed : Kind → Bool) (nodes : List ℕ) (es : List Edge) (old new : Arrows) → nodes_of new ≡ length nodes → ((a b : ℕ) → has_arrow old a b ≡ false)

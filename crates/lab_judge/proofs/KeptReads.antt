@@ -1,27 +1,11 @@
 -- Who keeps reads stable: rules by which a statement waits for who has read what it would write, and rules by which a commit is refused where one that committed since its
 -- begin changed what the transaction has read.
-use Rattle.std.proofs.Common.{◌≡◌, ℕ, ◌≤◌, sym, ap, subst, ◌∙◌, Bool, true, false, cond, List, [], ◌∷◌, ◌++◌, inl, inr, length, append_assoc, arith}
-use Rattle.std.specs.Prelude.{Some, IsTrue}
-use Rattle.std.proofs.lemmas.Bool.{or_parts, or_cases, false_from_ne_true}
-use Rattle.lab_table.specs.Row.{Row}
-use Rattle.lab_table.specs.Table.{Table, State}
-use Rattle.lab_table.specs.Statement.{matches}
-use Rattle.lab_table.specs.declared.statement.Statement.{Statement}
+use Rattle.std.{proofs.{Common.{◌≡◌, ℕ, ◌≤◌, sym, ap, subst, ◌∙◌, Bool, true, false, cond, List, [], ◌∷◌, ◌++◌, inl, inr, length, append_assoc, arith}, lemmas.Bool.{or_parts, or_cases, false_from_ne_true}}, specs.Prelude.{Some, IsTrue}}
+use Rattle.lab_table.specs.{Row.{Row}, Table.{Table, State}, Statement.{matches}, declared.statement.Statement.{Statement}}
 use Rattle.lab_history.specs.declared.operation.Op.{Op}
-use Rattle.lab_engine.specs.declared.event.Level.{Level}
-use Rattle.lab_engine.specs.RuleTable.{rules_of, keeps_reads}
-use Rattle.lab_engine.specs.Log.{Past, Txn, active, commits, sight, has_read}
-use Rattle.lab_engine.specs.Rules.{IsLegal, ReadsStand, NoneChangesRead, state_after}
-use Rattle.lab_engine.specs.Laws.{Untouched, AllDone, IsDone}
-use Rattle.lab_engine.specs.RecordingLaws.{as_of}
-use Rattle.lab_engine.proofs.RuleTables.{locks_see_now, where_holds}
-use Rattle.lab_engine.proofs.Begins.{begins_hold}
-use Rattle.lab_engine.proofs.Commits.{commits_hold}
-use Rattle.lab_engine.proofs.DoneTransactions.{done_at}
-use Rattle.lab_engine.proofs.RecordedViews.{sight_is}
-use Rattle.lab_judge.specs.Stable.{StaysTrue, ReadsStable}
-use Rattle.lab_judge.proofs.Suffixes.{suffix_of_suffix}
-use Rattle.lab_judge.proofs.CommitPlaces.{more_commits, commits-append}
+use Rattle.lab_engine.specs.{declared.event.Level.{Level}, RuleTable.{rules_of, keeps_reads}, Log.{Past, Txn, active, commits, sight, has_read}, Rules.{IsLegal, ReadsStand, NoneChangesRead, state_after}, Laws.{Untouched, AllDone, IsDone}, RecordingLaws.{as_of}}
+use Rattle.lab_engine.proofs.{RuleTables.{locks_see_now, where_holds}, Begins.{begins_hold}, Commits.{commits_hold}, DoneTransactions.{done_at}, RecordedViews.{sight_is}}
+use Rattle.lab_judge.{specs.Stable.{StaysTrue, ReadsStable}, proofs.{Suffixes.{suffix_of_suffix}, CommitPlaces.{more_commits, commits-append}}}
 
 -- ---- by locks
 pub locks_keep : (level : Level) (setup : Table) (past : Past) → (rules_of level).read_blocks ≡ true → ReadsStable level setup past

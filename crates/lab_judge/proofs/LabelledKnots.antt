@@ -1,11 +1,6 @@
 -- Of things and their labels: trails, what no order can place, and the cycle on the way back from it.
-use Rattle.std.proofs.Common.{◌≡◌, suc, ◌&&◌, Bool, true, List, [], ◌∷◌, get_or, map, ap, ◌∙◌, subst, arith}
-use Rattle.std.specs.Prelude.{IsTrue}
-use Rattle.std.specs.List.{All}
-use Rattle.std.proofs.lemmas.Bool.{and_parts, and_from}
-use Rattle.std.proofs.lemmas.List.Elements.{All-map, All-cons, All-nil}
-use Rattle.lab_order.specs.Knots.{AreKnotted, IsStuck, IsBack, ComesBack, IsMet, IsBackCircle}
-use Rattle.lab_order.specs.Trails.{IsTrailBy, IsRing}
+use Rattle.std.{proofs.{Common.{◌≡◌, suc, ◌&&◌, Bool, true, List, [], ◌∷◌, get_or, map, ap, ◌∙◌, subst, arith}, lemmas.{Bool.{and_parts, and_from}, List.Elements.{All-map, All-cons, All-nil}}}, specs.{Prelude.{IsTrue}, List.{All}}}
+use Rattle.lab_order.specs.{Knots.{AreKnotted, IsStuck, IsBack, ComesBack, IsMet, IsBackCircle}, Trails.{IsTrailBy, IsRing}}
 use Rattle.lab_judge.proofs.Labels.{AreLabels, turned}
 
 -- a trail of things is one of their labels

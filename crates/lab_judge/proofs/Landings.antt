@@ -1,18 +1,11 @@
 -- The arrows of dependencies, two transactions after the other, are those of all dependencies.
 use Rattle.std.proofs.Common.{◌≡◌, ℕ, zero, suc, ◌+◌, ◌<◌, ◌==◌, ◌&&◌, ◌||◌, Bool, true, false, List, length, refl, sym, ap, ◌∙◌, subst, arith, inl, inr}
-use Rattle.std.specs.Prelude.{Contains}
-use Rattle.std.specs.List.{list_any, All}
+use Rattle.std.specs.{Prelude.{Contains}, List.{list_any, All}}
 use Rattle.std.proofs.Math.Bool.{or_assoc}
-use Rattle.std.proofs.lemmas.Bool.{false≢true, and_parts, and_from, or_cases, or_left, or_right, eqb-true, eq-eqb, cases_lt}
-use Rattle.std.proofs.lemmas.List.Elements.{All-contains}
+use Rattle.std.proofs.lemmas.{Bool.{false≢true, and_parts, and_from, or_cases, or_left, or_right, eqb-true, eq-eqb, cases_lt}, List.Elements.{All-contains}}
 use Rattle.lab_order.specs.Order.{position}
-use Rattle.lab_deps.specs.declared.edge.Edge.{Edge}
-use Rattle.lab_deps.specs.declared.edge.Kind.{Kind}
-use Rattle.lab_judge.specs.Graphs.{HasEnds, ties}
-use Rattle.lab_judge.specs.Joining.{tail, head, lands, landing, any_below}
-use Rattle.lab_judge.specs.declared.joining.Joining.{Joining}
-use Rattle.lab_judge.proofs.Joined.{some_passes, passes_some}
-use Rattle.lab_judge.proofs.Numbers.{position_within}
+use Rattle.lab_deps.specs.declared.edge.{Edge.{Edge}, Kind.{Kind}}
+use Rattle.lab_judge.{specs.{Graphs.{HasEnds, ties}, Joining.{tail, head, lands, landing, any_below}, declared.joining.Joining.{Joining}}, proofs.{Joined.{some_passes, passes_some}, Numbers.{position_within}}}
 
 -- two tests that are true together are one
 pub same_truth : (x y : Bool) → (x ≡ true → y ≡ true) → (y ≡ true → x ≡ true) → x ≡ y

@@ -1,14 +1,7 @@
 -- Between two transactions there is one least edge.
-use Rattle.std.proofs.Common.{◌≡◌, ℕ, Bool, false, List, [], ◌∷◌, refl, sym, ap, ◌∙◌}
-use Rattle.std.specs.Ordering.{is_eq, is_lt, ordering_reverse}
-use Rattle.std.specs.declared.cmp.Ordering.{Ordering}
-use Rattle.std.specs.declared.cmp.Ordering.TheVariants.{Less, Equal, Greater}
-use Rattle.std.proofs.lemmas.Bool.{false≢true}
+use Rattle.std.{proofs.{Common.{◌≡◌, ℕ, Bool, false, List, [], ◌∷◌, refl, sym, ap, ◌∙◌}, lemmas.Bool.{false≢true}}, specs.{Ordering.{is_eq, is_lt, ordering_reverse}, declared.cmp.Ordering.{Ordering, TheVariants.{Less, Equal, Greater}}}}
 use Rattle.lab_history.specs.History.{History}
-use Rattle.lab_deps.proofs.EdgeOrders.{edges_total, same_edge}
-use Rattle.lab_deps.specs.EdgeOrder.{edge_cmp}
-use Rattle.lab_deps.specs.declared.edge.Edge.{Edge}
-use Rattle.lab_deps.specs.declared.edge.Kind.{Kind}
+use Rattle.lab_deps.{proofs.EdgeOrders.{edges_total, same_edge}, specs.{EdgeOrder.{edge_cmp}, declared.edge.{Edge.{Edge}, Kind.{Kind}}}}
 use Rattle.lab_judge.specs.LeastWalks.{IsLeastEdge, GoesAlong, GoesRound}
 
 -- edges of which neither is less are one

@@ -1,26 +1,13 @@
 -- Walks that take the least edge between each two neighbours.
 use Rattle.std.proofs.Common.{◌≡◌, ℕ, suc, ◌+◌, ◌-◌, ◌<◌, ◌≤◌, ◌==◌, ◌&&◌, Bool, true, false, List, [], ◌∷◌, ◌++◌, length, get_or, take, drop, slice_index, refl, sym, ap, ◌∙◌, subst, arith}
-use Rattle.std.specs.Prelude.{Contains, IsTrue, not}
-use Rattle.std.specs.Ordering.{is_lt}
-use Rattle.std.proofs.lemmas.Bool.{and_parts, and_from, eqb-true, eq-eqb}
-use Rattle.std.proofs.lemmas.List.{append_assoc, append-nil, take_all, drop_all}
+use Rattle.std.specs.{Prelude.{Contains, IsTrue, not}, Ordering.{is_lt}}
+use Rattle.std.proofs.lemmas.{Bool.{and_parts, and_from, eqb-true, eq-eqb}, List.{append_assoc, append-nil, take_all, drop_all}}
 use Rattle.std.proofs.Math.Seq.{drop-cons}
-use Rattle.lab_order.specs.Arrows.{Arrows, has_arrow}
-use Rattle.lab_order.specs.Order.{position, IsCircle}
-use Rattle.lab_order.specs.Path.{IsPath}
+use Rattle.lab_order.specs.{Arrows.{Arrows, has_arrow}, Order.{position, IsCircle}, Path.{IsPath}}
 use Rattle.lab_history.specs.History.{History}
-use Rattle.lab_deps.specs.Edges.{IsEdge}
-use Rattle.lab_deps.specs.EdgeOrder.{edge_cmp}
-use Rattle.lab_deps.specs.declared.edge.Edge.{Edge}
-use Rattle.lab_deps.specs.declared.edge.Kind.{Kind}
-use Rattle.lab_judge.specs.Graphs.{HasEnds, ties, IsGraphOf, last_of}
-use Rattle.lab_judge.specs.LeastWalks.{HasEdgeAt, IsEdgeGraph, IsLeastEdge, GoesAlong, GoesRound, GoesBy, IsWayBack, IsTurnToLeast}
-use Rattle.lab_judge.specs.Openings.{HasEdgesOf, IsClosedOf, IsOpenedWalk}
-use Rattle.lab_judge.specs.Phenomena.{IsWalk}
-use Rattle.lab_judge.proofs.ClosedWalks.{times_are, Through, through_none, closed, turn_closed, turn_counts}
-use Rattle.lab_judge.proofs.GraphWalks.{read_back}
-use Rattle.lab_judge.proofs.Joined.{some_passes, passes_some, path_ends, last_pushed, closes}
-use Rattle.lab_judge.proofs.OpenedWalks.{at_most_one, at_least_one}
+use Rattle.lab_deps.specs.{Edges.{IsEdge}, EdgeOrder.{edge_cmp}, declared.edge.{Edge.{Edge}, Kind.{Kind}}}
+use Rattle.lab_judge.specs.{Graphs.{HasEnds, ties, IsGraphOf, last_of}, LeastWalks.{HasEdgeAt, IsEdgeGraph, IsLeastEdge, GoesAlong, GoesRound, GoesBy, IsWayBack, IsTurnToLeast}, Openings.{HasEdgesOf, IsClosedOf, IsOpenedWalk}, Phenomena.{IsWalk}}
+use Rattle.lab_judge.proofs.{ClosedWalks.{times_are, Through, through_none, closed, turn_closed, turn_counts}, GraphWalks.{read_back}, Joined.{some_passes, passes_some, path_ends, last_pushed, closes}, OpenedWalks.{at_most_one, at_least_one}}
 
 module _ (h : History) (a : Kind → Bool) (es : List Edge) (has : HasEdgesOf h a es) where
   -- the least of listed edges is the least of the history's

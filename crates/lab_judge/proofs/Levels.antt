@@ -1,12 +1,8 @@
 -- Which level a history meets, by the phenomena that it has.
-use Rattle.std.proofs.Common.{◌≡◌, true}
-use Rattle.std.proofs.lemmas.Bool.{false≢true}
+use Rattle.std.proofs.{Common.{◌≡◌, true}, lemmas.Bool.{false≢true}}
 use Rattle.lab_table.specs.Row.{Row}
 use Rattle.lab_history.specs.History.{History}
-use Rattle.lab_deps.specs.Refusal.{is_uncommitted_read, OnlyUncommittedReads}
-use Rattle.lab_deps.specs.Soundness.{Stands, IsSound}
-use Rattle.lab_deps.specs.declared.fault.LocalFault.{LocalFault}
-use Rattle.lab_deps.specs.declared.fault.LocalFault.TheVariants.{Dangling, AbortedRead, IntermediateRead, OwnWriteMissed, LaterThanOwn, RowsDiffer, WritesDiffer, InstallOrder, EndDiffers}
+use Rattle.lab_deps.specs.{Refusal.{is_uncommitted_read, OnlyUncommittedReads}, Soundness.{Stands, IsSound}, declared.fault.LocalFault.{LocalFault, TheVariants.{Dangling, AbortedRead, IntermediateRead, OwnWriteMissed, LaterThanOwn, RowsDiffer, WritesDiffer, InstallOrder, EndDiffers}}}
 use Rattle.lab_judge.specs.Phenomena.{NoG1a, NoG1b, MeetsPl2}
 
 -- in a sound history nobody reads what was never committed

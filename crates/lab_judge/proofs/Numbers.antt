@@ -1,15 +1,8 @@
 -- Rising numbers: each comes once, at its own place, and they are one list.
 use Rattle.std.proofs.Common.{◌≡◌, ℕ, zero, suc, ◌+◌, ◌-◌, min, ◌<◌, ◌≤◌, ◌==◌, Bool, true, false, cond, Some, List, [], ◌∷◌, length, get_or, refl, sym, ap, ◌∙◌, subst, arith, inl, inr}
-use Rattle.std.specs.Prelude.{slice_get, Contains, Err}
-use Rattle.std.specs.List.Sorted.{IsStrictlyIncreasing, IsStrictlySortedBy, IsBinarySearchResult}
-use Rattle.std.specs.Ordering.{nat_cmp}
+use Rattle.std.specs.{Prelude.{slice_get, Contains, Err}, List.Sorted.{IsStrictlyIncreasing, IsStrictlySortedBy, IsBinarySearchResult}, Ordering.{nat_cmp}, declared.cmp.Ordering.TheVariants.{Equal}}
 use Rattle.lab_history.specs.Version.{place_in}
-use Rattle.std.proofs.lemmas.Bool.{eqb-true, cases_lt}
-use Rattle.std.proofs.lemmas.Map.Keys.{below_from_sorted, non_decreasing_from_sorted, sorted_from_strictly_increasing, sorted_tail}
-use Rattle.std.proofs.lemmas.Cmp.{ranked}
-use Rattle.std.proofs.lemmas.List.Sorted.{searched}
-use Rattle.std.specs.declared.cmp.Ordering.TheVariants.{Equal}
-use Rattle.std.proofs.lemmas.Option.{slice_get-get_or, slice_get_within, get_or_from_slice_get}
+use Rattle.std.proofs.lemmas.{Bool.{eqb-true, cases_lt}, Map.Keys.{below_from_sorted, non_decreasing_from_sorted, sorted_from_strictly_increasing, sorted_tail}, Cmp.{ranked}, List.Sorted.{searched}, Option.{slice_get-get_or, slice_get_within, get_or_from_slice_get}}
 use Rattle.lab_order.specs.Order.{position}
 use Rattle.lab_judge.proofs.Orders.{at_position}
 use Rattle.lab_deps.proofs.Places.{times, times_here, at_times, placed}

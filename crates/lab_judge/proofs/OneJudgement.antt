@@ -8,25 +8,15 @@ use Rattle.lab_deps.specs.FaultOrder.{IsFirstRead}
 use Rattle.lab_deps.specs.KindSets.{is_any, is_write, is_flow, is_anti, is_item_anti}
 use Rattle.lab_deps.specs.Refusal.{is_uncommitted_read}
 use Rattle.lab_deps.specs.Soundness.{Stands}
-use Rattle.lab_deps.specs.declared.edge.Edge.{Edge}
-use Rattle.lab_deps.specs.declared.fault.LocalFault.{LocalFault}
-use Rattle.lab_deps.specs.declared.fault.LocalFault.TheVariants.{AbortedRead, IntermediateRead}
-use Rattle.lab_deps.specs.declared.fault.FaultParts.{FaultParts}
+use Rattle.lab_deps.specs.declared.{edge.Edge.{Edge}, fault.{LocalFault.{LocalFault, TheVariants.{AbortedRead, IntermediateRead}}, FaultParts.{FaultParts}}}
 use Rattle.lab_deps.specs.declared.fault.FaultParts.TheVariants as parts
 use Rattle.lab_judge.specs.Judgement.{FindsWalk, FindsFault, JudgesAll, JudgesReads, JudgesNothing, JudgesAtRead, Judges, IsExactJudgement}
 use Rattle.lab_judge.specs.LeastWalks.{FindsDue, FindsDueWalks}
 use Rattle.lab_judge.specs.Findings as found
-use Rattle.lab_judge.specs.declared.report.Finding.{Finding}
-use Rattle.lab_judge.specs.declared.report.Finding.TheVariants.{Absent, Walk, At, NotJudged}
-use Rattle.lab_judge.specs.declared.report.Grade.{Grade}
-use Rattle.lab_judge.specs.declared.report.Report.{Report}
+use Rattle.lab_judge.specs.declared.{report.{Finding.{Finding, TheVariants.{Absent, Walk, At, NotJudged}}, Grade.{Grade}, Report.{Report}}, serial.Serial.{Serial}}
 use Rattle.lab_judge.specs.Phenomena.{IsG0, IsG1c, IsGSingle, IsG2Item, IsG2}
-use Rattle.lab_judge.specs.declared.serial.Serial.{Serial}
 use Rattle.lab_judge.specs.declared.serial.Serial.TheVariants as serial
-use Rattle.lab_judge.proofs.Agreeing.{serial_agrees, snapshot_agrees}
-use Rattle.lab_judge.proofs.Grades.{one_grade}
-use Rattle.lab_judge.proofs.OneWalk.{one_back_walk}
-use Rattle.lab_judge.proofs.OneOpenedRound.{one_opened_round}
+use Rattle.lab_judge.proofs.{Agreeing.{serial_agrees, snapshot_agrees}, Grades.{one_grade}, OneWalk.{one_back_walk}, OneOpenedRound.{one_opened_round}}
 
 -- where of each kind of walk there is one due, two exact findings are one
 one_found : (P D : List Edge → Type 0) → ((es fs : List Edge) → D es → D fs → es ≡ fs) → (x y : Finding) → FindsWalk P x → FindsWalk P y → FindsDue D x → FindsDue D y → x ≡ y

@@ -1,19 +1,9 @@
 -- Of the walks that begin with a first anti-dependency a history has one of each kind.
-use Rattle.std.proofs.Common.{◌≡◌, ℕ, ◌<◌, ◌≤◌, Bool, List, [], ◌∷◌, ◌++◌, drop, get_or, refl, sym, ap, ◌∙◌, subst, arith}
-use Rattle.std.specs.List.{All}
-use Rattle.std.proofs.lemmas.List.Elements.{All-head, All-tail}
-use Rattle.lab_order.specs.Arrows.{Arrows}
-use Rattle.lab_order.specs.Order.{position}
-use Rattle.lab_order.specs.Path.{IsShortestPath}
-use Rattle.lab_order.proofs.Least.{one_least}
-use Rattle.lab_order.proofs.SameGraphs.{HasArrowsOf, path_in, least_path_in}
+use Rattle.std.{proofs.{Common.{◌≡◌, ℕ, ◌<◌, ◌≤◌, Bool, List, [], ◌∷◌, ◌++◌, drop, get_or, refl, sym, ap, ◌∙◌, subst, arith}, lemmas.List.Elements.{All-head, All-tail}}, specs.List.{All}}
+use Rattle.lab_order.{specs.{Arrows.{Arrows}, Order.{position}, Path.{IsShortestPath}}, proofs.{Least.{one_least}, SameGraphs.{HasArrowsOf, path_in, least_path_in}}}
 use Rattle.lab_history.specs.History.{History}
-use Rattle.lab_deps.specs.declared.edge.Edge.{Edge}
-use Rattle.lab_deps.specs.declared.edge.Kind.{Kind}
-use Rattle.lab_judge.specs.LeastWalks.{IsEdgeGraph, GoesBy, IsWayBack, IsFirstOpening, IsTurnToLeast, IsOpenedRound}
-use Rattle.lab_judge.specs.Openings.{IsOpening}
-use Rattle.lab_judge.proofs.LeastEdges.{neither_less, one_along}
-use Rattle.lab_judge.proofs.OneWalk.{one_committed, same_arrows}
+use Rattle.lab_deps.specs.declared.edge.{Edge.{Edge}, Kind.{Kind}}
+use Rattle.lab_judge.{specs.{LeastWalks.{IsEdgeGraph, GoesBy, IsWayBack, IsFirstOpening, IsTurnToLeast, IsOpenedRound}, Openings.{IsOpening}}, proofs.{LeastEdges.{neither_less, one_along}, OneWalk.{one_committed, same_arrows}}}
 
 module _ (g k : Arrows) (more : HasArrowsOf k g) where
   -- what opens a walk does so where there are more arrows

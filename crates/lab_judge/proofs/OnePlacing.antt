@@ -1,16 +1,8 @@
 -- There is one least placing of the points of a history.
-use Rattle.std.proofs.Common.{◌≡◌, ◌⊎◌, suc, List, [], ◌∷◌, length, get_or, map, drop, refl, sym, ap, ◌∙◌, subst, arith, inl, inr}
-use Rattle.std.specs.Prelude.{Contains}
-use Rattle.std.proofs.lemmas.Bool.{cases_lt, cases_order}
-use Rattle.std.proofs.lemmas.Map.Keys.{sorted_from_strictly_increasing}
+use Rattle.std.{proofs.{Common.{◌≡◌, ◌⊎◌, suc, List, [], ◌∷◌, length, get_or, map, drop, refl, sym, ap, ◌∙◌, subst, arith, inl, inr}, lemmas.{Bool.{cases_lt, cases_order}, Map.Keys.{sorted_from_strictly_increasing}}}, specs.Prelude.{Contains}}
 use Rattle.lab_order.proofs.Least.{one_least_by}
 use Rattle.lab_history.specs.History.{History}
-use Rattle.lab_judge.specs.LeastPlaces.{IsLower, IsPointOrder, IsLeastPointOrder, ArePlacedAlong, place_in}
-use Rattle.lab_judge.specs.Runs.{HoldsEachOnce, Span}
-use Rattle.lab_judge.specs.declared.places.Point.{Point}
-use Rattle.lab_judge.specs.declared.places.Point.TheVariants.{Start, Commit}
-use Rattle.lab_judge.proofs.Numbers.{one_rising}
-use Rattle.lab_judge.proofs.Orders.{times_is}
+use Rattle.lab_judge.{specs.{LeastPlaces.{IsLower, IsPointOrder, IsLeastPointOrder, ArePlacedAlong, place_in}, Runs.{HoldsEachOnce, Span}, declared.places.Point.{Point, TheVariants.{Start, Commit}}}, proofs.{Numbers.{one_rising}, Orders.{times_is}}}
 
 -- of two points one at most is lower
 pub not_both : (p q : Point) → IsLower p q → IsLower q p → ⊥

@@ -1,16 +1,9 @@
 -- Of each kind of due walk a history has one.
-use Rattle.std.proofs.Common.{◌≡◌, ℕ, Bool, List, sym, ◌∙◌, subst}
-use Rattle.std.proofs.lemmas.Map.Keys.{sorted_from_strictly_increasing}
-use Rattle.lab_order.specs.Arrows.{Arrows}
-use Rattle.lab_order.proofs.BackCircles.{one_of_graph}
-use Rattle.lab_order.proofs.SameGraphs.{HasArrowsOf, back_circle_in}
+use Rattle.std.proofs.{Common.{◌≡◌, ℕ, Bool, List, sym, ◌∙◌, subst}, lemmas.Map.Keys.{sorted_from_strictly_increasing}}
+use Rattle.lab_order.{specs.Arrows.{Arrows}, proofs.{BackCircles.{one_of_graph}, SameGraphs.{HasArrowsOf, back_circle_in}}}
 use Rattle.lab_history.specs.History.{History}
-use Rattle.lab_deps.proofs.Places.{times_count}
-use Rattle.lab_deps.specs.declared.edge.Edge.{Edge}
-use Rattle.lab_deps.specs.declared.edge.Kind.{Kind}
-use Rattle.lab_judge.specs.LeastWalks.{AreCommitted, IsEdgeGraph, IsBackWalk, GoesRound}
-use Rattle.lab_judge.proofs.LeastEdges.{one_round}
-use Rattle.lab_judge.proofs.Numbers.{one_rising}
+use Rattle.lab_deps.{proofs.Places.{times_count}, specs.declared.edge.{Edge.{Edge}, Kind.{Kind}}}
+use Rattle.lab_judge.{specs.LeastWalks.{AreCommitted, IsEdgeGraph, IsBackWalk, GoesRound}, proofs.{LeastEdges.{one_round}, Numbers.{one_rising}}}
 
 module _ (h : History) where
   -- the committed transactions by rising number are one list

@@ -1,19 +1,9 @@
 -- Cycles that an edge opens: such an edge leads back, and an edge that leads back opens one.
-use Rattle.std.proofs.Common.{◌≡◌, ℕ, ◌+◌, ◌≤◌, Bool, true, false, cond, List, [], ◌∷◌, ◌++◌, refl, sym, ap, ◌∙◌, subst, arith, inl, inr}
-use Rattle.std.specs.Prelude.{Contains, ◌↔◌, not}
-use Rattle.std.specs.List.{All}
-use Rattle.std.proofs.lemmas.List.Elements.{All-contains}
+use Rattle.std.{proofs.{Common.{◌≡◌, ℕ, ◌+◌, ◌≤◌, Bool, true, false, cond, List, [], ◌∷◌, ◌++◌, refl, sym, ap, ◌∙◌, subst, arith, inl, inr}, lemmas.List.Elements.{All-contains}}, specs.{Prelude.{Contains, ◌↔◌, not}, List.{All}}}
 use Rattle.lab_order.specs.Arrows.{Arrows}
 use Rattle.lab_history.specs.History.{History}
-use Rattle.lab_deps.specs.Edges.{IsEdge}
-use Rattle.lab_deps.specs.KindSets.{is_any, is_flow, is_anti}
-use Rattle.lab_deps.specs.declared.edge.Edge.{Edge}
-use Rattle.lab_deps.specs.declared.edge.Kind.{Kind}
-use Rattle.lab_judge.specs.Graphs.{IsGraphOf}
-use Rattle.lab_judge.specs.Openings.{AllowsAllOrNone, IsOpenedWalk, IsOpening}
-use Rattle.lab_judge.specs.Phenomena.{IsWalk, IsClosedWalk, count_kind}
-use Rattle.lab_judge.proofs.ClosedWalks.{times, times_are, times_append, Through, HasSuch, such, goes_back}
-use Rattle.lab_judge.proofs.GraphWalks.{all_through, leads_back}
+use Rattle.lab_deps.specs.{Edges.{IsEdge}, KindSets.{is_any, is_flow, is_anti}, declared.edge.{Edge.{Edge}, Kind.{Kind}}}
+use Rattle.lab_judge.{specs.{Graphs.{IsGraphOf}, Openings.{AllowsAllOrNone, IsOpenedWalk, IsOpening}, Phenomena.{IsWalk, IsClosedWalk, count_kind}}, proofs.{ClosedWalks.{times, times_are, times_append, Through, HasSuch, such, goes_back}, GraphWalks.{all_through, leads_back}}}
 
 -- where every kind is allowed, there is no other
 pub none_other : (allowed : Kind → Bool) → ((k : Kind) → allowed k ≡ true) → (es : List Edge) → times (λ k. not (allowed k)) es ≡ 0

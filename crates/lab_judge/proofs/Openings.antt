@@ -1,19 +1,8 @@
 -- Edges that open a walk that leads back, and those that don't.
-use Rattle.std.proofs.Common.{◌≡◌, ℕ, ◌<◌, ◌==◌, ◌&&◌, Bool, true, false, Some, List, length, refl, sym, ◌∙◌, subst}
-use Rattle.std.specs.Prelude.{Contains, slice_get}
-use Rattle.std.specs.List.{All, list_any}
-use Rattle.std.proofs.lemmas.Bool.{false≢true, and_from, eq-eqb}
-use Rattle.std.proofs.lemmas.List.Elements.{All-contains}
-use Rattle.std.proofs.lemmas.Option.{same_Some}
-use Rattle.lab_order.specs.Arrows.{Arrows}
-use Rattle.lab_order.specs.Path.{Reaches}
-use Rattle.lab_order.specs.Order.{position}
-use Rattle.lab_deps.specs.declared.edge.Edge.{Edge}
-use Rattle.lab_deps.specs.declared.edge.Kind.{Kind}
-use Rattle.lab_judge.specs.Graphs.{HasEnds, ties}
-use Rattle.lab_judge.specs.Openings.{IsOpening}
-use Rattle.lab_judge.proofs.Joined.{Tie, tie, passes_some}
-use Rattle.lab_judge.proofs.Numbers.{position_within}
+use Rattle.std.{proofs.{Common.{◌≡◌, ℕ, ◌<◌, ◌==◌, ◌&&◌, Bool, true, false, Some, List, length, refl, sym, ◌∙◌, subst}, lemmas.{Bool.{false≢true, and_from, eq-eqb}, List.Elements.{All-contains}, Option.{same_Some}}}, specs.{Prelude.{Contains, slice_get}, List.{All, list_any}}}
+use Rattle.lab_order.specs.{Arrows.{Arrows}, Path.{Reaches}, Order.{position}}
+use Rattle.lab_deps.specs.declared.edge.{Edge.{Edge}, Kind.{Kind}}
+use Rattle.lab_judge.{specs.{Graphs.{HasEnds, ties}, Openings.{IsOpening}}, proofs.{Joined.{Tie, tie, passes_some}, Numbers.{position_within}}}
 
 -- an edge begins at a node
 pub within_nodes : (nodes : List ℕ) (es : List Edge) → All (HasEnds nodes) es → (e : Edge) → Contains es e → position nodes e.from < length nodes

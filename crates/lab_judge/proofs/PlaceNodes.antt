@@ -1,23 +1,12 @@
 -- Starts and commits as nodes of a graph, and its arrows.
 use Rattle.std.proofs.Common.{◌≡◌, ◌⊎◌, ℕ, ◌+◌, ◌*◌, ◌/◌, ◌%◌, ◌<◌, ◌==◌, Bool, true, false, cond, ◌&&◌, List, length, slice_index, refl, sym, ap, ◌∙◌, subst, arith, inl, inr}
-use Rattle.std.specs.Prelude.{◌↔◌, Contains, Decides, not, IsTrue}
-use Rattle.std.specs.List.{list_any}
-use Rattle.std.proofs.lemmas.Bool.{eqb-true, eq-eqb, or_cases, or_left, or_right, and_parts, and_from, not-true}
-use Rattle.std.proofs.lemmas.Bool.Decides.{Decides-and, Decides-below_or, Decides-eqb}
-use Rattle.lab_order.specs.Arrows.{Arrows, has_arrow}
-use Rattle.lab_order.specs.Order.{position}
-use Rattle.lab_history.specs.History.{History}
-use Rattle.lab_history.specs.Version.{IsCommitted}
-use Rattle.lab_deps.specs.Edges.{IsEdge}
-use Rattle.lab_deps.specs.declared.edge.Edge.{Edge}
-use Rattle.lab_judge.specs.Runs.{HoldsEachOnce}
-use Rattle.lab_judge.specs.Places.{is_anti, IsArrow}
-use Rattle.lab_judge.specs.PlaceGraphs.{start_node, commit_node, spans, leads, IsPlaceGraph, point_at}
-use Rattle.lab_judge.specs.LeastPlaces.{txn_of}
-use Rattle.lab_judge.specs.declared.places.Point.{Point}
-use Rattle.lab_judge.specs.declared.places.Point.TheVariants.{Start, Commit}
-use Rattle.lab_judge.proofs.Joined.{some_passes, passes_some}
-use Rattle.lab_judge.proofs.SerialVerdicts.{commits_at, node_within, number_again}
+use Rattle.std.specs.{Prelude.{◌↔◌, Contains, Decides, not, IsTrue}, List.{list_any}}
+use Rattle.std.proofs.lemmas.Bool.{eqb-true, eq-eqb, or_cases, or_left, or_right, and_parts, and_from, not-true, Decides.{Decides-and, Decides-below_or, Decides-eqb}}
+use Rattle.lab_order.specs.{Arrows.{Arrows, has_arrow}, Order.{position}}
+use Rattle.lab_history.specs.{History.{History}, Version.{IsCommitted}}
+use Rattle.lab_deps.specs.{Edges.{IsEdge}, declared.edge.Edge.{Edge}}
+use Rattle.lab_judge.specs.{Runs.{HoldsEachOnce}, Places.{is_anti, IsArrow}, PlaceGraphs.{start_node, commit_node, spans, leads, IsPlaceGraph, point_at}, LeastPlaces.{txn_of}, declared.places.Point.{Point, TheVariants.{Start, Commit}}}
+use Rattle.lab_judge.proofs.{Joined.{some_passes, passes_some}, SerialVerdicts.{commits_at, node_within, number_again}}
 
 -- the point at a start's node
 pub point_start : (ns : List ℕ) (p : ℕ) → point_at ns (start_node p) ≡ Start (slice_index ns p)

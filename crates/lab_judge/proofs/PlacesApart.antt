@@ -1,13 +1,7 @@
 -- No place is of two: of spans whose places each tell the one point that has them.
-use Rattle.std.proofs.Common.{◌≡◌, ℕ, ◌+◌, ◌≤◌, ◌==◌, Bool, true, false, cond, List, [], ◌∷◌, map, refl, sym, ap, ◌∙◌, subst, arith, inl, inr}
-use Rattle.std.specs.List.{All}
-use Rattle.std.proofs.lemmas.Bool.{eqb-true, both_ways, cases_lt}
-use Rattle.std.proofs.lemmas.List.Elements.{All-head, All-tail}
+use Rattle.std.{proofs.{Common.{◌≡◌, ℕ, ◌+◌, ◌≤◌, ◌==◌, Bool, true, false, cond, List, [], ◌∷◌, map, refl, sym, ap, ◌∙◌, subst, arith, inl, inr}, lemmas.{Bool.{eqb-true, both_ways, cases_lt}, List.Elements.{All-head, All-tail}}}, specs.List.{All}}
 use Rattle.lab_deps.proofs.Places.{times, times_here, times_more}
-use Rattle.lab_judge.specs.LeastPlaces.{txn_of}
-use Rattle.lab_judge.specs.Runs.{Span, all_places}
-use Rattle.lab_judge.specs.declared.places.Point.{Point}
-use Rattle.lab_judge.specs.declared.places.Point.TheVariants.{Start, Commit}
+use Rattle.lab_judge.specs.{LeastPlaces.{txn_of}, Runs.{Span, all_places}, declared.places.Point.{Point, TheVariants.{Start, Commit}}}
 
 -- the transactions of spans
 abbrev pub owners : List Span → List ℕ

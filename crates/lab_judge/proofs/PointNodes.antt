@@ -1,27 +1,13 @@
 -- Starts and commits are labels of the nodes of their graph.
-use Rattle.std.proofs.Common.{◌≡◌, ℕ, ◌*◌, ◌/◌, ◌%◌, ◌<◌, ◌≤◌, Bool, true, List, length, map, nat_lt, slice_index, refl, sym, ap, ◌∙◌, subst, arith, inl, inr}
-use Rattle.std.specs.Prelude.{◌↔◌, Contains, Decides}
-use Rattle.std.specs.List.Sorted.{IsStrictlyIncreasing}
-use Rattle.std.proofs.lemmas.Bool.{eqb-true, eq-eqb, both_ways, cases_lt, cases_order, ltb-true, lt-ltb}
+use Rattle.std.proofs.{Common.{◌≡◌, ℕ, ◌*◌, ◌/◌, ◌%◌, ◌<◌, ◌≤◌, Bool, true, List, length, map, nat_lt, slice_index, refl, sym, ap, ◌∙◌, subst, arith, inl, inr}, lemmas.Bool.{eqb-true, eq-eqb, both_ways, cases_lt, cases_order, ltb-true, lt-ltb}}
+use Rattle.std.specs.{Prelude.{◌↔◌, Contains, Decides}, List.Sorted.{IsStrictlyIncreasing}}
 use Rattle.lab_order.specs.Arrows as arrows
-use Rattle.lab_order.specs.Arrows.{Arrows, nodes_of, IsGraph}
-use Rattle.lab_order.specs.Knots.{IsBackCircle}
+use Rattle.lab_order.specs.{Arrows.{Arrows, nodes_of, IsGraph}, Knots.{IsBackCircle}, Least.{IsLess, IsLeast}, Order.{position}}
 use Rattle.lab_order.specs.Back as back
-use Rattle.lab_order.specs.Least.{IsLess, IsLeast}
 use Rattle.lab_order.specs.Order as order
-use Rattle.lab_order.specs.Order.{position}
-use Rattle.lab_history.specs.History.{History}
-use Rattle.lab_history.specs.Version.{outcome_of}
-use Rattle.lab_deps.specs.Edges.{IsEdge}
-use Rattle.lab_deps.specs.Soundness.{has_committed}
-use Rattle.lab_deps.specs.declared.edge.Edge.{Edge}
-use Rattle.lab_deps.proofs.Found.{committed as is_committed}
-use Rattle.lab_judge.specs.LeastPlaces.{txn_of, is_point, IsLower, place_in, IsPointOrder, IsLeastPointOrder}
-use Rattle.lab_judge.specs.PlaceGraphs.{start_node, commit_node, point_at, IsPlaceGraph}
-use Rattle.lab_judge.specs.Places.{IsArrow, IsCircle}
-use Rattle.lab_judge.specs.Runs.{HoldsEachOnce}
-use Rattle.lab_judge.specs.declared.places.Point.{Point}
-use Rattle.lab_judge.specs.declared.places.Point.TheVariants.{Start, Commit}
+use Rattle.lab_history.specs.{History.{History}, Version.{outcome_of}}
+use Rattle.lab_deps.{specs.{Edges.{IsEdge}, Soundness.{has_committed}, declared.edge.Edge.{Edge}}, proofs.Found.{committed as is_committed}}
+use Rattle.lab_judge.specs.{LeastPlaces.{txn_of, is_point, IsLower, place_in, IsPointOrder, IsLeastPointOrder}, PlaceGraphs.{start_node, commit_node, point_at, IsPlaceGraph}, Places.{IsArrow, IsCircle}, Runs.{HoldsEachOnce}, declared.places.Point.{Point, TheVariants.{Start, Commit}}}
 use Rattle.lab_judge.proofs.GraphNodes.{ends as node_ends, node_things, as_order}
 use Rattle.lab_judge.proofs.LabelledKnots.{circle_label, ring_of}
 use Rattle.lab_judge.proofs.Labels.{AreThings, AreLabels, labelled, not_after, place_is as place_of_label}

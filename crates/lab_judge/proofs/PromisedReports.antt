@@ -1,30 +1,16 @@
 -- An exact judgement of the recording of a legal log says what its level promises.
 use Rattle.std.proofs.Common.{ℕ, Bool, true, false, List}
-use Rattle.lab_table.specs.Table.{Table}
-use Rattle.lab_table.specs.Row.{Row}
+use Rattle.lab_table.specs.{Table.{Table}, Row.{Row}}
 use Rattle.lab_history.specs.History.{History}
-use Rattle.lab_engine.specs.declared.event.Level.{Level}
-use Rattle.lab_engine.specs.RuleTable.{rules_of, keeps_reads, keeps_snapshots}
-use Rattle.lab_engine.specs.Recording.{IsLegalRecording}
-use Rattle.lab_engine.specs.RecordedLog.{RecordedLog, IsSoundRecord}
-use Rattle.lab_engine.specs.Log.{Past, past_of}
-use Rattle.lab_deps.specs.declared.edge.Edge.{Edge}
-use Rattle.lab_deps.specs.declared.fault.LocalFault.TheVariants.{AbortedRead, IntermediateRead}
-use Rattle.lab_deps.specs.Soundness.{IsSound}
-use Rattle.lab_deps.specs.declared.fault.LocalFault.{LocalFault}
+use Rattle.lab_engine.specs.{declared.event.Level.{Level}, RuleTable.{rules_of, keeps_reads, keeps_snapshots}, Recording.{IsLegalRecording}, RecordedLog.{RecordedLog, IsSoundRecord}, Log.{Past, past_of}}
+use Rattle.lab_deps.specs.{declared.{edge.Edge.{Edge}, fault.LocalFault.{LocalFault, TheVariants.{AbortedRead, IntermediateRead}}}, Soundness.{IsSound}}
 use Rattle.lab_judge.specs.Phenomena.{NoWalk, IsG0, NoG1}
-use Rattle.lab_judge.specs.declared.report.Finding.{Finding}
-use Rattle.lab_judge.specs.declared.report.Finding.TheVariants.{Absent, Walk, At, NotJudged}
+use Rattle.lab_judge.specs.declared.{report.{Finding.{Finding, TheVariants.{Absent, Walk, At, NotJudged}}, Report.{Report}, Grade.{Grade}}, serial.Serial.{Serial}}
 use Rattle.lab_judge.specs.Findings as found
-use Rattle.lab_judge.specs.declared.report.Report.{Report}
-use Rattle.lab_judge.specs.declared.report.Grade.{Grade}
 use Rattle.lab_judge.specs.Judgement.{FindsWalk, FindsFault, JudgesAll, Judges, IsSerialVerdict, IsExactJudgement}
-use Rattle.lab_judge.specs.declared.serial.Serial.{Serial}
 use Rattle.lab_judge.specs.declared.serial.Serial.TheVariants as serial
 use Rattle.lab_judge.specs.Promises.{KeepsBy, IsAbsent, PromisedBy, IsPromised}
-use Rattle.lab_judge.proofs.SoundRecordings.{is_sound}
-use Rattle.lab_judge.proofs.ExactJudgements.{yes_exactly, placed_exactly}
-use Rattle.lab_judge.proofs.KeptPromises.{keeps_promise}
+use Rattle.lab_judge.proofs.{SoundRecordings.{is_sound}, ExactJudgements.{yes_exactly, placed_exactly}, KeptPromises.{keeps_promise}}
 
 absent_walk : (is_one : List Edge → Type 0) → NoWalk is_one → (found : Finding) → FindsWalk is_one found → IsAbsent found
 absent_walk is_one none Absent finds = tt

@@ -1,20 +1,14 @@
 -- Verdicts and findings as a judgement.
 use Rattle.std.proofs.Common.{List, refl}
 use Rattle.lab_history.specs.History.{History}
-use Rattle.lab_deps.specs.FaultOrder.{IsFirst}
-use Rattle.lab_deps.specs.Soundness.{IsSound}
-use Rattle.lab_deps.specs.declared.fault.LocalFault.{LocalFault}
+use Rattle.lab_deps.specs.{FaultOrder.{IsFirst}, Soundness.{IsSound}, declared.fault.LocalFault.{LocalFault}}
 use Rattle.lab_judge.specs.Judgement.{IsSerialVerdict, IsSnapshotVerdict, SameFault, Judges, JudgesAll, JudgesAtFault, RestsOnOrder, RestsOnPlaces, IsExactJudgement}
 use Rattle.lab_judge.specs.BackPoints.{HasBackCircle}
 use Rattle.lab_judge.specs.LeastPlaces.{IsLeastPlacing}
 use Rattle.lab_judge.specs.LeastWalks.{HasDueWalk, FindsDueWalks}
 use Rattle.lab_judge.specs.Verdicts.{IsLeastOrder}
-use Rattle.lab_judge.specs.declared.places.Places.{Places}
+use Rattle.lab_judge.specs.declared.{places.Places.{Places}, report.{Finding.{Finding}, Grade.{Grade}, Report.{Report}}, serial.Serial.{Serial}}
 use Rattle.lab_judge.specs.declared.places.Places.TheVariants as places
-use Rattle.lab_judge.specs.declared.report.Finding.{Finding}
-use Rattle.lab_judge.specs.declared.report.Grade.{Grade}
-use Rattle.lab_judge.specs.declared.report.Report.{Report}
-use Rattle.lab_judge.specs.declared.serial.Serial.{Serial}
 use Rattle.lab_judge.specs.declared.serial.Serial.TheVariants as serial
 
 -- verdicts on a sound history answer no fault

@@ -1,37 +1,13 @@
 -- What the order of a graph says of the history whose dependencies are its arrows.
 use Rattle.std.proofs.Common.{◌≡◌, ℕ, ◌<◌, ◌==◌, Bool, true, cond, List, map, slice_index, length, nat_lt, refl, sym, ap, ◌∙◌, subst, arith}
-use Rattle.std.specs.Prelude.{◌↔◌, ◌&&◌, Contains}
-use Rattle.std.specs.List.{All, list_any}
-use Rattle.std.specs.List.Sorted.{IsStrictlyIncreasing}
-use Rattle.std.proofs.lemmas.Bool.{eq-eqb, eqb-true, and_parts, ltb-true, lt-ltb}
-use Rattle.std.proofs.lemmas.Bool.Decides.{Decides-eqb}
-use Rattle.std.proofs.lemmas.List.Elements.{Contains-get_or}
-use Rattle.std.proofs.lemmas.Map.Keys.{below_from_sorted, sorted_from_strictly_increasing}
-use Rattle.std.proofs.lemmas.Option.{slice_get-get_or}
-use Rattle.lab_order.specs.Arrows.{Arrows, nodes_of, IsArrow, IsGraph}
-use Rattle.lab_order.specs.Least.{IsLess, NotAfter, IsLeast}
+use Rattle.std.specs.{Prelude.{◌↔◌, ◌&&◌, Contains}, List.{All, list_any, Sorted.{IsStrictlyIncreasing}}}
+use Rattle.std.proofs.lemmas.{Bool.{eq-eqb, eqb-true, and_parts, ltb-true, lt-ltb, Decides.{Decides-eqb}}, List.Elements.{Contains-get_or}, Map.Keys.{below_from_sorted, sorted_from_strictly_increasing}, Option.{slice_get-get_or}}
+use Rattle.lab_order.specs.{Arrows.{Arrows, nodes_of, IsArrow, IsGraph}, Least.{IsLess, NotAfter, IsLeast}, Order.{position}}
 use Rattle.lab_order.specs.Order as order
-use Rattle.lab_order.specs.Order.{position}
-use Rattle.lab_history.specs.History.{History}
-use Rattle.lab_history.specs.Version.{IsCommitted, outcome_of}
-use Rattle.lab_deps.specs.Edges.{IsEdge}
-use Rattle.lab_deps.specs.KindSets.{among}
-use Rattle.lab_deps.specs.Soundness.{IsSound, has_committed}
-use Rattle.lab_deps.specs.declared.edge.Edge.{Edge}
-use Rattle.lab_deps.specs.declared.edge.Kind.{Kind}
-use Rattle.lab_deps.specs.declared.kinds.TheConstants.Kinds.{ALL}
-use Rattle.lab_deps.proofs.Found.{committed as is_committed}
-use Rattle.lab_deps.proofs.NamedKinds.{all_has}
-use Rattle.lab_deps.proofs.Places.{times, times_count, at_times}
-use Rattle.lab_judge.specs.Runs.{HoldsEachOnce, IsSerialRun}
-use Rattle.lab_judge.specs.Places.{IsForwardOrder}
-use Rattle.lab_judge.specs.Graphs.{HasEnds, ties, IsGraphOf}
-use Rattle.lab_judge.proofs.GraphNodes.{node_things, as_order}
-use Rattle.lab_judge.proofs.GraphWalks.{read_back}
-use Rattle.lab_judge.proofs.Joined.{some_passes, passes_some}
-use Rattle.lab_judge.proofs.Labels.{AreThings, AreLabels, IsOrderOf, labelled, not_after}
-use Rattle.lab_judge.proofs.Numbers.{contains_it, at_its_place, position_within}
-use Rattle.lab_judge.proofs.Orders.{is_serial, committed_in}
+use Rattle.lab_history.specs.{History.{History}, Version.{IsCommitted, outcome_of}}
+use Rattle.lab_deps.{specs.{Edges.{IsEdge}, KindSets.{among}, Soundness.{IsSound, has_committed}, declared.{edge.{Edge.{Edge}, Kind.{Kind}}, kinds.TheConstants.Kinds.{ALL}}}, proofs.{Found.{committed as is_committed}, NamedKinds.{all_has}, Places.{times, times_count, at_times}}}
+use Rattle.lab_judge.specs.{Runs.{HoldsEachOnce, IsSerialRun}, Places.{IsForwardOrder}, Graphs.{HasEnds, ties, IsGraphOf}}
+use Rattle.lab_judge.proofs.{GraphNodes.{node_things, as_order}, GraphWalks.{read_back}, Joined.{some_passes, passes_some}, Labels.{AreThings, AreLabels, IsOrderOf, labelled, not_after}, Numbers.{contains_it, at_its_place, position_within}, Orders.{is_serial, committed_in}}
 
 -- a committed transaction is a node
 pub is_node : (h : History) (ns : List ℕ) → HoldsEachOnce h ns → (n : ℕ) → IsCommitted h n → Contains ns n

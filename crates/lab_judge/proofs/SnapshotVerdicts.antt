@@ -1,35 +1,17 @@
 -- What the order of the graph of starts and commits says of the history.
 use Rattle.std.proofs.Common.{◌≡◌, ℕ, suc, ◌+◌, ◌<◌, ◌≤◌, ◌==◌, Bool, true, false, cond, List, [], ◌∷◌, get_or, map, slice_index, refl, sym, ap, ◌∙◌, subst, arith}
-use Rattle.std.specs.Prelude.{◌↔◌, Contains, count_by}
-use Rattle.std.specs.List.{All}
-use Rattle.std.specs.List.Sorted.{IsStrictlyIncreasing}
-use Rattle.std.proofs.lemmas.Bool.{eqb-true}
-use Rattle.std.proofs.lemmas.List.{get_or-map, length-map}
-use Rattle.std.proofs.lemmas.List.Elements.{All-head, All-tail, All-map, All-contains, Contains-get_or}
-use Rattle.std.proofs.lemmas.List.Sums.{sum_by-cons}
-use Rattle.lab_order.specs.Arrows.{Arrows, nodes_of, IsGraph}
-use Rattle.lab_order.specs.Least.{IsLeast}
+use Rattle.std.specs.{Prelude.{◌↔◌, Contains, count_by}, List.{All, Sorted.{IsStrictlyIncreasing}}}
+use Rattle.std.proofs.lemmas.{Bool.{eqb-true}, List.{get_or-map, length-map, Elements.{All-head, All-tail, All-map, All-contains, Contains-get_or}, Sums.{sum_by-cons}}}
+use Rattle.lab_order.specs.{Arrows.{Arrows, nodes_of, IsGraph}, Least.{IsLeast}, Order.{position}}
 use Rattle.lab_order.specs.Order as order
-use Rattle.lab_order.specs.Order.{position}
-use Rattle.lab_history.specs.History.{History}
-use Rattle.lab_history.specs.Version.{IsCommitted}
-use Rattle.lab_deps.specs.Edges.{IsEdge}
-use Rattle.lab_deps.specs.Soundness.{IsSound, has_committed}
-use Rattle.lab_deps.specs.declared.edge.Edge.{Edge}
-use Rattle.lab_deps.proofs.Places.{times, times_count}
+use Rattle.lab_history.specs.{History.{History}, Version.{IsCommitted}}
+use Rattle.lab_deps.{specs.{Edges.{IsEdge}, Soundness.{IsSound, has_committed}, declared.edge.Edge.{Edge}}, proofs.Places.{times, times_count}}
 use Rattle.lab_judge.specs.Runs.{HoldsEachOnce, Span, all_places, IsSnapshotRun}
 use Rattle.lab_judge.specs.Places.{start_of, commit_of, place_of_point, IsForwardPlacing}
 use Rattle.lab_judge.specs.LeastPlaces.{is_point, place_in, IsPointOrder, IsLeastPointOrder, ArePlacedAlong}
 use Rattle.lab_judge.specs.PlaceGraphs.{IsPlaceGraph, point_at, span_in}
-use Rattle.lab_judge.specs.declared.places.Point.{Point}
-use Rattle.lab_judge.specs.declared.places.Point.TheVariants.{Start, Commit}
-use Rattle.lab_judge.proofs.GraphNodes.{in_order}
-use Rattle.lab_judge.proofs.Numbers.{contained}
-use Rattle.lab_judge.proofs.Orders.{at_most, committed_in, committed_once}
-use Rattle.lab_judge.proofs.PlaceNodes.{IsOfCommitted, ends, node_of}
-use Rattle.lab_judge.proofs.PlacesApart.{IsTold, owners, apart}
-use Rattle.lab_judge.proofs.Placings.{is_snapshot}
-use Rattle.lab_judge.proofs.PointNodes.{is_same, node_within, place_is, is_order, is_least}
+use Rattle.lab_judge.specs.declared.places.Point.{Point, TheVariants.{Start, Commit}}
+use Rattle.lab_judge.proofs.{GraphNodes.{in_order}, Numbers.{contained}, Orders.{at_most, committed_in, committed_once}, PlaceNodes.{IsOfCommitted, ends, node_of}, PlacesApart.{IsTold, owners, apart}, Placings.{is_snapshot}, PointNodes.{is_same, node_within, place_is, is_order, is_least}}
 
 -- a span has its places along an order
 abbrev IsPlaced : List Point → Span → Type 0

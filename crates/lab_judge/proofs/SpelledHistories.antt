@@ -1,17 +1,9 @@
 -- The history that a file holds, and when the verdicts on it are yes.
-use Rattle.std.proofs.Common.{◌≡◌, ℕ, List, subst}
-use Rattle.std.specs.Prelude.{◌↔◌}
+use Rattle.std.{proofs.Common.{◌≡◌, ℕ, List, subst}, specs.Prelude.{◌↔◌}}
 use Rattle.lab_history.specs.History.{History}
-use Rattle.lab_history_file.specs.HistoryFile.{HoldsHistory}
-use Rattle.lab_history_file.proofs.OneFile.{one_history}
+use Rattle.lab_history_file.{specs.HistoryFile.{HoldsHistory}, proofs.OneFile.{one_history}}
 use Rattle.lab_deps.specs.Soundness.{IsSound}
-use Rattle.lab_judge.specs.FileJudgement.{IsFileJudgement}
-use Rattle.lab_judge.specs.Judgement.{IsExactJudgement}
-use Rattle.lab_judge.specs.Phenomena.{IsClosedWalk, NoWalk}
-use Rattle.lab_judge.specs.Verdicts.{IsYes, IsPlaced, NoCircle}
-use Rattle.lab_judge.specs.declared.report.Report.{Report}
-use Rattle.lab_judge.proofs.ExactJudgements.{yes_where, placed_where}
-use Rattle.lab_judge.proofs.OneJudgement.{one_judgement}
+use Rattle.lab_judge.{specs.{FileJudgement.{IsFileJudgement}, Judgement.{IsExactJudgement}, Phenomena.{IsClosedWalk, NoWalk}, Verdicts.{IsYes, IsPlaced, NoCircle}, declared.report.Report.{Report}}, proofs.{ExactJudgements.{yes_where, placed_where}, OneJudgement.{one_judgement}}}
 
 -- a judgement of a file is one of each history that the file holds
 pub judges_held : (bytes : List ℕ) (report : Report) (h : History) → IsFileJudgement bytes report → HoldsHistory bytes h → IsExactJudgement h report

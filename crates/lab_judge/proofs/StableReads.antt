@@ -1,31 +1,13 @@
 -- Where what was seen stays true up to the commit, the writer of an anti-dependency commits after the reader; so every
 -- edge follows the order of commits.
-use Rattle.std.specs.Option.{option_or}
-use Rattle.std.proofs.Common.{◌≡◌, ◌≢◌, ℕ, suc, ◌<◌, ◌≤◌, refl, sym, ap, subst, ◌∙◌, false, true, List, [], ◌∷◌, ◌++◌, inl, inr, length, append_assoc, arith}
-use Rattle.std.specs.Prelude.{unwrap_or}
-use Rattle.std.proofs.lemmas.Bool.{cases_order}
-use Rattle.lab_table.specs.Row.{Row}
-use Rattle.lab_table.specs.Table.{Table}
-use Rattle.lab_table.specs.Statement.{matches}
-use Rattle.lab_table.proofs.Tests.{some_of}
-use Rattle.lab_history.specs.History.{History}
+use Rattle.std.{specs.{Option.{option_or}, Prelude.{unwrap_or}}, proofs.{Common.{◌≡◌, ◌≢◌, ℕ, suc, ◌<◌, ◌≤◌, refl, sym, ap, subst, ◌∙◌, false, true, List, [], ◌∷◌, ◌++◌, inl, inr, length, append_assoc, arith}, lemmas.Bool.{cases_order}}}
+use Rattle.lab_table.{specs.{Row.{Row}, Table.{Table}, Statement.{matches}}, proofs.Tests.{some_of}}
+use Rattle.lab_history.specs.{History.{History}, declared.operation.Op.{Op}}
 use Rattle.lab_history.specs.Version as history
-use Rattle.lab_history.specs.declared.operation.Op.{Op}
-use Rattle.lab_engine.specs.declared.event.Level.{Level}
-use Rattle.lab_engine.specs.Log.{Past, Txn, commits, version_by, last_installed, initial_version}
-use Rattle.lab_engine.specs.Laws.{Untouched}
-use Rattle.lab_engine.specs.Recording.{IsLegalRecording}
-use Rattle.lab_engine.proofs.DoneTransactions.{untouched_by}
-use Rattle.lab_deps.specs.Edges.{IsEdge, Depends, changes, SeesPlace, InstallsAt, Lists}
-use Rattle.lab_deps.specs.declared.edge.Edge.{Edge}
-use Rattle.lab_deps.specs.declared.edge.Kind.{Kind}
-use Rattle.lab_deps.specs.declared.edge.Kind.TheVariants.{Write, ItemRead, PredicateRead, ItemAnti, PredicateAnti}
+use Rattle.lab_engine.{specs.{declared.event.Level.{Level}, Log.{Past, Txn, commits, version_by, last_installed, initial_version}, Laws.{Untouched}, Recording.{IsLegalRecording}}, proofs.DoneTransactions.{untouched_by}}
+use Rattle.lab_deps.specs.{Edges.{IsEdge, Depends, changes, SeesPlace, InstallsAt, Lists}, declared.edge.{Edge.{Edge}, Kind.{Kind, TheVariants.{Write, ItemRead, PredicateRead, ItemAnti, PredicateAnti}}}}
 use Rattle.lab_order.specs.Order.{position}
-use Rattle.lab_judge.specs.LogOrders.{commit_order}
-use Rattle.lab_judge.specs.Places.{is_anti, IsForwardOrder}
-use Rattle.lab_judge.specs.Phenomena.{IsClosedWalk, NoWalk}
-use Rattle.lab_judge.specs.Runs.{IsSerialRun}
-use Rattle.lab_judge.specs.Stable.{StaysTrue, ReadsStable}
+use Rattle.lab_judge.specs.{LogOrders.{commit_order}, Places.{is_anti, IsForwardOrder}, Phenomena.{IsClosedWalk, NoWalk}, Runs.{IsSerialRun}, Stable.{StaysTrue, ReadsStable}}
 use Rattle.lab_judge.proofs.Suffixes.{suffix_of_suffix, same_suffix, head_same}
 use Rattle.lab_judge.proofs.Ranks.{rank-first, Installs}
 use Rattle.lab_judge.proofs.RecordedVersions.{installer_at, state_at-is}

@@ -1,22 +1,10 @@
 -- Kinds between two transactions, and whether one depends on the other in one of some ways.
-use Rattle.std.proofs.Common.{◌≡◌, ℕ, ◌<◌, ◌==◌, ◌&&◌, Bool, true, Some, List, length, get_or, slice_index, sym, ap, ◌∙◌, subst}
-use Rattle.std.specs.Prelude.{◌↔◌, Contains, slice_get}
-use Rattle.std.specs.List.{list_any, All}
-use Rattle.std.specs.List.Sorted.{IsStrictlyIncreasing}
-use Rattle.std.proofs.lemmas.Bool.{and_from, eq-eqb}
-use Rattle.std.proofs.lemmas.Option.{same_Some, slice_get-get_or}
+use Rattle.std.proofs.{Common.{◌≡◌, ℕ, ◌<◌, ◌==◌, ◌&&◌, Bool, true, Some, List, length, get_or, slice_index, sym, ap, ◌∙◌, subst}, lemmas.{Bool.{and_from, eq-eqb}, Option.{same_Some, slice_get-get_or}}}
+use Rattle.std.specs.{Prelude.{◌↔◌, Contains, slice_get}, List.{list_any, All, Sorted.{IsStrictlyIncreasing}}}
 use Rattle.lab_table.specs.Row.{Row}
 use Rattle.lab_order.specs.Order.{position}
-use Rattle.lab_deps.specs.KindBits.{edge_of}
-use Rattle.lab_deps.specs.KindSets.{among}
-use Rattle.lab_deps.specs.KindsBetween.{AreKindsTo}
-use Rattle.lab_deps.specs.declared.edge.Edge.{Edge}
-use Rattle.lab_deps.specs.declared.edge.Kind.{Kind}
-use Rattle.lab_deps.specs.declared.kinds.Kinds.{Kinds}
-use Rattle.lab_judge.specs.Graphs.{HasEnds, ties}
-use Rattle.lab_judge.proofs.Joined.{Tie, tie, passes_some}
-use Rattle.lab_judge.proofs.Landings.{same_truth}
-use Rattle.lab_judge.proofs.Numbers.{at_its_place}
+use Rattle.lab_deps.specs.{KindBits.{edge_of}, KindSets.{among}, KindsBetween.{AreKindsTo}, declared.{edge.{Edge.{Edge}, Kind.{Kind}}, kinds.Kinds.{Kinds}}}
+use Rattle.lab_judge.{specs.Graphs.{HasEnds, ties}, proofs.{Joined.{Tie, tie, passes_some}, Landings.{same_truth}, Numbers.{at_its_place}}}
 
 module _ (nodes : List ℕ) (es : List Edge) (ends : All (HasEnds nodes) es) (p q from to : ℕ)
     (from_is : slice_get nodes p ≡ Some from) (to_is : slice_get nodes q ≡ Some to) where

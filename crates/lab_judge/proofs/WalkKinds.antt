@@ -1,22 +1,9 @@
 -- Which cycles are which phenomenon.
-use Rattle.std.proofs.Common.{◌≡◌, ℕ, ◌+◌, ◌≤◌, Bool, true, cond, List, [], ◌∷◌, refl, sym, ap, ◌∙◌, subst, arith}
-use Rattle.std.specs.Prelude.{Contains, ◌↔◌, not}
-use Rattle.std.proofs.lemmas.Bool.{false≢true}
-use Rattle.std.proofs.Math.Bool.{not-not}
+use Rattle.std.{proofs.{Common.{◌≡◌, ℕ, ◌+◌, ◌≤◌, Bool, true, cond, List, [], ◌∷◌, refl, sym, ap, ◌∙◌, subst, arith}, lemmas.Bool.{false≢true}, Math.Bool.{not-not}}, specs.Prelude.{Contains, ◌↔◌, not}}
 use Rattle.lab_history.specs.History.{History}
-use Rattle.lab_deps.specs.Edges.{IsEdge}
-use Rattle.lab_deps.specs.KindSets.{is_any, is_write, is_flow, is_anti, is_item_anti}
-use Rattle.lab_deps.specs.declared.edge.Edge.{Edge}
-use Rattle.lab_deps.specs.declared.edge.Kind.{Kind}
-use Rattle.lab_deps.specs.declared.edge.Kind.TheVariants.{Write, ItemRead, PredicateRead, ItemAnti, PredicateAnti}
-use Rattle.lab_judge.specs.Graphs.{count_others}
-use Rattle.lab_judge.specs.Judgement.{FindsWalk}
-use Rattle.lab_judge.specs.Openings.{HasEdgesOf, IsClosedOf, IsOpenedWalk}
-use Rattle.lab_judge.specs.Phenomena.{count_kind, IsG0, IsG1c, IsGSingle, IsG2Item, IsG2}
-use Rattle.lab_judge.specs.declared.report.Finding.{Finding}
-use Rattle.lab_judge.specs.declared.report.Finding.TheVariants.{Absent, Walk, At, NotJudged}
-use Rattle.lab_judge.proofs.ClosedWalks.{times, times_are}
-use Rattle.lab_judge.proofs.OpenedWalks.{none_other}
+use Rattle.lab_deps.specs.{Edges.{IsEdge}, KindSets.{is_any, is_write, is_flow, is_anti, is_item_anti}, declared.edge.{Edge.{Edge}, Kind.{Kind, TheVariants.{Write, ItemRead, PredicateRead, ItemAnti, PredicateAnti}}}}
+use Rattle.lab_judge.specs.{Graphs.{count_others}, Judgement.{FindsWalk}, Openings.{HasEdgesOf, IsClosedOf, IsOpenedWalk}, Phenomena.{count_kind, IsG0, IsG1c, IsGSingle, IsG2Item, IsG2}, declared.report.Finding.{Finding, TheVariants.{Absent, Walk, At, NotJudged}}}
+use Rattle.lab_judge.proofs.{ClosedWalks.{times, times_are}, OpenedWalks.{none_other}}
 
 -- what is found of one kind of walk is found of another, where they are the same walks
 finds_same : (P Q : List Edge → Type 0) → ((es : List Edge) → P es → Q es) → ((es : List Edge) → Q es → P es) → (finding : Finding) → FindsWalk P finding → FindsWalk Q finding

@@ -1,8 +1,6 @@
 -- Who blocks a statement by one of three.
 use Rattle.std.proofs.Common.{◌≡◌, ◌∙◌, ℕ, sym, Bool, ◌||◌, inl, inr, ◌↔◌, IsTrue}
-use Rattle.lab_engine.proofs.Common.{or_cases, or_left, or_right, Table, Statement, Past, Txn, IsOther, Blocks, HoldsWrite}
-use Rattle.lab_engine.specs.declared.event.Level.TheVariants.{Locking}
-use Rattle.lab_engine.specs.Rules.{HoldsMatch, HasRead}
+use Rattle.lab_engine.{proofs.Common.{or_cases, or_left, or_right, Table, Statement, Past, Txn, IsOther, Blocks, HoldsWrite}, specs.{declared.event.Level.TheVariants.{Locking}, Rules.{HoldsMatch, HasRead}}}
 
 -- a session is another one whose transaction holds a match, holds a write, or has read
 pub blocks_by_one : (setup : Table) (past : Past) (session other : ℕ) (txn : Txn) (s : Statement) (any matching writing reading : Bool)

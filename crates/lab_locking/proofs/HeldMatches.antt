@@ -1,11 +1,7 @@
 -- What the tests of pending writes say of other transactions.
-use Rattle.std.proofs.Common.{◌≡◌, ◌∙◌, ℕ, refl, sym, ap, subst, arith, Bool, true, false, ◌||◌, length, ◌↔◌, Option, Some, None, is_some, unwrap_or, IsTrue}
+use Rattle.std.proofs.{Common.{◌≡◌, ◌∙◌, ℕ, refl, sym, ap, subst, arith, Bool, true, false, ◌||◌, length, ◌↔◌, Option, Some, None, is_some, unwrap_or, IsTrue}, lemmas.List.Folds.{Any-from_list_any}}
 use Rattle.lab_engine.proofs.Common.{list_any, true≢false, Row, State, matches, may_match, Statement, no_match, chain, last_before, Kept, kept_at, chain_kept, pending_kept, chain_in, pending_in, Past, Version, Txn, active, version_by, initial_version, committed_version, IsOther, written_by}
-use Rattle.std.proofs.lemmas.List.Folds.{Any-from_list_any}
-use Rattle.lab_engine.specs.declared.asker.Asker.{Asker}
-use Rattle.lab_engine.specs.declared.event.Level.TheVariants.{Locking}
-use Rattle.lab_engine.specs.Asker.{IsAsker}
-use Rattle.lab_engine.specs.Rules.{HoldsMatch}
+use Rattle.lab_engine.specs.{declared.{asker.Asker.{Asker}, event.Level.TheVariants.{Locking}}, Asker.{IsAsker}, Rules.{HoldsMatch}}
 use Rattle.lab_engine.proofs.Choosing.{Tells}
 use Rattle.lab_engine.proofs.InstalledChains.{last_in}
 use Rattle.lab_engine.proofs.OtherWriters.{row_any}

@@ -1,19 +1,8 @@
 -- What the tests of statements that ran say of other transactions.
-use Rattle.std.proofs.Common.{◌≡◌, ◌∙◌, ℕ, refl, sym, ap, subst, Bool, true, false, cond, ◌||◌, inl, inr, List, [], ◌∷◌}
-use Rattle.std.specs.Prelude.{◌↔◌, ℤ, Option, Some, None, unwrap_or, IsTrue}
+use Rattle.std.{proofs.{Common.{◌≡◌, ◌∙◌, ℕ, refl, sym, ap, subst, Bool, true, false, cond, ◌||◌, inl, inr, List, [], ◌∷◌}, lemmas.List.Folds.{Any-from_list_any}}, specs.Prelude.{◌↔◌, ℤ, Option, Some, None, unwrap_or, IsTrue}}
 use Rattle.lab_engine.proofs.Common.{none_some, list_any, option_or, find, get, entries, get-entries, and_parts, and_from, or_cases, or_left, or_right, true≢false, State, Statement, same_row, last_before, Kept, kept_at, chain_kept, pending_kept, Past, Txn, initial_version, seen, has_read, IsOther, IsRunning, statements_of}
-use Rattle.lab_engine.specs.declared.event.Level.TheVariants.{Locking}
-use Rattle.lab_engine.specs.declared.session_state.RunningTxn.{RunningTxn}
-use Rattle.lab_engine.specs.declared.asker.Asker.{Asker}
-use Rattle.std.proofs.lemmas.List.Folds.{Any-from_list_any}
-use Rattle.lab_table.specs.Row.{Row, row_cmp, row_eq, numbered}
-use Rattle.lab_table.specs.NamedRow.{KindNames, StatementNames}
-use Rattle.lab_table.specs.Statement.{matches, may_match, would_write, new_state, kind_would_write}
-use Rattle.lab_table.specs.declared.statement.StatementKind.{StatementKind}
-use Rattle.lab_table.specs.declared.statement.StatementKind.TheVariants.{Insert}
-use Rattle.lab_engine.specs.KeptRows.{entries_in}
-use Rattle.lab_engine.specs.Rules.{HasRead}
-use Rattle.lab_engine.specs.Asker.{IsAsker, seen_in}
+use Rattle.lab_engine.specs.{declared.{event.Level.TheVariants.{Locking}, session_state.RunningTxn.{RunningTxn}, asker.Asker.{Asker}}, KeptRows.{entries_in}, Rules.{HasRead}, Asker.{IsAsker, seen_in}}
+use Rattle.lab_table.specs.{Row.{Row, row_cmp, row_eq, numbered}, NamedRow.{KindNames, StatementNames}, Statement.{matches, may_match, would_write, new_state, kind_would_write}, declared.statement.StatementKind.{StatementKind, TheVariants.{Insert}}}
 use Rattle.lab_engine.proofs.Choosing.{Tells, chosen_is}
 use Rattle.lab_engine.proofs.Holding.{any_read}
 use Rattle.lab_engine.proofs.KeptChains.{find_kept}

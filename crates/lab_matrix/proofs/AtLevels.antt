@@ -1,15 +1,10 @@
 -- The cases at one level after another.
-use Rattle.std.proofs.Common.{◌≡◌, ◌<◌, ℕ, suc, inl, inr, List, [], ◌∷◌, ◌++◌, sym, ap, ◌∙◌, subst, arith}
-use Rattle.std.proofs.lemmas.Bool.{cases_lt}
-use Rattle.std.proofs.lemmas.List.{append_assoc, append-nil}
+use Rattle.std.proofs.{Common.{◌≡◌, ◌<◌, ℕ, suc, inl, inr, List, [], ◌∷◌, ◌++◌, sym, ap, ◌∙◌, subst, arith}, lemmas.{Bool.{cases_lt}, List.{append_assoc, append-nil}}}
 use Rattle.lab_engine.specs.declared.event.Level.{Level}
 use Rattle.lab_judge.specs.declared.report.Report.{Report}
 use Rattle.lab_matrix.specs.Matrix.{IsCell, IsRecorded, IsCellFault, case_place}
 use Rattle.lab_matrix.specs.Columns.{report_of, AreReports, KeepPromise, AllRecorded, IsFirstAt, AreColumns, KeepPromises, IsFirstAmong, IsColumnsFault}
-use Rattle.lab_matrix.specs.declared.columns.CaseReports.{CaseReports}
-use Rattle.lab_matrix.specs.declared.filling.MatrixFault.{MatrixFault}
-use Rattle.lab_matrix.specs.declared.filling.MatrixFault.TheVariants.{NoMemory, Play}
-use Rattle.lab_matrix.specs.declared.name.CaseName.{CaseName}
+use Rattle.lab_matrix.specs.declared.{columns.CaseReports.{CaseReports}, filling.MatrixFault.{MatrixFault, TheVariants.{NoMemory, Play}}, name.CaseName.{CaseName}}
 use Rattle.lab_matrix.specs.declared.name.CaseName.TheVariants as name
 use Rattle.lab_matrix.proofs.CasePlays.{recorded, said, same_place}
 

@@ -1,30 +1,16 @@
 -- A case's play at a level, in the words of the matrix.
-use Rattle.std.proofs.Common.{◌≡◌, ◌<◌, ℕ, suc, inl, inr, Ok, refl, sym, ap, ◌∙◌, subst, arith}
-use Rattle.std.specs.Prelude.{◌==◌, Bool, true, false, if◌then◌else◌}
-use Rattle.std.proofs.lemmas.Bool.{cases_lt}
+use Rattle.std.{proofs.{Common.{◌≡◌, ◌<◌, ℕ, suc, inl, inr, Ok, refl, sym, ap, ◌∙◌, subst, arith}, lemmas.Bool.{cases_lt}}, specs.Prelude.{◌==◌, Bool, true, false, if◌then◌else◌}}
 use Rattle.lab_table.specs.Table.{Table}
 use Rattle.lab_script.specs.declared.script.Script.{Script}
 use Rattle.lab_history.specs.FirstPartsFault.{checked}
-use Rattle.lab_engine.specs.declared.event.Level.{Level}
-use Rattle.lab_engine.specs.RuleTable.{rules_of, keeps_reads, keeps_snapshots}
-use Rattle.lab_engine.specs.RecordedLog.{RecordedLog}
-use Rattle.lab_engine.specs.Log.{past_of}
-use Rattle.lab_engine.specs.Recording.{IsRecording}
-use Rattle.lab_session.specs.Play.{given_lines, IsLegalPlay, IsScriptedFault}
-use Rattle.lab_session.specs.declared.fault.PlayFault.{PlayFault}
-use Rattle.lab_judge.specs.Judgement.{IsExactJudgement}
-use Rattle.lab_judge.specs.Promises.{IsPromised, PromisedBy}
-use Rattle.lab_judge.specs.declared.report.Report.{Report}
+use Rattle.lab_engine.specs.{declared.event.Level.{Level}, RuleTable.{rules_of, keeps_reads, keeps_snapshots}, RecordedLog.{RecordedLog}, Log.{past_of}, Recording.{IsRecording}}
+use Rattle.lab_session.specs.{Play.{given_lines, IsLegalPlay, IsScriptedFault}, declared.fault.PlayFault.{PlayFault}}
+use Rattle.lab_judge.specs.{Judgement.{IsExactJudgement}, Promises.{IsPromised, PromisedBy}, declared.report.Report.{Report}}
 use Rattle.lab_matrix.specs.Listings.{usual_setup, case_script, listing}
 use Rattle.lab_matrix.specs.Matrix.{IsCell, IsRow, AreCells, KeepsPromises, IsRecorded, case_place, column_place, level_of, Precedes, IsCellFault, IsRowFault, IsMatrixFault, cell_of}
 use Rattle.lab_matrix.specs.EnginePromise.{Says, promise_by, promise_of}
-use Rattle.lab_matrix.specs.declared.filling.MatrixFault.{MatrixFault}
-use Rattle.lab_matrix.specs.declared.filling.MatrixFault.TheVariants.{NoMemory, Play}
-use Rattle.lab_matrix.specs.declared.cells.Column.{Column}
+use Rattle.lab_matrix.specs.declared.{filling.MatrixFault.{MatrixFault, TheVariants.{NoMemory, Play}}, cells.{Column.{Column}, Row.{Row}, Matrix.{Matrix}}, name.CaseName.{CaseName}}
 use Rattle.lab_matrix.specs.declared.cells.Column.TheVariants as column
-use Rattle.lab_matrix.specs.declared.cells.Row.{Row}
-use Rattle.lab_matrix.specs.declared.cells.Matrix.{Matrix}
-use Rattle.lab_matrix.specs.declared.name.CaseName.{CaseName}
 use Rattle.lab_matrix.specs.declared.name.CaseName.TheVariants as name
 
 -- an engine of the level on the case's setup

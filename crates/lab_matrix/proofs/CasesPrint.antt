@@ -1,28 +1,14 @@
 -- The scripts of the cases print within the limits of a text.
-use Rattle.std.proofs.Common.{◌≡◌, ◌≤◌, ◌<◌, ◌++◌, ℕ, ℤ, pos, List, [], ◌∷◌, length, Some, None, refl, sym, ap, ◌∙◌, subst, arith, length-append}
-use Rattle.std.specs.Prelude.{codes}
-use Rattle.std.specs.Fmt.{decimal, signed_decimal}
+use Rattle.std.proofs.{Common.{◌≡◌, ◌≤◌, ◌<◌, ◌++◌, ℕ, ℤ, pos, List, [], ◌∷◌, length, Some, None, refl, sym, ap, ◌∙◌, subst, arith, length-append}, lemmas.{List.{nil_from_length}, Fmt.{length_signed_le, length-decimal-le}}}
+use Rattle.std.specs.{Prelude.{codes}, Fmt.{decimal, signed_decimal}, FinMap.{entries-insert, put, len-entries, len-empty}}
 use Rattle.std.specs.FinMap as map
-use Rattle.std.specs.FinMap.{entries-insert, put, len-entries, len-empty}
-use Rattle.std.proofs.lemmas.List.{nil_from_length}
-use Rattle.std.proofs.lemmas.Fmt.{length_signed_le, length-decimal-le}
 use Rattle.lab_table.specs.Row.{Row, row_cmp, rows_total, in_test}
 use Rattle.lab_table.specs.TableName.{test_name}
 use Rattle.lab_table.specs.Predicate.{Compare, Remainder, OneOf}
-use Rattle.lab_table.specs.declared.predicate.Col.{Col}
-use Rattle.lab_table.specs.declared.predicate.Col.TheVariants.{Id, Value as Column}
-use Rattle.lab_table.specs.declared.predicate.Cmp.TheVariants.{Eq}
-use Rattle.lab_table.specs.declared.statement.Expr.TheVariants.{Set}
-use Rattle.lab_table.specs.declared.statement.Statement.{Statement}
-use Rattle.lab_table.specs.declared.statement.StatementKind.{StatementKind}
-use Rattle.lab_table.specs.declared.statement.StatementKind.TheVariants.{Select, Update, Insert}
+use Rattle.lab_table.specs.declared.{predicate.{Col.{Col, TheVariants.{Id, Value as Column}}, Cmp.TheVariants.{Eq}}, statement.{Expr.TheVariants.{Set}, Statement.{Statement}, StatementKind.{StatementKind, TheVariants.{Select, Update, Insert}}}}
 use Rattle.lab_statement.specs.Limits.{StatementPrints}
-use Rattle.lab_script.specs.Limits.{ScriptPrints, AllPrint}
-use Rattle.lab_script.specs.Tables.{with_rows, with_lines, setup_tables}
-use Rattle.lab_script.specs.declared.script.Line.{Line}
-use Rattle.lab_script.specs.Printed.{printed_setup, named_rows_or}
-use Rattle.lab_matrix.specs.Listings.{usual_setup, case_script, g0_lines, g1a_lines, g1b_lines, g1c_lines, otv_lines, pmp_lines, p4_lines, g_single_lines, g2_item_lines, g2_lines}
-use Rattle.lab_matrix.specs.declared.name.CaseName.{CaseName}
+use Rattle.lab_script.specs.{Limits.{ScriptPrints, AllPrint}, Tables.{with_rows, with_lines, setup_tables}, declared.script.Line.{Line}, Printed.{printed_setup, named_rows_or}}
+use Rattle.lab_matrix.specs.{Listings.{usual_setup, case_script, g0_lines, g1a_lines, g1b_lines, g1c_lines, otv_lines, pmp_lines, p4_lines, g_single_lines, g2_item_lines, g2_lines}, declared.name.CaseName.{CaseName}}
 use Rattle.lab_matrix.specs.declared.name.CaseName.TheVariants as name
 
 -- the rows of the usual setup

@@ -1,24 +1,13 @@
 -- There is one text of the matrix, and where there is no matrix one refusal of it.
-use Rattle.std.proofs.Common.{◌≡◌, inl, inr, sym, ap, subst, ◌∙◌, arith}
-use Rattle.std.proofs.lemmas.Bool.{cases_lt}
-use Rattle.lab_engine.specs.declared.event.Level.{Level}
-use Rattle.lab_engine.specs.Log.{past_of}
-use Rattle.lab_engine.specs.Recording.{IsRecording}
-use Rattle.lab_engine.proofs.OneRecording.{one_recording}
-use Rattle.lab_session.specs.Play.{given_lines}
-use Rattle.lab_session.specs.declared.fault.PlayFault.{PlayFault}
-use Rattle.lab_session.proofs.OnePlay.{one_play, no_fault, one_fault}
-use Rattle.lab_judge.specs.Judgement.{IsExactJudgement}
-use Rattle.lab_judge.specs.declared.report.Report.{Report}
-use Rattle.lab_judge.proofs.OneJudgement.{one_judgement}
+use Rattle.std.proofs.{Common.{◌≡◌, inl, inr, sym, ap, subst, ◌∙◌, arith}, lemmas.Bool.{cases_lt}}
+use Rattle.lab_engine.{specs.{declared.event.Level.{Level}, Log.{past_of}, Recording.{IsRecording}}, proofs.OneRecording.{one_recording}}
+use Rattle.lab_session.{specs.{Play.{given_lines}, declared.fault.PlayFault.{PlayFault}}, proofs.OnePlay.{one_play, no_fault, one_fault}}
+use Rattle.lab_judge.{specs.{Judgement.{IsExactJudgement}, declared.report.Report.{Report}}, proofs.OneJudgement.{one_judgement}}
 use Rattle.lab_matrix.specs.Listings.{usual_setup, listing}
 use Rattle.lab_matrix.specs.Matrix.{IsCell, IsRow, AreCells, IsRecorded, IsUnrecorded, IsFirstCell, Precedes, case_place, column_place, level_of, cell_of}
 use Rattle.lab_matrix.specs.MatrixText.{matrix_text}
-use Rattle.lab_matrix.specs.declared.cells.Column.{Column}
+use Rattle.lab_matrix.specs.declared.{cells.{Column.{Column}, Matrix.{Matrix}, Row.{Row}}, name.CaseName.{CaseName}}
 use Rattle.lab_matrix.specs.declared.cells.Column.TheVariants as column
-use Rattle.lab_matrix.specs.declared.cells.Matrix.{Matrix}
-use Rattle.lab_matrix.specs.declared.cells.Row.{Row}
-use Rattle.lab_matrix.specs.declared.name.CaseName.{CaseName}
 use Rattle.lab_matrix.specs.declared.name.CaseName.TheVariants as name
 use Rattle.lab_matrix.proofs.CasePlays.{recorded, same_place, same_column}
 

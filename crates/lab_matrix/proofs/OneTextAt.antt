@@ -1,20 +1,10 @@
 -- There is one text of the cases at levels, and where there is none one refusal.
-use Rattle.std.proofs.Common.{◌≡◌, inl, inr, List, [], ◌∷◌, refl, sym, ap, ◌∙◌, subst, arith}
-use Rattle.std.proofs.lemmas.Bool.{cases_lt}
+use Rattle.std.proofs.{Common.{◌≡◌, inl, inr, List, [], ◌∷◌, refl, sym, ap, ◌∙◌, subst, arith}, lemmas.Bool.{cases_lt}}
 use Rattle.lab_engine.specs.declared.event.Level.{Level}
-use Rattle.lab_session.specs.Play.{given_lines}
-use Rattle.lab_session.specs.declared.fault.PlayFault.{PlayFault}
-use Rattle.lab_session.proofs.OnePlay.{one_fault}
-use Rattle.lab_matrix.specs.Listings.{usual_setup, listing}
-use Rattle.lab_matrix.specs.Matrix.{IsUnrecorded, case_place}
-use Rattle.lab_matrix.specs.Columns.{AreReports, AllRecorded, IsFirstAt, AreColumns, IsFirstAmong}
-use Rattle.lab_matrix.specs.declared.columns.CaseReports.{CaseReports}
-use Rattle.lab_matrix.specs.declared.filling.MatrixFault.TheVariants.{Play}
-use Rattle.lab_matrix.specs.declared.name.CaseName.{CaseName}
+use Rattle.lab_session.{specs.{Play.{given_lines}, declared.fault.PlayFault.{PlayFault}}, proofs.OnePlay.{one_fault}}
+use Rattle.lab_matrix.specs.{Listings.{usual_setup, listing}, Matrix.{IsUnrecorded, case_place}, Columns.{AreReports, AllRecorded, IsFirstAt, AreColumns, IsFirstAmong}, declared.{columns.CaseReports.{CaseReports}, filling.MatrixFault.TheVariants.{Play}, name.CaseName.{CaseName}}}
 use Rattle.lab_matrix.specs.declared.name.CaseName.TheVariants as name
-use Rattle.lab_matrix.proofs.AtLevels.{all_recorded}
-use Rattle.lab_matrix.proofs.CasePlays.{same_place}
-use Rattle.lab_matrix.proofs.OneMatrix.{one_cell, not_both}
+use Rattle.lab_matrix.proofs.{AtLevels.{all_recorded}, CasePlays.{same_place}, OneMatrix.{one_cell, not_both}}
 
 -- reports whose parts are the same are one
 same_reports : (r s : CaseReports) → r.level ≡ s.level → r.g0 ≡ s.g0 → r.g1a ≡ s.g1a → r.g1b ≡ s.g1b → r.g1c ≡ s.g1c → r.otv ≡ s.otv → r.pmp ≡ s.pmp → r.p4 ≡ s.p4 → r.g_single ≡ s.g_single → r.g2_item ≡ s.g2_item → r.g2 ≡ s.g2 → r ≡ s

@@ -1,10 +1,7 @@
 -- The table that each case begins with, row by row.
-use Rattle.std.proofs.Common.{◌≡◌, ℤ, pos, Bool, true, not, cond, None, ap, ◌∙◌}
-use Rattle.std.specs.Prelude.{is_some}
+use Rattle.std.{proofs.Common.{◌≡◌, ℤ, pos, Bool, true, not, cond, None, ap, ◌∙◌}, specs.{Prelude.{is_some}, FinMap.{get-empty, get-insert}}}
 use Rattle.std.specs.FinMap as map
-use Rattle.std.specs.FinMap.{get-empty, get-insert}
-use Rattle.lab_table.specs.Row.{Row, row_cmp, rows_total, in_test}
-use Rattle.lab_table.specs.Table.{Table}
+use Rattle.lab_table.specs.{Row.{Row, row_cmp, rows_total, in_test}, Table.{Table}}
 use Rattle.lab_matrix.specs.Listings.{usual_setup}
 
 -- a row that isn't there is added

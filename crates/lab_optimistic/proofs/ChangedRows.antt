@@ -1,11 +1,7 @@
 -- Chains of installed versions: who was the first since a begin to install a row with a change that passes a test.
 use Rattle.std.proofs.Common.{◌≡◌, ℕ, ◌≤◌, ◌<◌, refl, sym, ap, subst, ◌∙◌, arith, Bool, cond, List, [], ◌∷◌, ◌++◌, length, length-append, append_assoc, lt-ltb, le-ltb, Option, Some, None, unwrap_or}
-use Rattle.lab_engine.proofs.Common.{option_or, Row, State, Table, get, Past, Version, Txn, active, commits, commits_after, version_by, last_installed, initial_version, Began, longer, chain_after, chain}
-use Rattle.lab_engine.specs.declared.event.Outcome.{Outcome}
-use Rattle.lab_engine.specs.declared.event.Outcome.TheVariants.{Committed}
-use Rattle.lab_engine.specs.declared.row_state.Installed.{Installed}
-use Rattle.lab_engine.specs.Rules.{state_after}
-use Rattle.lab_engine.proofs.Begins.{begins_hold}
+use Rattle.lab_engine.proofs.{Common.{option_or, Row, State, Table, get, Past, Version, Txn, active, commits, commits_after, version_by, last_installed, initial_version, Began, longer, chain_after, chain}, Begins.{begins_hold}}
+use Rattle.lab_engine.specs.{declared.{event.Outcome.{Outcome, TheVariants.{Committed}}, row_state.Installed.{Installed}}, Rules.{state_after}}
 use Rattle.lab_optimistic.specs.Changes.{state_of, first_change}
 
 -- ---- the first of a list that changed a row

@@ -1,16 +1,8 @@
 -- The first of a commit's conflicts, of those by what was written and those by what was read.
 use Rattle.std.proofs.Common.{◌≡◌, ℕ, refl, sym, subst, Bool, true, false, cond, inl, inr, Option, Some, None, MatchOption, is_lt}
-use Rattle.lab_engine.proofs.Common.{Row, row_cmp, rows_total, Table, Past, Txn, MayCommit, IsBelow}
-use Rattle.lab_engine.specs.declared.event.Level.TheVariants.{Optimistic}
-use Rattle.lab_engine.specs.declared.rules.Conflict.{Conflict}
-use Rattle.lab_engine.specs.declared.rules.ConflictKind.{ConflictKind}
-use Rattle.lab_engine.specs.declared.rules.ConflictKind.TheVariants.{Write, Read}
-use Rattle.lab_engine.specs.Rules.{IsFirstConflict, ConflictsBy, ComesFirst}
-use Rattle.lab_engine.specs.Taken.{IsFirstTaken}
-use Rattle.lab_engine.proofs.ReadConflicts.{stands_or_conflicts}
-use Rattle.lab_engine.proofs.TakenRows.{none_taken, kinds_apart, first_by_write}
-use Rattle.lab_optimistic.specs.Reads.{IsFirstRead, earlier}
-use Rattle.lab_optimistic.proofs.LeastRows.{before_less, below_other}
+use Rattle.lab_engine.proofs.{Common.{Row, row_cmp, rows_total, Table, Past, Txn, MayCommit, IsBelow}, ReadConflicts.{stands_or_conflicts}, TakenRows.{none_taken, kinds_apart, first_by_write}}
+use Rattle.lab_engine.specs.{declared.{event.Level.TheVariants.{Optimistic}, rules.{Conflict.{Conflict}, ConflictKind.{ConflictKind, TheVariants.{Write, Read}}}}, Rules.{IsFirstConflict, ConflictsBy, ComesFirst}, Taken.{IsFirstTaken}}
+use Rattle.lab_optimistic.{specs.Reads.{IsFirstRead, earlier}, proofs.LeastRows.{before_less, below_other}}
 
 module _ (setup : Table) (past : Past) (txn : Txn) where
   -- it is the first, or there is none

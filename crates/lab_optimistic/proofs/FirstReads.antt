@@ -1,17 +1,8 @@
 -- What is found among the statements of an active transaction says whether what it has read stands.
 use Rattle.std.proofs.Common.{◌≡◌, ◌≢◌, ℕ, refl, sym, ap, ◌∙◌, Bool, true, false, cond, ◌||◌, List, [], ◌∷◌, reverse, map, Option, Some, None, is_some}
-use Rattle.lab_engine.proofs.Common.{none_of, list_any, nat_lt, option_or, both_ways, get, Row, State, Statement, matches, may_match, no_match, Past, Txn, commits, has_read, chain_in, keeps_statements, IsAsker, IsBelow, true≢false}
-use Rattle.lab_engine.specs.declared.asker.Asker.{Asker}
-use Rattle.lab_engine.specs.declared.event.Level.{Level}
-use Rattle.lab_engine.specs.declared.row_state.Installed.{Installed}
-use Rattle.lab_engine.specs.declared.rules.ConflictKind.TheVariants.{Read}
-use Rattle.lab_engine.specs.Rules.{NoneChangesRead}
-use Rattle.lab_engine.proofs.Holding.{any_read}
-use Rattle.lab_optimistic.specs.Changes.{any_reads, state_of, first_change}
-use Rattle.lab_optimistic.specs.Reads.{change_at, changes_at, IsLeast, IsFirstRead}
-use Rattle.lab_optimistic.proofs.ChangedRows.{SinceThen, since_begin, first_changing}
-use Rattle.lab_optimistic.proofs.LeastRows.{not_below}
-use Rattle.lab_optimistic.proofs.ReadConflicts.{reads, none_did, conflicts, no_conflict}
+use Rattle.lab_engine.proofs.{Common.{none_of, list_any, nat_lt, option_or, both_ways, get, Row, State, Statement, matches, may_match, no_match, Past, Txn, commits, has_read, chain_in, keeps_statements, IsAsker, IsBelow, true≢false}, Holding.{any_read}}
+use Rattle.lab_engine.specs.{declared.{asker.Asker.{Asker}, event.Level.{Level}, row_state.Installed.{Installed}, rules.ConflictKind.TheVariants.{Read}}, Rules.{NoneChangesRead}}
+use Rattle.lab_optimistic.{specs.{Changes.{any_reads, state_of, first_change}, Reads.{change_at, changes_at, IsLeast, IsFirstRead}}, proofs.{ChangedRows.{SinceThen, since_begin, first_changing}, LeastRows.{not_below}, ReadConflicts.{reads, none_did, conflicts, no_conflict}}}
 
 -- ---- one test of several
 

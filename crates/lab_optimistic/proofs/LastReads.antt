@@ -1,17 +1,11 @@
 -- The rows of the commits since a begin are all of which a statement may read a change.
 use Rattle.std.proofs.Common.{◌≡◌, ◌∙◌, ℕ, ◌≤◌, ◌<◌, refl, sym, ap, subst, Bool, true, false, cond, ◌==◌, ◌&&◌, List, [], ◌∷◌, ◌++◌, append_assoc, length, reverse, arith, Option, Some, None, is_some, ltb-false, le-ltb, lt-ltb, eqb-true, eq-eqb}
 use Rattle.lab_engine.proofs.Common.{Past, Txn, append-nil, map-append, reverse-append, Row, State, Statement, row_eq, same_row, row_eq_self, list_any, nat_lt, option_or, chain_in, kept_rows, keeps_commits, IsAsker, Any-from_list_any, list_any_at, and_from, and_parts, true≢false}
-use Rattle.lab_engine.specs.declared.asker.Asker.{Asker}
-use Rattle.lab_engine.specs.declared.event.Level.{Level}
-use Rattle.lab_engine.specs.declared.committed_rows.CommittedRows.{CommittedRows}
-use Rattle.lab_engine.specs.declared.row_state.Installed.{Installed}
-use Rattle.lab_engine.specs.KeptCommits.{commits_since, installs_at}
+use Rattle.lab_engine.specs.{declared.{asker.Asker.{Asker}, event.Level.{Level}, committed_rows.CommittedRows.{CommittedRows}, row_state.Installed.{Installed}}, KeptCommits.{commits_since, installs_at}}
 use Rattle.lab_engine.proofs.KeptCommits.{last_kept}
 use Rattle.lab_engine.proofs.OtherWriters.{row_any}
 use Rattle.lab_engine.proofs.RuleTables.{where_holds}
-use Rattle.lab_optimistic.specs.Changes.{any_reads, state_of, first_change}
-use Rattle.lab_optimistic.specs.Reads.{changes_at, ends_at, is_last, is_last_read, reads_in, reads_since, IsLeast, lesser}
-use Rattle.lab_optimistic.proofs.LeastRows.{least_next, least_same}
+use Rattle.lab_optimistic.{specs.{Changes.{any_reads, state_of, first_change}, Reads.{changes_at, ends_at, is_last, is_last_read, reads_in, reads_since, IsLeast, lesser}}, proofs.LeastRows.{least_next, least_same}}
 
 -- a change is one of an install from the place on
 change_there : (test : State → State → Bool) (start : State) (n : ℕ) (c : List Installed) → is_some (first_change test start n c) ≡ true

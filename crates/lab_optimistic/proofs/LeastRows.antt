@@ -1,6 +1,5 @@
 -- The least of the rows that pass one of some tests.
-use Rattle.std.proofs.Common.{◌≡◌, ◌∙◌, ℕ, ◌+◌, ◌<◌, refl, sym, ap, subst, Bool, true, false, ◌||◌, ◌&&◌, T, List, [], ◌∷◌, ◌++◌, length, take, get_or, Option, Some, None, is_lt, is_eq, cond, Less, Equal, Greater}
-use Rattle.std.specs.declared.cmp.Ordering.{Ordering}
+use Rattle.std.{proofs.Common.{◌≡◌, ◌∙◌, ℕ, ◌+◌, ◌<◌, refl, sym, ap, subst, Bool, true, false, ◌||◌, ◌&&◌, T, List, [], ◌∷◌, ◌++◌, length, take, get_or, Option, Some, None, is_lt, is_eq, cond, Less, Equal, Greater}, specs.declared.cmp.Ordering.{Ordering}}
 use Rattle.lab_engine.proofs.Common.{list_any, list_any-append, list_any_more, or-false, or_left, or_right, Row, row_cmp, rows_total, same_row, row_eq, row_eq_self, is_less, turned, IsBelow, true≢false}
 use Rattle.lab_optimistic.specs.Reads.{IsLeast, lesser}
 

@@ -1,8 +1,6 @@
 -- Who was the first to change what a transaction has read.
-use Rattle.std.proofs.Common.{◌≡◌, ℕ, refl, sym, ap, subst, ◌∙◌, Bool, true, false, cond, ◌||◌, List, [], ◌∷◌, ◌++◌, append_assoc, Option, Some, None}
-use Rattle.std.proofs.lemmas.List.{append_cancel_right}
-use Rattle.lab_engine.proofs.Common.{none_some, same_Some, option_or, Row, State, Table, Past, Version, Txn, commits, version_by, has_read}
-use Rattle.lab_engine.specs.Rules.{state_after, ChangesRead, NoneChangesRead, ConflictsRead}
+use Rattle.std.proofs.{Common.{◌≡◌, ℕ, refl, sym, ap, subst, ◌∙◌, Bool, true, false, cond, ◌||◌, List, [], ◌∷◌, ◌++◌, append_assoc, Option, Some, None}, lemmas.List.{append_cancel_right}}
+use Rattle.lab_engine.{proofs.Common.{none_some, same_Some, option_or, Row, State, Table, Past, Version, Txn, commits, version_by, has_read}, specs.Rules.{state_after, ChangesRead, NoneChangesRead, ConflictsRead}}
 use Rattle.lab_optimistic.proofs.ChangedRows.{changed_by, first_changing}
 
 -- ---- one that installed a row

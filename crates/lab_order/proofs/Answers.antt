@@ -1,14 +1,6 @@
 -- A graph has one answer.
 use Rattle.std.proofs.Common.{List, [], ◌∷◌, ℕ}
-use Rattle.lab_order.specs.Arrows.{Arrows, IsArrow}
-use Rattle.lab_order.specs.Back.{IsBackCircle}
-use Rattle.lab_order.specs.Least.{IsLess}
-use Rattle.lab_order.specs.Order.{IsOrder, IsAnswered, AreSame}
-use Rattle.lab_order.specs.declared.ordering.Ordered.{Ordered}
-use Rattle.lab_order.specs.declared.ordering.Ordered.TheVariants.{Order, Circle}
-use Rattle.lab_order.proofs.BackCircles.{one_of_graph, first_met}
-use Rattle.lab_order.proofs.Least.{one_least}
-use Rattle.lab_order.proofs.Stuck.{order_excludes}
+use Rattle.lab_order.{specs.{Arrows.{Arrows, IsArrow}, Back.{IsBackCircle}, Least.{IsLess}, Order.{IsOrder, IsAnswered, AreSame}, declared.ordering.Ordered.{Ordered, TheVariants.{Order, Circle}}}, proofs.{BackCircles.{one_of_graph, first_met}, Least.{one_least}, Stuck.{order_excludes}}}
 
 -- where there is an order, there is no such cycle
 no_circle : (graph : Arrows) (order circle : List ℕ) → IsOrder graph order → IsBackCircle graph circle → ⊥

@@ -1,15 +1,7 @@
 -- There is one cycle on the way back from the least that no order can place.
-use Rattle.std.proofs.Common.{◌≡◌, ◌⊎◌, inl, inr, ℕ, suc, refl, sym, ap, subst, ◌∙◌, arith, List, [], ◌∷◌, ◌++◌, reverse}
-use Rattle.std.specs.List.{All}
-use Rattle.std.proofs.lemmas.Bool.{cases_order}
-use Rattle.std.proofs.lemmas.List.{reverse-append, reverse-reverse}
-use Rattle.std.proofs.lemmas.List.Elements.{All-head}
-use Rattle.lab_order.specs.Arrows.{Arrows, IsArrow}
+use Rattle.std.{proofs.{Common.{◌≡◌, ◌⊎◌, inl, inr, ℕ, suc, refl, sym, ap, subst, ◌∙◌, arith, List, [], ◌∷◌, ◌++◌, reverse}, lemmas.{Bool.{cases_order}, List.{reverse-append, reverse-reverse, Elements.{All-head}}}}, specs.List.{All}}
+use Rattle.lab_order.{specs.{Arrows.{Arrows, IsArrow}, Knots.{IsLeastStuck, IsBack, ComesBack, IsMet, IsBackCircle}, Least.{IsLess}, Trails.{IsTrailBy}}, proofs.Least.{not_both}}
 use Rattle.lab_order.specs.Back as back
-use Rattle.lab_order.specs.Knots.{IsLeastStuck, IsBack, ComesBack, IsMet, IsBackCircle}
-use Rattle.lab_order.specs.Least.{IsLess}
-use Rattle.lab_order.specs.Trails.{IsTrailBy}
-use Rattle.lab_order.proofs.Least.{not_both}
 
 module _ {X : Type 0} where
   -- one of these

@@ -1,21 +1,8 @@
 -- Ways back, step by step, and the cycle that closes one.
-use Rattle.std.proofs.Common.{◌≡◌, ℕ, ◌+◌, ◌<◌, ◌≤◌, refl, sym, ap, subst, ◌∙◌, arith, Bool, true, false, cond, ◌||◌, List, [], ◌∷◌, ◌++◌, take, length, get_or, set, reverse, inl, inr}
-use Rattle.std.specs.Prelude.{◌==◌, not, IsTrue}
-use Rattle.std.specs.List.{list_any, prefix_len}
-use Rattle.std.proofs.lemmas.Bool.{eqb-true, eq-eqb, both_ways, cases_lt}
-use Rattle.lab_order.specs.Arrows.{Arrows, IsArrow}
-use Rattle.lab_order.specs.Back.{IsBack, IsMet, IsBackCircle}
-use Rattle.lab_order.specs.Counts.{how_often}
-use Rattle.lab_order.specs.Least.{IsLess}
-use Rattle.lab_order.specs.Placing.{is_marked}
-use Rattle.lab_order.specs.Steps.{is_in}
-use Rattle.lab_order.specs.Trails.{IsRing, IsChainBy, IsTurn, BeginsWithLeast, HasLeastFirst}
-use Rattle.lab_order.proofs.BackCircles.{comes_on}
-use Rattle.lab_order.proofs.MarkedCounts.{one_if, counted, stands_counted}
-use Rattle.lab_order.proofs.Members.{at_is_in}
-use Rattle.lab_order.proofs.Trails.{turned_push, turned_at, closes}
-use Rattle.lab_order.proofs.Turns.{turned_count, front_count, in_front, in_turned}
-use Rattle.lab_order.proofs.Writes.{set_read}
+use Rattle.std.proofs.{Common.{◌≡◌, ℕ, ◌+◌, ◌<◌, ◌≤◌, refl, sym, ap, subst, ◌∙◌, arith, Bool, true, false, cond, ◌||◌, List, [], ◌∷◌, ◌++◌, take, length, get_or, set, reverse, inl, inr}, lemmas.Bool.{eqb-true, eq-eqb, both_ways, cases_lt}}
+use Rattle.std.specs.{Prelude.{◌==◌, not, IsTrue}, List.{list_any, prefix_len}}
+use Rattle.lab_order.specs.{Arrows.{Arrows, IsArrow}, Back.{IsBack, IsMet, IsBackCircle}, Counts.{how_often}, Least.{IsLess}, Placing.{is_marked}, Steps.{is_in}, Trails.{IsRing, IsChainBy, IsTurn, BeginsWithLeast, HasLeastFirst}}
+use Rattle.lab_order.proofs.{BackCircles.{comes_on}, MarkedCounts.{one_if, counted, stands_counted}, Members.{at_is_in}, Trails.{turned_push, turned_at, closes}, Turns.{turned_count, front_count, in_front, in_turned}, Writes.{set_read}}
 
 -- what comes back from one that is met is met
 pub met_next : (graph : Arrows) (node from : ℕ) → IsMet graph node → IsBack graph from node → IsMet graph from

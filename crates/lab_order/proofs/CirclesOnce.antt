@@ -1,17 +1,6 @@
 -- On the cycle on the way back none is there twice.
-use Rattle.std.proofs.Common.{◌≡◌, inl, inr, ℕ, ◌+◌, ◌<◌, ◌≤◌, refl, ap, subst, ◌∙◌, arith, Bool, true, false, List, [], ◌∷◌, ◌++◌, length, reverse}
-use Rattle.std.specs.Prelude.{◌==◌, ⊤}
-use Rattle.std.proofs.lemmas.Bool.{cases_order, eqb-true}
-use Rattle.std.proofs.lemmas.List.{reverse-append}
-use Rattle.std.proofs.lemmas.List.Sums.{sum_by-append}
-use Rattle.lab_order.specs.Arrows.{Arrows, IsArrow}
-use Rattle.lab_order.specs.Back.{IsBackCircle}
-use Rattle.lab_order.specs.Counts.{how_often}
-use Rattle.lab_order.specs.Knots.{ComesBack}
-use Rattle.lab_order.specs.Least.{IsLess}
-use Rattle.lab_order.proofs.BackCircles.{IsOf, one_way, goes_round, not_again}
-use Rattle.lab_order.proofs.Least.{not_both}
-use Rattle.lab_order.proofs.MarkedCounts.{one_if, counted}
+use Rattle.std.{proofs.{Common.{◌≡◌, inl, inr, ℕ, ◌+◌, ◌<◌, ◌≤◌, refl, ap, subst, ◌∙◌, arith, Bool, true, false, List, [], ◌∷◌, ◌++◌, length, reverse}, lemmas.{Bool.{cases_order, eqb-true}, List.{reverse-append, Sums.{sum_by-append}}}}, specs.Prelude.{◌==◌, ⊤}}
+use Rattle.lab_order.{specs.{Arrows.{Arrows, IsArrow}, Back.{IsBackCircle}, Counts.{how_often}, Knots.{ComesBack}, Least.{IsLess}}, proofs.{BackCircles.{IsOf, one_way, goes_round, not_again}, Least.{not_both}, MarkedCounts.{one_if, counted}}}
 
 -- no two of a list are one
 abbrev AreApart : List ℕ → Type 0

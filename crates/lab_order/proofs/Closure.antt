@@ -1,9 +1,6 @@
 -- Sets of the nodes that lead to each node, made by paths through one node more at a time.
-use Rattle.std.proofs.Common.{◌≡◌, ◌⊎◌, inl, inr, ℕ, ◌+◌, ◌<◌, ◌≤◌, ◌==◌, refl, sym, subst, ◌∙◌, arith, Bool, true, ◌||◌, ◌&&◌, List, [], ◌∷◌, ◌++◌}
-use Rattle.std.specs.Prelude.{◌↔◌, IsTrue}
-use Rattle.std.proofs.lemmas.Bool.{or_cases, or_left, or_right, and_parts, and_from, cases_lt, eqb-true, eq-eqb}
-use Rattle.lab_order.specs.Arrows.{Arrows, nodes_of, has_arrow, IsGraph}
-use Rattle.lab_order.specs.Path.{Leads, Reaches}
+use Rattle.std.{proofs.{Common.{◌≡◌, ◌⊎◌, inl, inr, ℕ, ◌+◌, ◌<◌, ◌≤◌, ◌==◌, refl, sym, subst, ◌∙◌, arith, Bool, true, ◌||◌, ◌&&◌, List, [], ◌∷◌, ◌++◌}, lemmas.Bool.{or_cases, or_left, or_right, and_parts, and_from, cases_lt, eqb-true, eq-eqb}}, specs.Prelude.{◌↔◌, IsTrue}}
+use Rattle.lab_order.specs.{Arrows.{Arrows, nodes_of, has_arrow, IsGraph}, Path.{Leads, Reaches}}
 
 module _ (graph : Arrows) where
   -- a way on from where another ends

@@ -1,12 +1,6 @@
 -- Counting in lists that are mapped or in another order, and the least of one.
-use Rattle.std.proofs.Common.{◌≡◌, ℕ, ◌+◌, ◌≤◌, arith, refl, sym, ap, ◌∙◌, Bool, cond, List, [], ◌∷◌, map}
-use Rattle.std.specs.BinaryHeap.{IsUpperBound}
-use Rattle.std.specs.List.{All, count_by}
-use Rattle.std.specs.Ordering.{nat_cmp}
-use Rattle.std.specs.List.Sorted.{IsPermutation}
-use Rattle.std.proofs.lemmas.List.Sums.{sum_by-cons}
-use Rattle.std.proofs.lemmas.List.Elements.{All-nil, All-cons}
-use Rattle.std.proofs.lemmas.List.Sorted.{sum_by-IsPermutation, le_from_greatest}
+use Rattle.std.proofs.{Common.{◌≡◌, ℕ, ◌+◌, ◌≤◌, arith, refl, sym, ap, ◌∙◌, Bool, cond, List, [], ◌∷◌, map}, lemmas.List.{Sums.{sum_by-cons}, Elements.{All-nil, All-cons}, Sorted.{sum_by-IsPermutation, le_from_greatest}}}
+use Rattle.std.specs.{BinaryHeap.{IsUpperBound}, List.{All, count_by, Sorted.{IsPermutation}}, Ordering.{nat_cmp}}
 
 module _ {X : Type 0} (f : X → ℕ) (test : ℕ → Bool) where
   -- counting after a map

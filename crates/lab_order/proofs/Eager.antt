@@ -1,15 +1,7 @@
 -- Orders in which next comes each time the least node that may be placed.
-use Rattle.std.proofs.Common.{◌≡◌, ◌⊎◌, inl, inr, ℕ, suc, ◌+◌, ◌<◌, ◌≤◌, refl, sym, ap, subst, ◌∙◌, arith, Bool, true, false, cond, not, ◌&&◌, List, [], ◌∷◌, ◌++◌, length, set, zero-add}
-use Rattle.std.specs.Prelude.{◌==◌, IsTrue, nat_lt, ⊤}
-use Rattle.std.specs.List.{count_by}
-use Rattle.std.proofs.lemmas.Bool.{eq-eqb, both_ways, cases_lt, ltb-true}
-use Rattle.std.proofs.lemmas.List.{length-set}
-use Rattle.lab_order.specs.Arrows.{Arrows, nodes_of, has_arrow}
-use Rattle.lab_order.specs.Least.{NotAfter, IsLeast}
-use Rattle.lab_order.specs.Order.{position, IsOrder}
-use Rattle.lab_order.specs.Placing.{is_marked, IsFree}
-use Rattle.lab_order.proofs.Writes.{set_read}
-use Rattle.lab_order.proofs.MarkedCounts.{one_if, counted}
+use Rattle.std.proofs.{Common.{◌≡◌, ◌⊎◌, inl, inr, ℕ, suc, ◌+◌, ◌<◌, ◌≤◌, refl, sym, ap, subst, ◌∙◌, arith, Bool, true, false, cond, not, ◌&&◌, List, [], ◌∷◌, ◌++◌, length, set, zero-add}, lemmas.{Bool.{eq-eqb, both_ways, cases_lt, ltb-true}, List.{length-set}}}
+use Rattle.std.specs.{Prelude.{◌==◌, IsTrue, nat_lt, ⊤}, List.{count_by}}
+use Rattle.lab_order.{specs.{Arrows.{Arrows, nodes_of, has_arrow}, Least.{NotAfter, IsLeast}, Order.{position, IsOrder}, Placing.{is_marked, IsFree}}, proofs.{Writes.{set_read}, MarkedCounts.{one_if, counted}}}
 
 -- which nodes are placed once these are, too
 abbrev pub placed_after : List Bool → List ℕ → List Bool

@@ -1,9 +1,5 @@
 -- The least of some nodes that isn't placed, node by node.
-use Rattle.std.proofs.Common.{◌≡◌, ◌⊎◌, inl, inr, ℕ, ◌+◌, ◌<◌, ◌≤◌, refl, sym, ap, subst, ◌∙◌, arith, Bool, true, false, List, length, get_or}
-use Rattle.std.specs.Prelude.{Option, Some, None, is_some, IfSome}
-use Rattle.std.specs.List.{All, Contains}
-use Rattle.std.proofs.lemmas.Bool.{both_ways, cases_lt}
-use Rattle.std.proofs.lemmas.List.{get_or_default}
+use Rattle.std.{proofs.{Common.{◌≡◌, ◌⊎◌, inl, inr, ℕ, ◌+◌, ◌<◌, ◌≤◌, refl, sym, ap, subst, ◌∙◌, arith, Bool, true, false, List, length, get_or}, lemmas.{Bool.{both_ways, cases_lt}, List.{get_or_default}}}, specs.{Prelude.{Option, Some, None, is_some, IfSome}, List.{All, Contains}}}
 use Rattle.lab_order.specs.Placing.{is_marked}
 
 -- the least of so many nodes from the front that isn't placed, or None where all are

@@ -1,13 +1,8 @@
 -- How many nodes of a list are marked, and how often a node stands in one.
 use Rattle.std.proofs.Common.{◌≡◌, ◌⊎◌, inl, inr, ℕ, zero, suc, ◌+◌, ◌-◌, ◌<◌, refl, sym, ap, subst, ◌∙◌, arith, Bool, true, false, cond, not, ◌&&◌, ◌||◌, ◌≤◌, List, [], ◌∷◌, length, get_or, set, replicate}
-use Rattle.std.specs.Prelude.{◌==◌, nat_lt}
-use Rattle.std.specs.List.{All, count_by, list_any}
-use Rattle.std.proofs.lemmas.Bool.{eqb-true, eqb-false, eq-eqb, both_ways, cases_lt, lt-ltb, or_left, or_right}
-use Rattle.std.proofs.lemmas.List.{get_or_past, get_or-replicate, length-replicate}
-use Rattle.std.proofs.lemmas.List.Sums.{sum_by-cons, sum_by-set}
-use Rattle.lab_order.specs.Placing.{is_marked}
-use Rattle.lab_order.specs.Counts.{how_often}
-use Rattle.lab_order.proofs.Writes.{set_read}
+use Rattle.std.specs.{Prelude.{◌==◌, nat_lt}, List.{All, count_by, list_any}}
+use Rattle.std.proofs.lemmas.{Bool.{eqb-true, eqb-false, eq-eqb, both_ways, cases_lt, lt-ltb, or_left, or_right}, List.{get_or_past, get_or-replicate, length-replicate, Sums.{sum_by-cons, sum_by-set}}}
+use Rattle.lab_order.{specs.{Placing.{is_marked}, Counts.{how_often}}, proofs.Writes.{set_read}}
 
 -- 1 for what holds
 abbrev pub one_if : Bool → ℕ

@@ -1,12 +1,6 @@
 -- Paths on which each node is the least that is a step nearer to the goal.
-use Rattle.std.proofs.Common.{◌≡◌, ◌⊎◌, inl, inr, ℕ, suc, ◌+◌, ◌<◌, ◌≤◌, refl, sym, ap, subst, ◌∙◌, arith, List, [], ◌∷◌, ◌++◌, length}
-use Rattle.std.specs.Prelude.{IsTrue, Option, Some}
-use Rattle.std.proofs.lemmas.Bool.{cases_lt}
-use Rattle.lab_order.specs.Arrows.{Arrows, has_arrow}
-use Rattle.lab_order.specs.Least.{NotAfter, IsLeast}
-use Rattle.lab_order.specs.Path.{Leads, IsPath, IsShortestPath}
-use Rattle.lab_order.specs.Steps.{steps_of, IsLeastNearer, LeadsNearer, IsNearerPath}
-use Rattle.lab_order.proofs.Layers.{AreSteps, near, no_shorter}
+use Rattle.std.{proofs.{Common.{◌≡◌, ◌⊎◌, inl, inr, ℕ, suc, ◌+◌, ◌<◌, ◌≤◌, refl, sym, ap, subst, ◌∙◌, arith, List, [], ◌∷◌, ◌++◌, length}, lemmas.Bool.{cases_lt}}, specs.Prelude.{IsTrue, Option, Some}}
+use Rattle.lab_order.{specs.{Arrows.{Arrows, has_arrow}, Least.{NotAfter, IsLeast}, Path.{Leads, IsPath, IsShortestPath}, Steps.{steps_of, IsLeastNearer, LeadsNearer, IsNearerPath}}, proofs.Layers.{AreSteps, near, no_shorter}}
 
 -- such a path with one step more
 pub still_nearer : (graph : Arrows) (notes : List (Option ℕ)) (from at : ℕ) (path new : List ℕ) (next : ℕ) → new ≡ path ++ next ∷ [] → IsNearerPath graph notes from at path

@@ -1,11 +1,7 @@
 -- What graphs with the same arrows have in common: the cycle on the way back, and the least shortest paths.
 use Rattle.std.proofs.Common.{ℕ, List, [], ◌∷◌}
-use Rattle.lab_order.specs.Arrows.{Arrows, IsArrow}
+use Rattle.lab_order.{specs.{Arrows.{Arrows, IsArrow}, Knots.{IsStuck, IsLeastStuck, IsBack, ComesBack, IsMet, IsBackCircle}, Least.{IsLess, IsLeast}, Path.{Leads, IsPath, IsShortestPath}}, proofs.Trails.{ring_of}}
 use Rattle.lab_order.specs.Back as back
-use Rattle.lab_order.specs.Knots.{IsStuck, IsLeastStuck, IsBack, ComesBack, IsMet, IsBackCircle}
-use Rattle.lab_order.specs.Least.{IsLess, IsLeast}
-use Rattle.lab_order.specs.Path.{Leads, IsPath, IsShortestPath}
-use Rattle.lab_order.proofs.Trails.{ring_of}
 
 -- arrows of one kind are of another
 abbrev pub AreOf : {X : Type 0} → (X → X → Type 0) → (X → X → Type 0) → Type 0

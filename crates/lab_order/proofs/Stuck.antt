@@ -1,17 +1,7 @@
 -- Nodes that no order can place, beside the marks of those that are placed.
-use Rattle.std.proofs.Common.{◌≡◌, ◌⊎◌, inl, inr, ℕ, zero, suc, ◌<◌, refl, sym, ap, ◌∙◌, arith, Bool, true, false, not, ◌&&◌, ◌||◌, List, [], ◌∷◌}
-use Rattle.std.specs.Prelude.{◌==◌, IsTrue, nat_lt}
-use Rattle.std.specs.List.{All, Contains, list_any}
-use Rattle.std.proofs.lemmas.Bool.{eqb-true, eq-eqb, both_ways, ltb-true, lt-ltb, or_cases, or_left, or_right}
-use Rattle.lab_order.specs.Arrows.{Arrows, nodes_of, before, has_arrow, IsArrow, IsGraph}
-use Rattle.lab_order.specs.Back.{IsStuck, IsBack}
-use Rattle.lab_order.specs.Knots.{AreKnotted, IsLeastStuck}
-use Rattle.lab_order.specs.Least.{IsLess}
-use Rattle.lab_order.specs.Order.{position, IsOrder}
-use Rattle.lab_order.specs.Placing.{is_marked, IsFree}
-use Rattle.lab_order.specs.Steps.{is_in}
-use Rattle.lab_order.proofs.Free.{arrow_from}
-use Rattle.lab_order.proofs.Positions.{IsPlacing}
+use Rattle.std.proofs.{Common.{◌≡◌, ◌⊎◌, inl, inr, ℕ, zero, suc, ◌<◌, refl, sym, ap, ◌∙◌, arith, Bool, true, false, not, ◌&&◌, ◌||◌, List, [], ◌∷◌}, lemmas.Bool.{eqb-true, eq-eqb, both_ways, ltb-true, lt-ltb, or_cases, or_left, or_right}}
+use Rattle.std.specs.{Prelude.{◌==◌, IsTrue, nat_lt}, List.{All, Contains, list_any}}
+use Rattle.lab_order.{specs.{Arrows.{Arrows, nodes_of, before, has_arrow, IsArrow, IsGraph}, Back.{IsStuck, IsBack}, Knots.{AreKnotted, IsLeastStuck}, Least.{IsLess}, Order.{position, IsOrder}, Placing.{is_marked, IsFree}, Steps.{is_in}}, proofs.{Free.{arrow_from}, Positions.{IsPlacing}}}
 
 -- of nodes that are knotted none stands before all others
 descends : (graph : Arrows) (order : List ℕ) (nodes : ℕ → Bool) → AreKnotted (IsArrow graph) nodes

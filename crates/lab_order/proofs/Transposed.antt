@@ -1,10 +1,6 @@
 -- Successors that are noted node by node.
-use Rattle.std.proofs.Common.{◌≡◌, ◌⊎◌, inl, inr, ℕ, ◌+◌, ◌<◌, ◌≤◌, refl, sym, ap, ◌∙◌, arith, Bool, true, false, cond, List, []}
-use Rattle.std.specs.Prelude.{◌==◌, nat_lt}
-use Rattle.std.proofs.lemmas.Bool.{eqb-true, eqb-false, cases_lt, lt-ltb, le-ltb}
-use Rattle.std.proofs.lemmas.List.{get_or_past}
-use Rattle.lab_order.specs.Arrows.{Arrows, nodes_of, before}
-use Rattle.lab_order.specs.Counts.{how_often, after, IsTransposed}
+use Rattle.std.{proofs.{Common.{◌≡◌, ◌⊎◌, inl, inr, ℕ, ◌+◌, ◌<◌, ◌≤◌, refl, sym, ap, ◌∙◌, arith, Bool, true, false, cond, List, []}, lemmas.{Bool.{eqb-true, eqb-false, cases_lt, lt-ltb, le-ltb}, List.{get_or_past}}}, specs.Prelude.{◌==◌, nat_lt}}
+use Rattle.lab_order.specs.{Arrows.{Arrows, nodes_of, before}, Counts.{how_often, after, IsTransposed}}
 
 module _ (graph : Arrows) (old : List (List ℕ)) (node : ℕ) (noted : (from to : ℕ) → how_often (after old from) to ≡ cond (nat_lt to node) (how_often (before graph to) from) 0) where
   -- one node more is noted

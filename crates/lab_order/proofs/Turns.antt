@@ -1,15 +1,8 @@
 -- Lists whose front is put behind.
 use Rattle.std.proofs.Common.{◌≡◌, ◌⊎◌, inl, inr, ℕ, zero, suc, ◌+◌, ◌<◌, ◌≤◌, refl, sym, ap, subst, ◌∙◌, arith, Bool, ◌||◌, List, [], ◌∷◌, ◌++◌, take, drop, length, get_or}
-use Rattle.std.specs.Prelude.{◌==◌, IsTrue}
-use Rattle.std.specs.List.{All, count_by, list_any}
-use Rattle.std.proofs.lemmas.Bool.{or_cases, or_left, or_right}
-use Rattle.std.proofs.lemmas.List.{take-append-drop}
-use Rattle.std.proofs.lemmas.List.Elements.{All-append, All-take, All-drop}
-use Rattle.std.proofs.lemmas.List.Folds.{list_any-append}
-use Rattle.std.proofs.lemmas.List.Sums.{sum_by-append}
-use Rattle.lab_order.specs.Steps.{is_in}
-use Rattle.lab_order.specs.Trails.{BeginsWithLeast}
-use Rattle.lab_order.proofs.MarkedCounts.{one_if}
+use Rattle.std.specs.{Prelude.{◌==◌, IsTrue}, List.{All, count_by, list_any}}
+use Rattle.std.proofs.lemmas.{Bool.{or_cases, or_left, or_right}, List.{take-append-drop, Elements.{All-append, All-take, All-drop}, Folds.{list_any-append}, Sums.{sum_by-append}}}
+use Rattle.lab_order.{specs.{Steps.{is_in}, Trails.{BeginsWithLeast}}, proofs.MarkedCounts.{one_if}}
 
 -- from a place on a list begins with what stands there
 from_there : (xs : List ℕ) (n : ℕ) → n < length xs → drop n xs ≡ get_or xs n 0 ∷ drop (suc n) xs

@@ -1,14 +1,7 @@
 -- How many predecessors nodes wait for, while nodes are placed.
-use Rattle.std.proofs.Common.{◌≡◌, ◌⊎◌, inl, inr, ℕ, ◌+◌, ◌-◌, ◌<◌, refl, sym, ap, subst, ◌∙◌, arith, Bool, true, false, cond, not, ◌&&◌, ◌≤◌, List, [], length, get_or, set}
-use Rattle.std.specs.Prelude.{◌==◌, nat_lt}
-use Rattle.std.specs.List.{All, count_by}
-use Rattle.std.proofs.lemmas.Bool.{eqb-true, eq-eqb, both_ways, cases_lt, lt-ltb, le-ltb, ltb-true}
-use Rattle.std.proofs.lemmas.List.{get_or_past}
-use Rattle.lab_order.specs.Arrows.{Arrows, nodes_of, before}
-use Rattle.lab_order.specs.Placing.{is_marked, IsFree}
-use Rattle.lab_order.specs.Counts.{how_often, after, IsTransposed, waits_of}
-use Rattle.lab_order.proofs.Writes.{set_read}
-use Rattle.lab_order.proofs.MarkedCounts.{one_if, none_below, none_counted, all_marked, stands_counted, waits_less, all_counted, not_again, becomes}
+use Rattle.std.proofs.{Common.{◌≡◌, ◌⊎◌, inl, inr, ℕ, ◌+◌, ◌-◌, ◌<◌, refl, sym, ap, subst, ◌∙◌, arith, Bool, true, false, cond, not, ◌&&◌, ◌≤◌, List, [], length, get_or, set}, lemmas.{Bool.{eqb-true, eq-eqb, both_ways, cases_lt, lt-ltb, le-ltb, ltb-true}, List.{get_or_past}}}
+use Rattle.std.specs.{Prelude.{◌==◌, nat_lt}, List.{All, count_by}}
+use Rattle.lab_order.{specs.{Arrows.{Arrows, nodes_of, before}, Placing.{is_marked, IsFree}, Counts.{how_often, after, IsTransposed, waits_of}}, proofs.{Writes.{set_read}, MarkedCounts.{one_if, none_below, none_counted, all_marked, stands_counted, waits_less, all_counted, not_again, becomes}}}
 
 -- how many predecessors of a node aren't placed
 abbrev pub unplaced_before : Arrows → List Bool → ℕ → ℕ

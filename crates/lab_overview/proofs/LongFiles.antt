@@ -1,7 +1,5 @@
 -- A history whose file would be too long isn't put in.
-use Rattle.std.proofs.Common.{◌≡◌, ◌<◌, ℕ, List, length, arith}
-use Rattle.std.specs.Prelude.{nat_le}
-use Rattle.std.proofs.lemmas.Bool.{cond-false, lt-leb}
+use Rattle.std.{proofs.{Common.{◌≡◌, ◌<◌, ℕ, List, length, arith}, lemmas.Bool.{cond-false, lt-leb}}, specs.Prelude.{nat_le}}
 use Rattle.lab_history.specs.Limits.{max_file_bytes}
 use Rattle.lab_overview.specs.Check.{file_text, no_file, shown_file}
 

@@ -1,6 +1,5 @@
 -- A text holds a part of a part of it.
-use Rattle.std.proofs.Common.{◌≡◌, ℕ, List, [], ◌++◌, refl, sym, ap, ◌∙◌, append_assoc}
-use Rattle.std.proofs.lemmas.List.{append-nil}
+use Rattle.std.proofs.{Common.{◌≡◌, ℕ, List, [], ◌++◌, refl, sym, ap, ◌∙◌, append_assoc}, lemmas.List.{append-nil}}
 use Rattle.lab_page.specs.Untagged.{Holds}
 
 -- a text holds itself

@@ -1,19 +1,12 @@
 -- The history stands in its page.
-use Rattle.std.proofs.Common.{◌≡◌, ℕ, true, false, cond, Option, List, ◌++◌, length, refl, sym, subst}
-use Rattle.std.specs.Prelude.{codes, nat_le}
+use Rattle.std.{proofs.Common.{◌≡◌, ℕ, true, false, cond, Option, List, ◌++◌, length, refl, sym, subst}, specs.Prelude.{codes, nat_le}}
 use Rattle.lab_history.specs.History.{History}
 use Rattle.lab_judge.specs.declared.report.Report.{Report}
 use Rattle.lab_picture.specs.Text.{escaped}
 use Rattle.lab_reports.specs.declared.phenomenon.Phenomenon.{Phenomenon}
-use Rattle.lab_evidence.specs.Rows.{rows_part}
-use Rattle.lab_evidence.specs.Scope.{Scope}
-use Rattle.lab_evidence.specs.Transactions.{transactions_text}
-use Rattle.lab_overview.specs.Check.{check_part, report_part, history_text, history_part, file_of, file_text, shown_file, no_file}
-use Rattle.lab_overview.specs.Tags.{history_head, file_open, page_close}
-use Rattle.lab_page.specs.Untagged.{Holds, Shows}
-use Rattle.lab_page.specs.Whole.{verdict_part, evidence_part, page_with}
-use Rattle.lab_page.proofs.Held.{itself, in_front, behind_it, within, front, back}
-use Rattle.lab_page.proofs.Untagging.{Closes, shown_behind}
+use Rattle.lab_evidence.specs.{Rows.{rows_part}, Scope.{Scope}, Transactions.{transactions_text}}
+use Rattle.lab_overview.specs.{Check.{check_part, report_part, history_text, history_part, file_of, file_text, shown_file, no_file}, Tags.{history_head, file_open, page_close}}
+use Rattle.lab_page.{specs.{Untagged.{Holds, Shows}, Whole.{verdict_part, evidence_part, page_with}}, proofs.{Held.{itself, in_front, behind_it, within, front, back}, Untagging.{Closes, shown_behind}}}
 
 file_closes : Closes file_open
 unfolding file_open

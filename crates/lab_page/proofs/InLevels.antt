@@ -1,21 +1,11 @@
 -- What stands among the levels and the phenomena.
-use Rattle.std.proofs.Common.{ℕ, List, [], ◌∷◌, ◌++◌}
-use Rattle.std.specs.Prelude.{codes, flat_map}
-use Rattle.std.specs.List.{AllByRecursion}
+use Rattle.std.{proofs.Common.{ℕ, List, [], ◌∷◌, ◌++◌}, specs.{Prelude.{codes, flat_map}, List.{AllByRecursion}}}
 use Rattle.lab_history.specs.History.{History}
 use Rattle.lab_judge.specs.declared.report.Report.{Report}
-use Rattle.lab_explain.specs.Names.{level_line}
-use Rattle.lab_explain.specs.Places.{places_sentence}
-use Rattle.lab_explain.specs.Sentences.{finding_sentence}
-use Rattle.lab_reports.specs.Phenomena.{phenomena}
-use Rattle.lab_reports.specs.declared.phenomenon.Phenomenon.{Phenomenon}
-use Rattle.lab_reports.specs.declared.phenomenon.Phenomenon.TheVariants.{G0, G1a, G1b, G1c, GSingle, G2Item, G2}
-use Rattle.lab_overview.specs.Levels.{finding_cell, meaning_cells, phenomenon_line, phenomena_text, levels_open, ladder_of, levels_text}
-use Rattle.lab_overview.specs.Sentences.{led_text, paragraph_text}
-use Rattle.lab_overview.specs.Phrases.{phenomena_open}
-use Rattle.lab_overview.specs.Tags.{finding_open}
-use Rattle.lab_page.specs.Untagged.{Holds}
-use Rattle.lab_page.proofs.Held.{in_front, within, front, back}
+use Rattle.lab_explain.specs.{Names.{level_line}, Places.{places_sentence}, Sentences.{finding_sentence}}
+use Rattle.lab_reports.specs.{Phenomena.{phenomena}, declared.phenomenon.Phenomenon.{Phenomenon, TheVariants.{G0, G1a, G1b, G1c, GSingle, G2Item, G2}}}
+use Rattle.lab_overview.specs.{Levels.{finding_cell, meaning_cells, phenomenon_line, phenomena_text, levels_open, ladder_of, levels_text}, Sentences.{led_text, paragraph_text}, Phrases.{phenomena_open}, Tags.{finding_open}}
+use Rattle.lab_page.{specs.Untagged.{Holds}, proofs.Held.{in_front, within, front, back}}
 
 -- a sentence stands in its cell
 led_in_cell : (sentence : List ℕ) → Holds (finding_cell sentence) (led_text sentence)

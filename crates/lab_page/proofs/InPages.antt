@@ -1,39 +1,20 @@
 -- What stands in a page.
-use Rattle.std.proofs.Common.{◌≡◌, ◌≤◌, ℕ, Bool, true, false, cond, Option, None, List, [], ◌++◌, length, refl, sym, subst}
-use Rattle.std.specs.Prelude.{codes, Contains, nat_le}
-use Rattle.std.proofs.lemmas.Bool.{le-leb}
-use Rattle.std.proofs.lemmas.List.Elements.{All-contains}
+use Rattle.std.{proofs.{Common.{◌≡◌, ◌≤◌, ℕ, Bool, true, false, cond, Option, None, List, [], ◌++◌, length, refl, sym, subst}, lemmas.{Bool.{le-leb}, List.Elements.{All-contains}}}, specs.Prelude.{codes, Contains, nat_le}}
 use Rattle.lab_history.specs.History.{History}
-use Rattle.lab_deps.specs.declared.edge.Edge.{Edge}
-use Rattle.lab_deps.specs.declared.fault.LocalFault.{LocalFault}
-use Rattle.lab_judge.specs.ReportText.{report_text}
-use Rattle.lab_judge.specs.declared.report.Report.{Report}
-use Rattle.lab_judge.specs.declared.serial.Serial.TheVariants.{NoFault}
-use Rattle.lab_picture.specs.Sketch.{drawing_of}
-use Rattle.lab_picture.specs.Text.{escaped}
-use Rattle.lab_explain.specs.Faults.{recorded_text, due_text}
-use Rattle.lab_explain.specs.Names.{level_line}
-use Rattle.lab_explain.specs.Places.{places_sentence}
-use Rattle.lab_explain.specs.Sentences.{edge_sentence, mistake_text, finding_sentence}
+use Rattle.lab_deps.specs.declared.{edge.Edge.{Edge}, fault.LocalFault.{LocalFault}}
+use Rattle.lab_judge.specs.{ReportText.{report_text}, declared.{report.Report.{Report}, serial.Serial.TheVariants.{NoFault}}}
+use Rattle.lab_picture.specs.{Sketch.{drawing_of}, Text.{escaped}}
+use Rattle.lab_explain.specs.{Faults.{recorded_text, due_text}, Names.{level_line}, Places.{places_sentence}, Sentences.{edge_sentence, mistake_text, finding_sentence}}
 use Rattle.lab_reports.specs.declared.phenomenon.Phenomenon.{Phenomenon}
 use Rattle.lab_overview.specs.Check.{check_part, report_part, history_part, file_of}
 use Rattle.lab_overview.specs.Figure.{figure_text, drawn_text, is_wide, fold_open, picture_open, picture_close, fold_close, no_picture}
 use Rattle.lab_overview.specs.Head.{head_text, header_text}
 use Rattle.lab_overview.specs.Levels.{levels_text}
 use Rattle.lab_overview.specs.Sentences.{led_text, paragraph_text}
-use Rattle.lab_evidence.specs.Questions.{told_cycle, shown_steps}
-use Rattle.lab_evidence.specs.Rows.{rows_part}
-use Rattle.lab_evidence.specs.Scope.{Scope}
-use Rattle.lab_page.specs.Tags.{opening_open, sentences_close, why_close}
+use Rattle.lab_evidence.specs.{Questions.{told_cycle, shown_steps}, Rows.{rows_part}, Scope.{Scope}, Transactions.{transactions_text}}
+use Rattle.lab_page.specs.{Tags.{opening_open, sentences_close, why_close}, Untagged.{Holds, Shows}, Why.{opening_of, opening_text, edge_items, fault_items, behind_steps, steps_text, heading_of, why_open, sentences_text, why_told, why_drawn, why_text}, Whole.{verdict_part, evidence_part, page_with}}
 use Rattle.lab_overview.specs.Tags.{report_head}
-use Rattle.lab_evidence.specs.Transactions.{transactions_text}
-use Rattle.lab_page.specs.Untagged.{Holds, Shows}
-use Rattle.lab_page.specs.Why.{opening_of, opening_text, edge_items, fault_items, behind_steps, steps_text, heading_of, why_open, sentences_text, why_told, why_drawn, why_text}
-use Rattle.lab_page.specs.Whole.{verdict_part, evidence_part, page_with}
-use Rattle.lab_page.proofs.Held.{in_front, behind_it, within, front, back}
-use Rattle.lab_page.proofs.InLevels.{level_in_levels, places_in_levels, led_in_levels}
-use Rattle.lab_page.proofs.InSteps.{recorded_held, due_held, mistake_held, edges_led, items_in_steps, fault_in_steps}
-use Rattle.lab_page.proofs.Untagging.{Closes, shown_behind, shown_led}
+use Rattle.lab_page.proofs.{Held.{in_front, behind_it, within, front, back}, InLevels.{level_in_levels, places_in_levels, led_in_levels}, InSteps.{recorded_held, due_held, mistake_held, edges_led, items_in_steps, fault_in_steps}, Untagging.{Closes, shown_behind, shown_led}}
 
 opening_closes : Closes opening_open
 unfolding opening_open

@@ -1,24 +1,14 @@
 -- What stands in the steps of a verdict.
-use Rattle.std.proofs.Common.{◌≡◌, ℕ, ◌+◌, Option, None, List, [], ◌∷◌, ◌++◌, sym, subst}
-use Rattle.std.specs.Prelude.{codes}
-use Rattle.std.specs.List.{All}
-use Rattle.std.proofs.lemmas.List.Elements.{All-nil, All-cons}
+use Rattle.std.{proofs.{Common.{◌≡◌, ℕ, ◌+◌, Option, None, List, [], ◌∷◌, ◌++◌, sym, subst}, lemmas.List.Elements.{All-nil, All-cons}}, specs.{Prelude.{codes}, List.{All}}}
 use Rattle.lab_history.specs.History.{History}
-use Rattle.lab_deps.specs.declared.edge.Edge.{Edge}
-use Rattle.lab_deps.specs.declared.fault.LocalFault.{LocalFault}
-use Rattle.lab_judge.specs.declared.report.Report.{Report}
-use Rattle.lab_judge.specs.declared.serial.Serial.TheVariants.{NoFault}
+use Rattle.lab_deps.specs.declared.{edge.Edge.{Edge}, fault.LocalFault.{LocalFault}}
+use Rattle.lab_judge.specs.declared.{report.Report.{Report}, serial.Serial.TheVariants.{NoFault}}
 use Rattle.lab_picture.specs.Making.{arrow_of}
-use Rattle.lab_explain.specs.Faults.{recorded_text, due_text}
-use Rattle.lab_explain.specs.Sentences.{edge_sentence, mistake_text}
+use Rattle.lab_explain.specs.{Faults.{recorded_text, due_text}, Sentences.{edge_sentence, mistake_text}}
 use Rattle.lab_reports.specs.declared.phenomenon.Phenomenon.{Phenomenon}
 use Rattle.lab_overview.specs.Sentences.{led_text}
-use Rattle.lab_evidence.specs.Questions.{told_cycle, shown_steps}
-use Rattle.lab_evidence.specs.Scope.{Scope}
-use Rattle.lab_page.specs.Tags.{steps_open}
-use Rattle.lab_page.specs.Untagged.{Holds}
-use Rattle.lab_page.specs.Why.{item_head, item_text, below_by, edge_items, edge_item, recorded_item, due_item, mistake_item, fault_items, fault_steps, serial_items, steps_text}
-use Rattle.lab_page.proofs.Held.{itself, in_front, behind_it, within, front, back}
+use Rattle.lab_evidence.specs.{Questions.{told_cycle, shown_steps}, Scope.{Scope}}
+use Rattle.lab_page.{specs.{Tags.{steps_open}, Untagged.{Holds}, Why.{item_head, item_text, below_by, edge_items, edge_item, recorded_item, due_item, mistake_item, fault_items, fault_steps, serial_items, steps_text}}, proofs.Held.{itself, in_front, behind_it, within, front, back}}
 
 -- a step has its sentence
 item_led : (step : ℕ) (sentence below : List ℕ) → Holds (item_text step sentence below) (led_text sentence)

@@ -1,17 +1,11 @@
 -- A history has one page.
-use Rattle.std.proofs.Common.{◌≡◌, ℕ, List, Option, sym, ap, subst, ◌∙◌}
+use Rattle.std.proofs.Common.{◌≡◌, ℕ, List, Option, sym, ap, subst, ◌∙◌, refl}
 use Rattle.lab_history.specs.History.{History}
-use Rattle.lab_judge.proofs.OneJudgement.{one_judgement}
-use Rattle.lab_judge.specs.declared.report.Report.{Report}
-use Rattle.lab_picture.specs.Drawn.{IsPictureWith}
-use Rattle.lab_picture.specs.Picture.{IsPictureOf, Pictures}
-use Rattle.lab_picture.proofs.OnePicture.{one_picture}
+use Rattle.lab_judge.{proofs.OneJudgement.{one_judgement}, specs.declared.report.Report.{Report}}
+use Rattle.lab_picture.{specs.{Drawn.{IsPictureWith}, Picture.{IsPictureOf, Pictures}}, proofs.OnePicture.{one_picture}}
 use Rattle.lab_reports.specs.declared.phenomenon.Phenomenon.{Phenomenon}
-use Rattle.lab_streams.specs.declared.ending.Ending.{Ending}
-use Rattle.lab_streams.specs.declared.ending.Ending.TheVariants.{Done}
-use Rattle.lab_page.specs.Answer.{IsPageOf, Pages}
-use Rattle.lab_page.specs.Whole.{page_text}
-use Rattle.std.proofs.Common.{refl}
+use Rattle.lab_streams.specs.declared.ending.Ending.{Ending, TheVariants.{Done}}
+use Rattle.lab_page.specs.{Answer.{IsPageOf, Pages}, Whole.{page_text}}
 
 -- the picture of a page's report is that of its history
 of_history : (history : History) (asked : Option Phenomenon) (title text : List ℕ) → (p : IsPageOf history asked title text) → IsPictureOf history asked p.picture

@@ -1,9 +1,7 @@
 -- An escaped text, read back.
-use Rattle.std.proofs.Common.{◌≡◌, ℕ, ◌==◌, Bool, true, false, cond, List, [], ◌∷◌, ◌++◌, refl, sym, ap, ◌∙◌}
-use Rattle.std.specs.Prelude.{codes}
+use Rattle.std.{proofs.{Common.{◌≡◌, ℕ, ◌==◌, Bool, true, false, cond, List, [], ◌∷◌, ◌++◌, refl, sym, ap, ◌∙◌}, lemmas.Bool.{eqb-true}}, specs.Prelude.{codes}}
 use Rattle.lab_picture.specs.Text.{escaped, escaped_byte}
 use Rattle.lab_page.specs.Untagged.{read_from, read_back, named_from, names_bytes}
-use Rattle.std.proofs.lemmas.Bool.{eqb-true}
 
 -- a byte is read back, before what stands behind it
 byte_by : (b : ℕ) (ys : List ℕ) (less more amp quote : Bool) → (b == 60) ≡ less → (b == 62) ≡ more → (b == 38) ≡ amp → (b == 34) ≡ quote

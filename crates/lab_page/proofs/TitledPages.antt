@@ -1,11 +1,7 @@
 -- Where a title stands in its page.
-use Rattle.std.proofs.Common.{◌≡◌, ◌≢◌, ℕ, ◌==◌, Bool, true, false, cond, Option, List, [], ◌++◌, length, refl, sym, ap, subst, ◌∙◌, append_assoc}
-use Rattle.std.specs.Prelude.{codes}
-use Rattle.std.proofs.lemmas.Bool.{eqb-true}
-use Rattle.std.proofs.lemmas.List.{append-nil}
+use Rattle.std.{proofs.{Common.{◌≡◌, ◌≢◌, ℕ, ◌==◌, Bool, true, false, cond, Option, List, [], ◌++◌, length, refl, sym, ap, subst, ◌∙◌, append_assoc}, lemmas.{Bool.{eqb-true}, List.{append-nil}}}, specs.Prelude.{codes}}
 use Rattle.lab_history.specs.History.{History}
-use Rattle.lab_judge.specs.declared.report.Grade.{Grade}
-use Rattle.lab_judge.specs.declared.report.Report.{Report}
+use Rattle.lab_judge.specs.declared.report.{Grade.{Grade}, Report.{Report}}
 use Rattle.lab_picture.specs.Text.{escaped}
 use Rattle.lab_reports.specs.declared.phenomenon.Phenomenon.{Phenomenon}
 use Rattle.lab_evidence.specs.Scope.{Scope}
@@ -14,12 +10,7 @@ use Rattle.lab_overview.specs.Levels.{levels_text}
 use Rattle.lab_overview.specs.Phrases.{nav_text}
 use Rattle.lab_overview.specs.Style.{style_text}
 use Rattle.lab_overview.specs.Tags.{title_open}
-use Rattle.lab_page.specs.Titled.{HasTitlesEscaped}
-use Rattle.lab_page.specs.Untagged.{Holds, Shows}
-use Rattle.lab_page.specs.Why.{why_text}
-use Rattle.lab_page.specs.Whole.{verdict_part, evidence_part, page_with}
-use Rattle.lab_page.proofs.Held.{itself, in_front, behind_it, within, front}
-use Rattle.lab_page.proofs.Untagging.{Closes, shown_behind}
+use Rattle.lab_page.{specs.{Titled.{HasTitlesEscaped}, Untagged.{Holds, Shows}, Why.{why_text}, Whole.{verdict_part, evidence_part, page_with}}, proofs.{Held.{itself, in_front, behind_it, within, front}, Untagging.{Closes, shown_behind}}}
 
 -- texts under titles that have them once
 abbrev Once : (List ℕ → List ℕ) → Type 0

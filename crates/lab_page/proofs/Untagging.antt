@@ -1,12 +1,6 @@
 -- What stands in a page once its tags are taken away.
-use Rattle.std.proofs.Common.{◌≡◌, ℕ, ◌==◌, Bool, true, false, not, ◌&&◌, cond, List, [], ◌∷◌, ◌++◌, take, drop, refl, sym, ap, subst, ◌∙◌, append_assoc}
-use Rattle.std.specs.Prelude.{codes, flat_map}
-use Rattle.std.specs.List.{list_all}
-use Rattle.std.proofs.lemmas.Bool.{and_parts}
-use Rattle.std.proofs.lemmas.Grind.{flat_map-append}
-use Rattle.std.proofs.lemmas.List.{take-append-drop, append-nil}
-use Rattle.lab_picture.specs.Text.{escaped, escaped_byte, is_plain}
-use Rattle.lab_picture.proofs.Escapes.{no_markup}
+use Rattle.std.{proofs.{Common.{◌≡◌, ℕ, ◌==◌, Bool, true, false, not, ◌&&◌, cond, List, [], ◌∷◌, ◌++◌, take, drop, refl, sym, ap, subst, ◌∙◌, append_assoc}, lemmas.{Bool.{and_parts}, Grind.{flat_map-append}, List.{take-append-drop, append-nil}}}, specs.{Prelude.{codes, flat_map}, List.{list_all}}}
+use Rattle.lab_picture.{specs.Text.{escaped, escaped_byte, is_plain}, proofs.Escapes.{no_markup}}
 use Rattle.lab_overview.specs.Sentences.{lead_length, led_text, paragraph_text}
 use Rattle.lab_page.specs.Untagged.{is_inside, kept, untagged, Holds, Shows}
 

@@ -1,19 +1,8 @@
 -- Faults of operations of two parts are faults of the part that has them.
-use Rattle.std.proofs.Common.{◌≡◌, ℕ, ◌-◌, ◌<◌, ◌≤◌, Option, Some, None, take, length, ◌⊎◌, inl, inr, refl, sym, ap, ◌∙◌, arith}
-use Rattle.std.proofs.lemmas.List.{take-map}
-use Rattle.std.proofs.lemmas.Option.{none-some, same_Some, slice_get_within}
-use Rattle.lab_table.specs.Row.{Row}
-use Rattle.lab_table.specs.Statement.{listed, written, fails}
-use Rattle.lab_history.specs.History.{History}
-use Rattle.lab_history.specs.Version.{ops_of, outcome_of, viewed, version_state, last_write, installers}
-use Rattle.lab_history.specs.declared.transaction.Outcome.{Outcome}
-use Rattle.lab_history.specs.declared.transaction.Outcome.TheVariants.{Committed, Aborted}
-use Rattle.lab_history.specs.declared.operation.Op.{Op}
-use Rattle.lab_history.specs.declared.operation.VersionName.{VersionName}
-use Rattle.lab_history.specs.declared.operation.VersionName.TheVariants.{Initial, Of}
-use Rattle.lab_deps.specs.Soundness.{IsSound, IsCommittedOp, IsDangling, SeesAborted, SeesIntermediate, MissesOwn, SeesLater, ListsOther, WritesOther}
-use Rattle.lab_deps.specs.declared.kind.OpFault.{OpFault}
-use Rattle.lab_deps.specs.declared.kind.OpFault.TheVariants.{Dangling, AbortedRead, IntermediateRead, OwnWriteMissed, LaterThanOwn, RowsDiffer, WritesDiffer}
+use Rattle.std.proofs.{Common.{◌≡◌, ℕ, ◌-◌, ◌<◌, ◌≤◌, Option, Some, None, take, length, ◌⊎◌, inl, inr, refl, sym, ap, ◌∙◌, arith}, lemmas.{List.{take-map}, Option.{none-some, same_Some, slice_get_within}}}
+use Rattle.lab_table.specs.{Row.{Row}, Statement.{listed, written, fails}}
+use Rattle.lab_history.specs.{History.{History}, Version.{ops_of, outcome_of, viewed, version_state, last_write, installers}, declared.{transaction.Outcome.{Outcome, TheVariants.{Committed, Aborted}}, operation.{Op.{Op}, VersionName.{VersionName, TheVariants.{Initial, Of}}}}}
+use Rattle.lab_deps.specs.{Soundness.{IsSound, IsCommittedOp, IsDangling, SeesAborted, SeesIntermediate, MissesOwn, SeesLater, ListsOther, WritesOther}, declared.kind.OpFault.{OpFault, TheVariants.{Dangling, AbortedRead, IntermediateRead, OwnWriteMissed, LaterThanOwn, RowsDiffer, WritesDiffer}}}
 use Rattle.lab_parts.specs.Whole.{above_all, moved, moved_version, moved_op, joined}
 use Rattle.lab_parts.proofs.JoinedTxns.{outcome_first, outcome_second, ops_first, ops_second, last_first, last_second, last_write_moved, version_first, version_second, committed_below}
 use Rattle.lab_parts.proofs.JoinedInstallers.{viewed-moved}

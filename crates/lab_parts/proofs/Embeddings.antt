@@ -1,16 +1,9 @@
 -- Dependencies where one history stands in another, with other numbers and places.
-use Rattle.std.proofs.Common.{◌≡◌, ℕ, suc, ◌+◌, ◌<◌, true, length, sym, ap, ◌∙◌, subst, arith}
-use Rattle.std.specs.Prelude.{IsSome}
+use Rattle.std.{proofs.{Common.{◌≡◌, ℕ, suc, ◌+◌, ◌<◌, true, length, sym, ap, ◌∙◌, subst, arith}, lemmas.Option.{slice_get_within}}, specs.Prelude.{IsSome}}
 use Rattle.std.specs.FinMap as map
-use Rattle.std.proofs.lemmas.Option.{slice_get_within}
-use Rattle.lab_table.specs.Row.{Row}
-use Rattle.lab_table.specs.declared.statement.Statement.{Statement}
-use Rattle.lab_history.specs.History.{History}
-use Rattle.lab_history.specs.Version.{IsCommitted, installers}
-use Rattle.lab_history.specs.declared.operation.Op.{Op}
-use Rattle.lab_deps.specs.Edges.{changes, SeesPlace, InstallsAt, Lists, Depends}
-use Rattle.lab_deps.specs.declared.edge.Kind.{Kind}
-use Rattle.lab_deps.specs.declared.edge.Kind.TheVariants.{Write, ItemRead, PredicateRead, ItemAnti, PredicateAnti}
+use Rattle.lab_table.specs.{Row.{Row}, declared.statement.Statement.{Statement}}
+use Rattle.lab_history.specs.{History.{History}, Version.{IsCommitted, installers}, declared.operation.Op.{Op}}
+use Rattle.lab_deps.specs.{Edges.{changes, SeesPlace, InstallsAt, Lists, Depends}, declared.edge.Kind.{Kind, TheVariants.{Write, ItemRead, PredicateRead, ItemAnti, PredicateAnti}}}
 
 -- what a transaction of the whole sees is what one of the history sees
 pub record SeesUp (h : History) (made : Op → Op) (start : Row → ℕ) (n : ℕ) (op : Op) (row : Row) (v : ℕ) : Type 0 where

@@ -1,25 +1,10 @@
 -- The dependencies of two sound parts that fit: those of each, and some that lead from the first to the second.
-use Rattle.std.proofs.Common.{◌≡◌, ℕ, suc, ◌<◌, ◌≤◌, ◌==◌, Bool, true, false, cond, Option, Some, None, length, ◌⊎◌, inl, inr, sym, ap, ◌∙◌, subst, arith}
-use Rattle.std.specs.Prelude.{slice_get}
-use Rattle.std.proofs.lemmas.Option.{none-some, same_Some, slice_get_within}
+use Rattle.std.{proofs.{Common.{◌≡◌, ℕ, suc, ◌<◌, ◌≤◌, ◌==◌, Bool, true, false, cond, Option, Some, None, length, ◌⊎◌, inl, inr, sym, ap, ◌∙◌, subst, arith}, lemmas.Option.{none-some, same_Some, slice_get_within}}, specs.Prelude.{slice_get}}
 use Rattle.lab_table.specs.Row.{Row}
-use Rattle.lab_history.specs.History.{History}
-use Rattle.lab_history.specs.Version.{IsCommitted, outcome_of, viewed, installers, place_in}
-use Rattle.lab_history.specs.declared.operation.Op.{Op}
-use Rattle.lab_history.specs.declared.operation.VersionName.{VersionName}
-use Rattle.lab_history.specs.declared.operation.VersionName.TheVariants.{Initial, Of}
-use Rattle.lab_deps.specs.Soundness.{IsSound}
-use Rattle.lab_deps.specs.Edges.{place_of, SeesPlace, Depends, IsEdge}
-use Rattle.lab_deps.specs.declared.edge.Edge.{Edge}
-use Rattle.lab_deps.specs.declared.edge.Kind.{Kind}
-use Rattle.lab_deps.specs.declared.edge.Kind.TheVariants.{Write, ItemRead, PredicateRead, ItemAnti, PredicateAnti}
-use Rattle.lab_deps.proofs.Places.{place_there}
-use Rattle.lab_parts.specs.Whole.{above_all, moved, joined}
-use Rattle.lab_parts.specs.WholeEdges.{moved_edge}
-use Rattle.lab_parts.proofs.JoinedTxns.{first_or_second, outcome_first, outcome_second, committed_below}
-use Rattle.lab_parts.proofs.JoinedInstalls.{first_at, second_at}
-use Rattle.lab_parts.proofs.Embeddings.{Embeds, depends_up, depends_down}
-use Rattle.lab_parts.proofs.JoinedEmbeddings.{first_embeds, second_embeds}
+use Rattle.lab_history.specs.{History.{History}, Version.{IsCommitted, outcome_of, viewed, installers, place_in}, declared.operation.{Op.{Op}, VersionName.{VersionName, TheVariants.{Initial, Of}}}}
+use Rattle.lab_deps.{specs.{Soundness.{IsSound}, Edges.{place_of, SeesPlace, Depends, IsEdge}, declared.edge.{Edge.{Edge}, Kind.{Kind, TheVariants.{Write, ItemRead, PredicateRead, ItemAnti, PredicateAnti}}}}, proofs.Places.{place_there}}
+use Rattle.lab_parts.specs.{Whole.{above_all, moved, joined}, WholeEdges.{moved_edge}}
+use Rattle.lab_parts.proofs.{JoinedTxns.{first_or_second, outcome_first, outcome_second, committed_below}, JoinedInstalls.{first_at, second_at}, Embeddings.{Embeds, depends_up, depends_down}, JoinedEmbeddings.{first_embeds, second_embeds}}
 
 -- no operation sees a version behind the last
 sees_within : (h : History) (n : ℕ) (op : Op) (row : Row) (v : ℕ) → SeesPlace h n op row v → v ≤ length (installers h row)

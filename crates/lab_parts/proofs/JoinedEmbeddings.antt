@@ -1,18 +1,8 @@
 -- Each of two parts stands in both together: the first with its own numbers, the second behind it.
-use Rattle.std.proofs.Common.{◌≡◌, ℕ, suc, ◌+◌, ◌<◌, ◌==◌, Bool, true, false, cond, Some, None, map, length, ◌⊎◌, inl, inr, refl, sym, ap, ◌∙◌, arith, zero-add}
-use Rattle.std.specs.Prelude.{slice_get, option_map}
-use Rattle.std.proofs.lemmas.Bool.{ne_eqb}
-use Rattle.lab_table.specs.Row.{Row}
-use Rattle.lab_table.specs.Statement.{matches}
-use Rattle.lab_table.specs.declared.statement.Statement.{Statement}
-use Rattle.lab_table.proofs.Tests.{mapped_some}
-use Rattle.lab_history.specs.History.{History}
-use Rattle.lab_history.specs.Version.{viewed, installers, place_in}
-use Rattle.lab_history.specs.declared.operation.Op.{Op}
-use Rattle.lab_history.specs.declared.operation.VersionName.{VersionName}
-use Rattle.lab_history.specs.declared.operation.VersionName.TheVariants.{Initial, Of}
-use Rattle.lab_deps.specs.Soundness.{IsSound, IsCommittedOp}
-use Rattle.lab_deps.specs.Edges.{differ, changes, place_of, SeesPlace}
+use Rattle.std.{proofs.{Common.{◌≡◌, ℕ, suc, ◌+◌, ◌<◌, ◌==◌, Bool, true, false, cond, Some, None, map, length, ◌⊎◌, inl, inr, refl, sym, ap, ◌∙◌, arith, zero-add}, lemmas.Bool.{ne_eqb}}, specs.Prelude.{slice_get, option_map}}
+use Rattle.lab_table.{specs.{Row.{Row}, Statement.{matches}, declared.statement.Statement.{Statement}}, proofs.Tests.{mapped_some}}
+use Rattle.lab_history.specs.{History.{History}, Version.{viewed, installers, place_in}, declared.operation.{Op.{Op}, VersionName.{VersionName, TheVariants.{Initial, Of}}}}
+use Rattle.lab_deps.specs.{Soundness.{IsSound, IsCommittedOp}, Edges.{differ, changes, place_of, SeesPlace}}
 use Rattle.lab_parts.specs.Whole.{above_all, moved, seam_version, moved_version, moved_op, joined}
 use Rattle.lab_parts.proofs.JoinedTxns.{same_behind, op_first, op_second, op_from_second, committed_below}
 use Rattle.lab_parts.proofs.JoinedLists.{at_left, at_right, at_moved}

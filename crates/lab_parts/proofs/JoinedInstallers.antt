@@ -1,17 +1,7 @@
 -- Who installed a row in two parts, and which version a moved operation sees.
-use Rattle.std.proofs.Common.{◌≡◌, ℕ, true, false, cond, Option, Some, None, List, [], ◌∷◌, ◌++◌, map, refl, sym, ap, ◌∙◌}
-use Rattle.std.specs.Prelude.{unwrap_or, option_map}
-use Rattle.std.specs.Option.{option_or}
-use Rattle.std.specs.List.{last_or}
-use Rattle.std.specs.FinMap.{find, get, entries, get-entries, get-from_entries}
-use Rattle.std.proofs.lemmas.List.{append-nil}
-use Rattle.lab_table.specs.Row.{Row, row_cmp, row_eq, rows_total}
-use Rattle.lab_table.proofs.Maps.{same_row}
-use Rattle.lab_history.specs.History.{History}
-use Rattle.lab_history.specs.Version.{installers, viewed}
-use Rattle.lab_history.specs.declared.operation.Op.{Op}
-use Rattle.lab_history.specs.declared.operation.VersionName.{VersionName}
-use Rattle.lab_history.specs.declared.operation.VersionName.TheVariants.{Initial}
+use Rattle.std.{proofs.{Common.{◌≡◌, ℕ, true, false, cond, Option, Some, None, List, [], ◌∷◌, ◌++◌, map, refl, sym, ap, ◌∙◌}, lemmas.List.{append-nil}}, specs.{Prelude.{unwrap_or, option_map}, Option.{option_or}, List.{last_or}, FinMap.{find, get, entries, get-entries, get-from_entries}}}
+use Rattle.lab_table.{specs.Row.{Row, row_cmp, row_eq, rows_total}, proofs.Maps.{same_row}}
+use Rattle.lab_history.specs.{History.{History}, Version.{installers, viewed}, declared.operation.{Op.{Op}, VersionName.{VersionName, TheVariants.{Initial}}}}
 use Rattle.lab_parts.specs.Whole.{moved, left_version, seam_version, moved_version, moved_op, joined}
 
 -- in two lists of entries a row is found in the first, or else in the second

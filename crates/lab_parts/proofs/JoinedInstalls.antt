@@ -1,14 +1,9 @@
 -- Who installs a row at a place of two parts.
-use Rattle.std.proofs.Common.{◌≡◌, ℕ, ◌+◌, ◌<◌, Some, length, sym, ap, ◌∙◌}
-use Rattle.std.specs.Prelude.{slice_get}
+use Rattle.std.{proofs.Common.{◌≡◌, ℕ, ◌+◌, ◌<◌, Some, length, sym, ap, ◌∙◌}, specs.Prelude.{slice_get}}
 use Rattle.lab_table.specs.Row.{Row}
-use Rattle.lab_history.specs.History.{History}
-use Rattle.lab_history.specs.Version.{installers}
+use Rattle.lab_history.specs.{History.{History}, Version.{installers}}
 use Rattle.lab_deps.specs.Soundness.{IsSound}
-use Rattle.lab_parts.specs.Whole.{above_all, moved, joined}
-use Rattle.lab_parts.proofs.JoinedLists.{low_at, high_at}
-use Rattle.lab_parts.proofs.JoinedInstallers.{installers-joined}
-use Rattle.lab_parts.proofs.SoundParts.{installers_below}
+use Rattle.lab_parts.{specs.Whole.{above_all, moved, joined}, proofs.{JoinedLists.{low_at, high_at}, JoinedInstallers.{installers-joined}, SoundParts.{installers_below}}}
 
 module _ (a b : History) where
   -- a number of the first part that installs a row does so there

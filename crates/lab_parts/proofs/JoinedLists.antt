@@ -1,9 +1,5 @@
 -- Lists of numbers, those of one below a bound, and behind them those of another, moved above it.
-use Rattle.std.proofs.Common.{◌≡◌, ℕ, zero, suc, ◌+◌, ◌<◌, cond, Option, Some, List, [], ◌∷◌, ◌++◌, map, length, ◌⊎◌, inl, inr, refl, sym, ap, ◌∙◌, arith}
-use Rattle.std.specs.Prelude.{slice_get, option_map}
-use Rattle.std.specs.List.{last_or}
-use Rattle.std.proofs.lemmas.Bool.{ne_eqb}
-use Rattle.std.proofs.lemmas.Option.{none-some, slice_get-map}
+use Rattle.std.{proofs.{Common.{◌≡◌, ℕ, zero, suc, ◌+◌, ◌<◌, cond, Option, Some, List, [], ◌∷◌, ◌++◌, map, length, ◌⊎◌, inl, inr, refl, sym, ap, ◌∙◌, arith}, lemmas.{Bool.{ne_eqb}, Option.{none-some, slice_get-map}}}, specs.{Prelude.{slice_get, option_map}, List.{last_or}}}
 use Rattle.lab_table.proofs.Tests.{mapped_some}
 use Rattle.lab_parts.proofs.JoinedTxns.{same_behind}
 use Rattle.lab_deps.proofs.Places.{times}

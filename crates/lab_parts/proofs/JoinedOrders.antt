@@ -1,19 +1,9 @@
 -- A run in an order and one behind it are a run in both orders, one behind the other.
-use Rattle.std.proofs.Common.{◌≡◌, ℕ, ◌+◌, ◌<◌, ◌≤◌, ◌==◌, cond, List, ◌++◌, map, sym, ap, ◌∙◌, subst, arith, ◌⊎◌, inl, inr}
-use Rattle.std.specs.Prelude.{count_by, flat_map}
-use Rattle.std.proofs.lemmas.Bool.{cases_lt}
-use Rattle.lab_history.specs.History.{History}
-use Rattle.lab_history.specs.Version.{outcome_of, ops_of}
-use Rattle.lab_history.specs.declared.operation.Op.{Op}
-use Rattle.lab_deps.proofs.Places.{times, times_count}
-use Rattle.lab_deps.specs.Soundness.{has_committed}
-use Rattle.lab_judge.specs.Runs.{HoldsEachOnce, table_after, RunAsRecorded, IsSerialRun}
-use Rattle.lab_judge.proofs.AppendedRuns.{table_after-append, run-append}
-use Rattle.lab_judge.proofs.CountedNumbers.{times-append}
-use Rattle.lab_parts.specs.Whole.{above_all, moved, moved_op, joined}
-use Rattle.lab_parts.proofs.JoinedTxns.{nobody_above, first_or_second, outcome_first, outcome_second}
-use Rattle.lab_parts.proofs.MovedRuns.{table_moved, run_moved, all_of_both}
-use Rattle.lab_parts.proofs.NumbersBehind.{times_behind, times_before}
+use Rattle.std.{proofs.{Common.{◌≡◌, ℕ, ◌+◌, ◌<◌, ◌≤◌, ◌==◌, cond, List, ◌++◌, map, sym, ap, ◌∙◌, subst, arith, ◌⊎◌, inl, inr}, lemmas.Bool.{cases_lt}}, specs.Prelude.{count_by, flat_map}}
+use Rattle.lab_history.specs.{History.{History}, Version.{outcome_of, ops_of}, declared.operation.Op.{Op}}
+use Rattle.lab_deps.{proofs.Places.{times, times_count}, specs.Soundness.{has_committed}}
+use Rattle.lab_judge.{specs.Runs.{HoldsEachOnce, table_after, RunAsRecorded, IsSerialRun}, proofs.{AppendedRuns.{table_after-append, run-append}, CountedNumbers.{times-append}}}
+use Rattle.lab_parts.{specs.Whole.{above_all, moved, moved_op, joined}, proofs.{JoinedTxns.{nobody_above, first_or_second, outcome_first, outcome_second}, MovedRuns.{table_moved, run_moved, all_of_both}, NumbersBehind.{times_behind, times_before}}}
 
 module _ (h : History) (ns : List ℕ) (once : HoldsEachOnce h ns) where
   -- a number that no transaction has doesn't stand there

@@ -1,12 +1,8 @@
 -- Places in a list of numbers below a bound, and behind them those of another, moved above it.
-use Rattle.std.proofs.Common.{◌≡◌, ℕ, suc, ◌+◌, ◌<◌, ◌≤◌, ◌==◌, true, false, cond, Option, Some, None, List, [], ◌∷◌, ◌++◌, map, length, refl, ap, ◌∙◌, arith}
-use Rattle.std.specs.Prelude.{slice_get, option_map}
-use Rattle.std.specs.Option.{option_or}
-use Rattle.std.proofs.lemmas.Bool.{ne_eqb}
+use Rattle.std.{proofs.{Common.{◌≡◌, ℕ, suc, ◌+◌, ◌<◌, ◌≤◌, ◌==◌, true, false, cond, Option, Some, None, List, [], ◌∷◌, ◌++◌, map, length, refl, ap, ◌∙◌, arith}, lemmas.Bool.{ne_eqb}}, specs.{Prelude.{slice_get, option_map}, Option.{option_or}}}
 use Rattle.lab_history.specs.Version.{place_in}
 use Rattle.lab_deps.proofs.Places.{times, at_times, apart_times, placed, stable_nat}
-use Rattle.lab_parts.proofs.JoinedLists.{IsBelow, below_rest, up}
-use Rattle.lab_parts.proofs.JoinedTxns.{same_behind}
+use Rattle.lab_parts.proofs.{JoinedLists.{IsBelow, below_rest, up}, JoinedTxns.{same_behind}}
 
 -- a place counted from the front of a longer list
 further : (k : ℕ) (o : Option ℕ) → option_map (λ p. suc p) (option_map (λ p. k + p) o) ≡ option_map (λ p. suc k + p) o

@@ -1,15 +1,9 @@
 -- Two sound parts that fit are a sound history.
-use Rattle.std.proofs.Common.{◌≡◌, ℕ, ◌+◌, ◌&&◌, cond, map, length, inl, inr, sym, ap, ◌∙◌, subst}
-use Rattle.std.proofs.lemmas.List.{length-append, length-map}
+use Rattle.std.proofs.{Common.{◌≡◌, ℕ, ◌+◌, ◌&&◌, cond, map, length, inl, inr, sym, ap, ◌∙◌, subst}, lemmas.List.{length-append, length-map}}
 use Rattle.lab_table.specs.Row.{Row}
-use Rattle.lab_history.specs.History.{History}
-use Rattle.lab_history.specs.Version.{installers}
-use Rattle.lab_history.specs.declared.operation.Op.{Op}
-use Rattle.lab_deps.specs.Soundness.{IsSound, IsCommittedOp, InstallsOther, EndsOther, has_committed, is_writer}
+use Rattle.lab_history.specs.{History.{History}, Version.{installers}, declared.operation.Op.{Op}}
+use Rattle.lab_deps.{specs.{Soundness.{IsSound, IsCommittedOp, InstallsOther, EndsOther, has_committed, is_writer}, declared.kind.OpFault.{OpFault, TheVariants.{Dangling, AbortedRead, IntermediateRead, OwnWriteMissed, LaterThanOwn, RowsDiffer, WritesDiffer}}}, proofs.Places.{times, times_count}}
 use Rattle.lab_deps.specs.declared.fault.LocalFault.TheVariants as fault
-use Rattle.lab_deps.specs.declared.kind.OpFault.{OpFault}
-use Rattle.lab_deps.specs.declared.kind.OpFault.TheVariants.{Dangling, AbortedRead, IntermediateRead, OwnWriteMissed, LaterThanOwn, RowsDiffer, WritesDiffer}
-use Rattle.lab_deps.proofs.Places.{times, times_count}
 use Rattle.lab_parts.specs.Whole.{above_all, moved, joined}
 use Rattle.lab_parts.proofs.JoinedTxns.{first_or_second, outcome_first, outcome_second, op_first, op_from_second, writes_first, writes_second}
 use Rattle.lab_parts.proofs.JoinedLists.{times_joined_low, times_joined_high}

@@ -1,20 +1,12 @@
 -- A snapshot run with places and one behind it are one with the places of the second behind those of the first.
 use Rattle.std.proofs.Common.{◌≡◌, ◌≢◌, ℕ, zero, suc, ◌+◌, ◌-◌, ◌<◌, ◌≤◌, true, false, Option, Some, None, List, [], ◌∷◌, ◌++◌, map, refl, sym, ap, ◌∙◌, subst, arith, ◌⊎◌, inl, inr}
-use Rattle.std.specs.Prelude.{Contains, option_map}
-use Rattle.std.specs.Option.{option_or}
-use Rattle.std.proofs.lemmas.Bool.{cases_lt}
-use Rattle.std.proofs.lemmas.List.Concat.{flat_map-append}
-use Rattle.std.proofs.lemmas.List.Elements.{Contains-append_cases, Contains-append_left, Contains-append_right}
-use Rattle.lab_table.specs.Row.{Row}
-use Rattle.lab_table.specs.Table.{Table}
-use Rattle.lab_history.specs.History.{History}
-use Rattle.lab_history.specs.Version.{ops_of, writes_row}
-use Rattle.lab_history.proofs.FirstValues.{or_none}
+use Rattle.std.specs.{Prelude.{Contains, option_map}, Option.{option_or}}
+use Rattle.std.proofs.lemmas.{Bool.{cases_lt}, List.{Concat.{flat_map-append}, Elements.{Contains-append_cases, Contains-append_left, Contains-append_right}}}
+use Rattle.lab_table.specs.{Row.{Row}, Table.{Table}}
+use Rattle.lab_history.{specs.{History.{History}, Version.{ops_of, writes_row}}, proofs.FirstValues.{or_none}}
 use Rattle.lab_deps.proofs.Places.{times, times_count}
-use Rattle.lab_judge.specs.Runs.{HoldsEachOnce, RunAsRecorded, Span, committing, table_after, table_after_txn, table_at, all_places, AreConcurrent, IsSnapshotRun}
-use Rattle.lab_judge.proofs.CountedNumbers.{times-append}
-use Rattle.lab_parts.specs.Whole.{above_all, moved, joined}
-use Rattle.lab_parts.specs.WholeRuns.{Placed, above_commits, moved_span}
+use Rattle.lab_judge.{specs.Runs.{HoldsEachOnce, RunAsRecorded, Span, committing, table_after, table_after_txn, table_at, all_places, AreConcurrent, IsSnapshotRun}, proofs.CountedNumbers.{times-append}}
+use Rattle.lab_parts.specs.{Whole.{above_all, moved, joined}, WholeRuns.{Placed, above_commits, moved_span}}
 use Rattle.lab_parts.proofs.JoinedTxns.{ops_first, ops_second, writes_first, writes_second}
 use Rattle.lab_parts.proofs.MovedRuns.{table_moved, run_moved}
 use Rattle.lab_parts.proofs.NumbersBehind.{times_behind, times_before}

@@ -1,20 +1,10 @@
 -- The states of a row in two parts that fit: those of the first, and from its end on those of the second.
-use Rattle.std.proofs.Common.{◌≡◌, ℕ, zero, suc, ◌+◌, ◌≤◌, Option, Some, None, [], map, length, ◌⊎◌, inl, inr, refl, sym, ap, ◌∙◌, arith}
-use Rattle.std.specs.Prelude.{slice_get, get_or, unwrap_or, option_map, option_and_then}
-use Rattle.std.specs.FinMap.{get}
-use Rattle.std.proofs.lemmas.Option.{none-some, slice_get-map, slice_get-get_or}
+use Rattle.std.{proofs.{Common.{◌≡◌, ℕ, zero, suc, ◌+◌, ◌≤◌, Option, Some, None, [], map, length, ◌⊎◌, inl, inr, refl, sym, ap, ◌∙◌, arith}, lemmas.Option.{none-some, slice_get-map, slice_get-get_or}}, specs.{Prelude.{slice_get, get_or, unwrap_or, option_map, option_and_then}, FinMap.{get}}}
 use Rattle.lab_table.specs.Row.{Row}
-use Rattle.lab_history.specs.History.{History}
-use Rattle.lab_history.specs.Version.{ops_of, op_at, viewed, viewed_state, version_state, new_state, last_write, left_state, installers, state_at}
-use Rattle.lab_history.specs.declared.operation.Op.{Op}
-use Rattle.lab_history.specs.declared.operation.VersionName.{VersionName}
-use Rattle.lab_history.specs.declared.operation.VersionName.TheVariants.{Initial, Of}
+use Rattle.lab_history.specs.{History.{History}, Version.{ops_of, op_at, viewed, viewed_state, version_state, new_state, last_write, left_state, installers, state_at}, declared.operation.{Op.{Op}, VersionName.{VersionName, TheVariants.{Initial, Of}}}}
 use Rattle.lab_deps.specs.Soundness.{IsSound, IsCommittedOp}
 use Rattle.lab_parts.specs.Whole.{moved, left_version, seam_version, moved_version, moved_op, joined}
-use Rattle.lab_parts.proofs.JoinedTxns.{version_first, version_second, ops_first, last_second, committed_below}
-use Rattle.lab_parts.proofs.JoinedLists.{at_left, at_right, last_of}
-use Rattle.lab_parts.proofs.JoinedInstallers.{installers-joined, viewed-moved}
-use Rattle.lab_parts.proofs.SoundParts.{Installer, installer, ended, sees_below}
+use Rattle.lab_parts.proofs.{JoinedTxns.{version_first, version_second, ops_first, last_second, committed_below}, JoinedLists.{at_left, at_right, last_of}, JoinedInstallers.{installers-joined, viewed-moved}, SoundParts.{Installer, installer, ended, sees_below}}
 
 -- the state that an installer leaves
 left_is : (h : History) (row : Row) (n : ℕ) (x : Installer h row n) → left_state h n row ≡ Some x.state

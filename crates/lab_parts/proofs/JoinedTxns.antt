@@ -1,17 +1,10 @@
 -- The transactions of two parts, one behind the other: which one a number finds, and what that one did.
-use Rattle.std.proofs.Common.{◌≡◌, ℕ, zero, suc, ◌+◌, ◌-◌, ◌<◌, ◌≤◌, ◌==◌, Bool, true, false, cond, Option, Some, None, List, [], ◌∷◌, ◌++◌, map, refl, sym, ap, ◌∙◌, arith, ◌⊎◌, inl, inr}
-use Rattle.std.specs.Prelude.{is_some, option_map, option_and_then}
-use Rattle.std.specs.Option.{option_or}
-use Rattle.std.proofs.lemmas.Bool.{cases_eq, cases_lt, eq-eqb, ne_eqb}
-use Rattle.std.proofs.lemmas.Option.{none-some, same_Some, slice_get-map}
+use Rattle.std.proofs.{Common.{◌≡◌, ℕ, zero, suc, ◌+◌, ◌-◌, ◌<◌, ◌≤◌, ◌==◌, Bool, true, false, cond, Option, Some, None, List, [], ◌∷◌, ◌++◌, map, refl, sym, ap, ◌∙◌, arith, ◌⊎◌, inl, inr}, lemmas.{Bool.{cases_eq, cases_lt, eq-eqb, ne_eqb}, Option.{none-some, same_Some, slice_get-map}}}
+use Rattle.std.specs.{Prelude.{is_some, option_map, option_and_then}, Option.{option_or}}
 use Rattle.lab_table.specs.Row.{Row}
 use Rattle.lab_history.specs.History.{History}
 use Rattle.lab_history.specs.Version.{find_txn, outcome_of, IsCommitted, IsOp, ops_in, ops_of, op_at, new_state, version_state, last_write, writes_row}
-use Rattle.lab_history.specs.declared.operation.Op.{Op}
-use Rattle.lab_history.specs.declared.operation.VersionName.TheVariants.{Of}
-use Rattle.lab_history.specs.declared.transaction.Outcome.{Outcome}
-use Rattle.lab_history.specs.declared.transaction.Outcome.TheVariants.{Committed}
-use Rattle.lab_history.specs.declared.transaction.Txn.{Txn}
+use Rattle.lab_history.specs.declared.{operation.{Op.{Op}, VersionName.TheVariants.{Of}}, transaction.{Outcome.{Outcome, TheVariants.{Committed}}, Txn.{Txn}}}
 use Rattle.lab_history.proofs.FirstValues.{or_none}
 use Rattle.lab_parts.specs.Whole.{above_all, moved, moved_op, moved_txn, joined}
 

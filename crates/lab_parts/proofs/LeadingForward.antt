@@ -1,19 +1,9 @@
 -- The dependencies of a run: those of its parts, and those that lead to a later part.
-use Rattle.std.proofs.Common.{◌≡◌, ℕ, zero, suc, Some, List, [], ◌∷◌, ◌⊎◌, inl, inr, refl, sym, ap, ◌∙◌, subst, arith}
-use Rattle.std.specs.Prelude.{slice_get}
-use Rattle.std.specs.List.{All}
-use Rattle.std.proofs.lemmas.List.Elements.{All-head, All-tail}
-use Rattle.std.proofs.lemmas.Option.{none-some, same_Some}
-use Rattle.lab_history.specs.History.{History}
-use Rattle.lab_history.specs.Version.{IsCommitted, outcome_of}
-use Rattle.lab_deps.specs.Soundness.{IsSound}
-use Rattle.lab_deps.specs.Edges.{IsEdge}
-use Rattle.lab_deps.specs.declared.edge.Edge.{Edge}
-use Rattle.lab_parts.specs.Whole.{moved, joined, whole, Fits}
-use Rattle.lab_parts.specs.WholeEdges.{moved_edge, edge_in, IsWithin, IsNumber, LeadsForward}
-use Rattle.lab_parts.proofs.JoinedTxns.{first_or_second, outcome_first, outcome_second}
-use Rattle.lab_parts.proofs.JoinedEdges.{edge_up_first, edge_up_second, edge_down, IsMoved, Crosses}
-use Rattle.lab_parts.proofs.WholeSound.{whole_initial}
+use Rattle.std.{proofs.{Common.{◌≡◌, ℕ, zero, suc, Some, List, [], ◌∷◌, ◌⊎◌, inl, inr, refl, sym, ap, ◌∙◌, subst, arith}, lemmas.{List.Elements.{All-head, All-tail}, Option.{none-some, same_Some}}}, specs.{Prelude.{slice_get}, List.{All}}}
+use Rattle.lab_history.specs.{History.{History}, Version.{IsCommitted, outcome_of}}
+use Rattle.lab_deps.specs.{Soundness.{IsSound}, Edges.{IsEdge}, declared.edge.Edge.{Edge}}
+use Rattle.lab_parts.specs.{Whole.{moved, joined, whole, Fits}, WholeEdges.{moved_edge, edge_in, IsWithin, IsNumber, LeadsForward}}
+use Rattle.lab_parts.proofs.{JoinedTxns.{first_or_second, outcome_first, outcome_second}, JoinedEdges.{edge_up_first, edge_up_second, edge_down, IsMoved, Crosses}, WholeSound.{whole_initial}}
 
 -- a number of a part behind the first is one of the run, moved
 later_number : (first part : History) (parts : List History) (place n m : ℕ) → m ≡ moved first n → IsNumber part parts place n → IsNumber first (part ∷ parts) (suc place) m

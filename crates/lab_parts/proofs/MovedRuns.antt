@@ -1,15 +1,10 @@
 -- What transactions of two parts do, one behind the other.
-use Rattle.std.proofs.Common.{◌≡◌, ℕ, ◌<◌, ◌≤◌, List, [], ◌∷◌, ◌++◌, map, refl, sym, ap, ◌∙◌, arith}
-use Rattle.std.specs.Prelude.{flat_map}
-use Rattle.std.proofs.lemmas.List.Concat.{flat_map-append}
+use Rattle.std.{proofs.{Common.{◌≡◌, ℕ, ◌<◌, ◌≤◌, List, [], ◌∷◌, ◌++◌, map, refl, sym, ap, ◌∙◌, arith}, lemmas.List.Concat.{flat_map-append}}, specs.Prelude.{flat_map}}
 use Rattle.lab_table.specs.Table.{Table, overwritten}
-use Rattle.lab_history.specs.History.{History}
-use Rattle.lab_history.specs.Version.{ops_of}
-use Rattle.lab_history.specs.declared.operation.Op.{Op}
+use Rattle.lab_history.specs.{History.{History}, Version.{ops_of}, declared.operation.Op.{Op}}
 use Rattle.lab_deps.proofs.Places.{times, times_here, times_more}
 use Rattle.lab_judge.specs.Runs.{table_after, RunAsRecorded}
-use Rattle.lab_parts.specs.Whole.{above_all, moved, moved_op, joined}
-use Rattle.lab_parts.proofs.JoinedTxns.{ops_first, ops_second}
+use Rattle.lab_parts.{specs.Whole.{above_all, moved, moved_op, joined}, proofs.JoinedTxns.{ops_first, ops_second}}
 
 module _ (before : History) where
   -- moved operations leave the same table

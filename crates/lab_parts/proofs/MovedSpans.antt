@@ -1,14 +1,8 @@
 -- Places of transactions, and those places behind others: who commits there, and which places are taken.
-use Rattle.std.proofs.Common.{◌≡◌, ℕ, zero, suc, ◌+◌, ◌<◌, ◌≤◌, ◌==◌, max, Bool, true, false, cond, Some, None, List, [], ◌∷◌, ◌++◌, map, refl, ap, ◌∙◌, subst, arith, ◌⊎◌, inl, inr}
-use Rattle.std.specs.Prelude.{Contains, option_map}
-use Rattle.std.specs.Option.{option_or}
-use Rattle.std.proofs.lemmas.Bool.{ne_eqb}
-use Rattle.std.proofs.lemmas.Option.{same_Some, none-some}
+use Rattle.std.{proofs.{Common.{◌≡◌, ℕ, zero, suc, ◌+◌, ◌<◌, ◌≤◌, ◌==◌, max, Bool, true, false, cond, Some, None, List, [], ◌∷◌, ◌++◌, map, refl, ap, ◌∙◌, subst, arith, ◌⊎◌, inl, inr}, lemmas.{Bool.{ne_eqb}, Option.{same_Some, none-some}}}, specs.{Prelude.{Contains, option_map}, Option.{option_or}}}
 use Rattle.lab_deps.proofs.Places.{times, times_here, times_more}
 use Rattle.lab_judge.specs.Runs.{Span, committing, all_places}
-use Rattle.lab_parts.specs.Whole.{moved}
-use Rattle.lab_parts.specs.WholeRuns.{Placed, above_commits, moved_span}
-use Rattle.lab_parts.proofs.JoinedTxns.{same_behind}
+use Rattle.lab_parts.{specs.{Whole.{moved}, WholeRuns.{Placed, above_commits, moved_span}}, proofs.JoinedTxns.{same_behind}}
 
 -- ---- lists that contain something
 pub contains_first : {X : Type 0} (x : X) (xs : List X) → Contains (x ∷ xs) x

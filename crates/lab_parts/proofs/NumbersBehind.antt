@@ -1,6 +1,5 @@
 -- How many times a number stands among numbers that stand behind so many others.
-use Rattle.std.proofs.Common.{◌≡◌, ℕ, ◌+◌, ◌<◌, ◌==◌, cond, List, [], ◌∷◌, map, refl, ap, ◌∙◌, arith}
-use Rattle.std.proofs.lemmas.Bool.{ne_eqb}
+use Rattle.std.proofs.{Common.{◌≡◌, ℕ, ◌+◌, ◌<◌, ◌==◌, cond, List, [], ◌∷◌, map, refl, ap, ◌∙◌, arith}, lemmas.Bool.{ne_eqb}}
 use Rattle.lab_deps.proofs.Places.{times}
 use Rattle.lab_parts.proofs.JoinedTxns.{same_behind}
 

@@ -1,27 +1,13 @@
 -- What a sound history's rows and operations are like.
-use Rattle.std.proofs.Common.{◌≡◌, ◌≢◌, ℕ, zero, suc, ◌<◌, ◌≤◌, Bool, true, false, cond, Option, Some, None, List, [], ◌∷◌, length, inl, inr, refl, sym, ap, ◌∙◌, arith}
-use Rattle.std.specs.Prelude.{ℤ, slice_get, is_some, option_map, option_and_then}
-use Rattle.std.specs.Option.{option_or}
-use Rattle.std.specs.Ordering.{int_eq}
-use Rattle.std.specs.FinMap.{get}
-use Rattle.std.proofs.lemmas.Bool.{false≢true, and_parts, cases_lt}
-use Rattle.std.proofs.lemmas.Bool.Decides.{Decides-int_eq}
-use Rattle.std.proofs.lemmas.Option.{none-some, same_Some}
-use Rattle.lab_table.specs.Row.{Row}
-use Rattle.lab_table.specs.Table.{State}
-use Rattle.lab_table.proofs.Tests.{some_of}
+use Rattle.std.proofs.{Common.{◌≡◌, ◌≢◌, ℕ, zero, suc, ◌<◌, ◌≤◌, Bool, true, false, cond, Option, Some, None, List, [], ◌∷◌, length, inl, inr, refl, sym, ap, ◌∙◌, arith}, lemmas.{Bool.{false≢true, and_parts, cases_lt, Decides.{Decides-int_eq}}, Option.{none-some, same_Some}}}
+use Rattle.std.specs.{Prelude.{ℤ, slice_get, is_some, option_map, option_and_then}, Option.{option_or}, Ordering.{int_eq}, FinMap.{get}}
+use Rattle.lab_table.{specs.{Row.{Row}, Table.{State}}, proofs.Tests.{some_of}}
 use Rattle.lab_history.specs.History.{History}
 use Rattle.lab_history.specs.Version.{IsCommitted, ops_in, ops_of, op_at, outcome_of, viewed, version_state, new_state, last_write, writes_row, installers, state_at}
-use Rattle.lab_history.specs.declared.operation.Op.{Op}
-use Rattle.lab_history.specs.declared.operation.VersionName.TheVariants.{Of}
-use Rattle.lab_history.specs.declared.transaction.Outcome.{Outcome}
-use Rattle.lab_history.specs.declared.transaction.Outcome.TheVariants.{Committed, Aborted}
-use Rattle.lab_deps.specs.Soundness.{IsSound, IsCommittedOp, has_committed, is_writer}
+use Rattle.lab_history.specs.declared.{operation.{Op.{Op}, VersionName.TheVariants.{Of}}, transaction.Outcome.{Outcome, TheVariants.{Committed, Aborted}}}
+use Rattle.lab_deps.{specs.Soundness.{IsSound, IsCommittedOp, has_committed, is_writer}, proofs.Places.{stable_nat, times, times_count, at_times}}
 use Rattle.lab_deps.specs.declared.fault.LocalFault.TheVariants as fault
-use Rattle.lab_deps.proofs.Places.{stable_nat, times, times_count, at_times}
-use Rattle.lab_parts.specs.Whole.{above_all}
-use Rattle.lab_parts.proofs.JoinedTxns.{none_above, committed_below}
-use Rattle.lab_parts.proofs.JoinedLists.{IsBelow}
+use Rattle.lab_parts.{specs.Whole.{above_all}, proofs.{JoinedTxns.{none_above, committed_below}, JoinedLists.{IsBelow}}}
 
 -- values that can't differ are the same
 stable_int : (x y : ℤ) → ((x ≢ y) → ⊥) → x ≡ y

@@ -1,17 +1,9 @@
 -- Which point has to come before which in two parts, one behind the other: as in one of them, or one of the first before one of the second.
 use Rattle.std.proofs.Common.{◌≡◌, ℕ, ◌<◌, Bool, refl, sym, ap, ◌∙◌, arith, ◌⊎◌, inl, inr}
-use Rattle.lab_history.specs.History.{History}
-use Rattle.lab_history.specs.Version.{IsCommitted, outcome_of}
-use Rattle.lab_deps.specs.KindSets.{is_anti, is_flow}
-use Rattle.lab_deps.specs.declared.edge.Kind.{Kind}
-use Rattle.lab_judge.specs.Places.{HasEdge, IsArrow}
-use Rattle.lab_judge.specs.declared.places.Point.{Point}
-use Rattle.lab_judge.specs.declared.places.Point.TheVariants.{Start, Commit}
-use Rattle.lab_parts.specs.Whole.{above_all, moved, joined}
-use Rattle.lab_parts.specs.WholeEdges.{moved_edge}
-use Rattle.lab_parts.specs.WholeFindings.{moved_point}
-use Rattle.lab_parts.proofs.JoinedTxns.{first_or_second, outcome_first, outcome_second, committed_below}
-use Rattle.lab_parts.proofs.SplitWalks.{Across, Splits}
+use Rattle.lab_history.specs.{History.{History}, Version.{IsCommitted, outcome_of}}
+use Rattle.lab_deps.specs.{KindSets.{is_anti, is_flow}, declared.edge.Kind.{Kind}}
+use Rattle.lab_judge.specs.{Places.{HasEdge, IsArrow}, declared.places.Point.{Point, TheVariants.{Start, Commit}}}
+use Rattle.lab_parts.{specs.{Whole.{above_all, moved, joined}, WholeEdges.{moved_edge}, WholeFindings.{moved_point}}, proofs.{JoinedTxns.{first_or_second, outcome_first, outcome_second, committed_below}, SplitWalks.{Across, Splits}}}
 
 -- the transaction whose start or commit it is
 abbrev pub txn_of : Point → ℕ

@@ -1,16 +1,9 @@
 -- Circles of two parts, one behind the other: each is in one of them.
-use Rattle.std.proofs.Common.{◌≡◌, ◌-◌, ◌<◌, ◌≤◌, List, [], ◌∷◌, map, refl, sym, ap, ◌∙◌, subst, arith, ◌⊎◌, inl, inr}
-use Rattle.std.proofs.lemmas.Bool.{cases_lt}
+use Rattle.std.proofs.{Common.{◌≡◌, ◌-◌, ◌<◌, ◌≤◌, List, [], ◌∷◌, map, refl, sym, ap, ◌∙◌, subst, arith, ◌⊎◌, inl, inr}, lemmas.Bool.{cases_lt}}
 use Rattle.lab_history.specs.History.{History}
 use Rattle.lab_order.specs.Trails.{IsTrailBy}
-use Rattle.lab_judge.specs.Places.{IsArrow, IsCircle}
-use Rattle.lab_judge.specs.declared.places.Point.{Point}
-use Rattle.lab_judge.specs.declared.places.Point.TheVariants.{Start, Commit}
-use Rattle.lab_parts.specs.Whole.{above_all, moved, joined}
-use Rattle.lab_parts.specs.WholeFindings.{NoCircle, moved_point}
-use Rattle.lab_parts.proofs.SplitArrows.{txn_of, IsMovedArrow, first_arrow, second_arrow, each_arrow, arrow_below}
-use Rattle.lab_parts.proofs.SplitKinds.{SplitsFree}
-use Rattle.lab_parts.proofs.SplitWalks.{Across, Splits}
+use Rattle.lab_judge.specs.{Places.{IsArrow, IsCircle}, declared.places.Point.{Point, TheVariants.{Start, Commit}}}
+use Rattle.lab_parts.{specs.{Whole.{above_all, moved, joined}, WholeFindings.{NoCircle, moved_point}}, proofs.{SplitArrows.{txn_of, IsMovedArrow, first_arrow, second_arrow, each_arrow, arrow_below}, SplitKinds.{SplitsFree}, SplitWalks.{Across, Splits}}}
 
 -- a trail of both from a moved point is one of the second part, moved
 record IsTrailBehind (a b : History) (from : Point) (points : List Point) (to : Point) : Type 0 where

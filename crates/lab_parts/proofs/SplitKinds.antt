@@ -1,15 +1,9 @@
 -- Which kinds of cycles two parts have, one behind the other: those that one of them has.
-use Rattle.std.proofs.Common.{◌≡◌, ℕ, ◌+◌, ◌≤◌, Bool, cond, List, [], ◌∷◌, map, refl, sym, ap, ◌∙◌, subst, ◌⊎◌, inl, inr}
-use Rattle.std.specs.Prelude.{◌↔◌, not}
+use Rattle.std.{proofs.Common.{◌≡◌, ℕ, ◌+◌, ◌≤◌, Bool, cond, List, [], ◌∷◌, map, refl, sym, ap, ◌∙◌, subst, ◌⊎◌, inl, inr}, specs.Prelude.{◌↔◌, not}}
 use Rattle.lab_history.specs.History.{History}
-use Rattle.lab_deps.specs.KindSets.{is_anti}
-use Rattle.lab_deps.specs.declared.edge.Edge.{Edge}
-use Rattle.lab_deps.specs.declared.edge.Kind.{Kind}
-use Rattle.lab_judge.specs.Phenomena.{IsClosedWalk, NoWalk, count_kind, is_write, is_item_anti, IsG0, IsG1c, IsG2Item, IsG2}
-use Rattle.lab_judge.proofs.ClosedWalks.{times, times_are}
-use Rattle.lab_parts.specs.Whole.{joined}
-use Rattle.lab_parts.specs.WholeEdges.{moved_edge}
-use Rattle.lab_parts.proofs.SplitWalks.{Splits, IsMovedCycle, first_closed, second_closed, each_closed}
+use Rattle.lab_deps.specs.{KindSets.{is_anti}, declared.edge.{Edge.{Edge}, Kind.{Kind}}}
+use Rattle.lab_judge.{specs.Phenomena.{IsClosedWalk, NoWalk, count_kind, is_write, is_item_anti, IsG0, IsG1c, IsG2Item, IsG2}, proofs.ClosedWalks.{times, times_are}}
+use Rattle.lab_parts.{specs.{Whole.{joined}, WholeEdges.{moved_edge}}, proofs.SplitWalks.{Splits, IsMovedCycle, first_closed, second_closed, each_closed}}
 
 -- moved edges have the kinds of the edges
 times_moved : (a : History) (test : Kind → Bool) (es : List Edge) → times test (map (moved_edge a) es) ≡ times test es

@@ -1,22 +1,9 @@
 -- The level of two parts, one behind the other: the lower one of theirs.
-use Rattle.std.proofs.Common.{◌≡◌, ℕ, ◌<◌, ◌≤◌, min, Bool, true, false, cond, List, refl, arith, inl, inr}
-use Rattle.std.specs.Prelude.{◌↔◌, not, nat_le}
-use Rattle.std.proofs.lemmas.List.Sums.{sum_by-le-sum_by}
-use Rattle.std.proofs.lemmas.Bool.{leb-true, leb-false, cases_lt}
+use Rattle.std.{proofs.{Common.{◌≡◌, ℕ, ◌<◌, ◌≤◌, min, Bool, true, false, cond, List, refl, arith, inl, inr}, lemmas.{List.Sums.{sum_by-le-sum_by}, Bool.{leb-true, leb-false, cases_lt}}}, specs.Prelude.{◌↔◌, not, nat_le}}
 use Rattle.lab_history.specs.History.{History}
-use Rattle.lab_deps.specs.KindSets.{is_anti}
-use Rattle.lab_deps.specs.Soundness.{IsSound}
-use Rattle.lab_deps.specs.declared.edge.Edge.{Edge}
-use Rattle.lab_deps.specs.declared.edge.Kind.{Kind}
-use Rattle.lab_deps.specs.declared.edge.Kind.TheVariants.{Write, ItemRead, PredicateRead, ItemAnti, PredicateAnti}
-use Rattle.lab_judge.specs.Phenomena.{NoWalk, IsG1c, IsG2Item, IsG2, count_kind, is_write, is_item_anti, MeetsPl1, MeetsPl2, MeetsPl299, MeetsPl3, IsGrade}
-use Rattle.lab_judge.specs.declared.report.Grade.{Grade}
-use Rattle.lab_judge.specs.declared.report.Grade.TheVariants.{BelowPl1, Pl1, Pl2, Pl299, Pl3, Unsound}
-use Rattle.lab_judge.proofs.Levels.{none_aborted, none_intermediate}
-use Rattle.lab_parts.specs.Whole.{joined}
-use Rattle.lab_parts.specs.WholeFindings.{grade_place, least_grade}
-use Rattle.lab_parts.proofs.SplitKinds.{SplitsFree, no_g0, no_g1c, no_g2_item, no_g2}
-use Rattle.lab_parts.proofs.SplitWalks.{Splits}
+use Rattle.lab_deps.specs.{KindSets.{is_anti}, Soundness.{IsSound}, declared.edge.{Edge.{Edge}, Kind.{Kind, TheVariants.{Write, ItemRead, PredicateRead, ItemAnti, PredicateAnti}}}}
+use Rattle.lab_judge.{specs.{Phenomena.{NoWalk, IsG1c, IsG2Item, IsG2, count_kind, is_write, is_item_anti, MeetsPl1, MeetsPl2, MeetsPl299, MeetsPl3, IsGrade}, declared.report.Grade.{Grade, TheVariants.{BelowPl1, Pl1, Pl2, Pl299, Pl3, Unsound}}}, proofs.Levels.{none_aborted, none_intermediate}}
+use Rattle.lab_parts.{specs.{Whole.{joined}, WholeFindings.{grade_place, least_grade}}, proofs.{SplitKinds.{SplitsFree, no_g0, no_g1c, no_g2_item, no_g2}, SplitWalks.{Splits}}}
 
 -- ---- each level is implied by those above it
 -- where each kind that passes one test passes another, so many edges do

@@ -1,12 +1,9 @@
 -- Cycles of two parts, one behind the other: nothing leads back from the second, so each is in one of them.
 use Rattle.std.proofs.Common.{◌≡◌, ℕ, ◌-◌, ◌<◌, ◌≤◌, List, [], ◌∷◌, map, refl, sym, ap, ◌∙◌, subst, arith, ◌⊎◌, inl, inr}
 use Rattle.lab_history.specs.History.{History}
-use Rattle.lab_deps.specs.Edges.{IsEdge}
-use Rattle.lab_deps.specs.declared.edge.Edge.{Edge}
+use Rattle.lab_deps.specs.{Edges.{IsEdge}, declared.edge.Edge.{Edge}}
 use Rattle.lab_judge.specs.Phenomena.{IsWalk, IsClosedWalk}
-use Rattle.lab_parts.specs.Whole.{above_all, moved, joined}
-use Rattle.lab_parts.specs.WholeEdges.{moved_edge}
-use Rattle.lab_parts.proofs.JoinedTxns.{first_or_second, committed_below}
+use Rattle.lab_parts.{specs.{Whole.{above_all, moved, joined}, WholeEdges.{moved_edge}}, proofs.JoinedTxns.{first_or_second, committed_below}}
 
 -- an edge is a moved one of the second part
 abbrev pub IsMoved : History → History → Edge → Type 0

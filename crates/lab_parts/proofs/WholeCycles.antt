@@ -1,15 +1,8 @@
 -- Of sound parts that fit a run has exactly the cycles that its parts have.
-use Rattle.std.proofs.Common.{◌≡◌, ℕ, zero, suc, Some, List, [], ◌∷◌, map, refl, sym, ap, ◌∙◌, subst, ◌⊎◌, inl, inr}
-use Rattle.std.specs.Prelude.{slice_get}
-use Rattle.std.specs.List.{All}
-use Rattle.std.proofs.lemmas.List.Elements.{All-head, All-tail}
-use Rattle.std.proofs.lemmas.Option.{none-some, same_Some}
+use Rattle.std.{proofs.{Common.{◌≡◌, ℕ, zero, suc, Some, List, [], ◌∷◌, map, refl, sym, ap, ◌∙◌, subst, ◌⊎◌, inl, inr}, lemmas.{List.Elements.{All-head, All-tail}, Option.{none-some, same_Some}}}, specs.{Prelude.{slice_get}, List.{All}}}
 use Rattle.lab_history.specs.History.{History}
 use Rattle.lab_deps.specs.Soundness.{IsSound}
-use Rattle.lab_parts.specs.Whole.{joined, whole, Fits}
-use Rattle.lab_parts.specs.WholeFindings.{IsOfPart, HasThoseOfParts}
-use Rattle.lab_parts.proofs.SplitWalks.{Splits}
-use Rattle.lab_parts.proofs.WholeFree.{splits_ahead}
+use Rattle.lab_parts.{specs.{Whole.{joined, whole, Fits}, WholeFindings.{IsOfPart, HasThoseOfParts}}, proofs.{SplitWalks.{Splits}, WholeFree.{splits_ahead}}}
 
 -- what a list has in two parts it has in the first, or in the second before it was moved
 pub record SplitsExactly {X : Type 0} (Is : History → List X → Type 0) (move : History → X → X) (a b : History) : Type 0 where

@@ -1,19 +1,10 @@
 -- Of sound parts that fit a run is free of what each part is free of, and has the lowest of their levels.
-use Rattle.std.proofs.Common.{◌≡◌, List, [], ◌∷◌, map, sym, ◌∙◌}
-use Rattle.std.specs.Prelude.{◌↔◌}
-use Rattle.std.specs.List.{All}
-use Rattle.std.proofs.lemmas.List.Elements.{All-nil, All-cons, All-head, All-tail}
+use Rattle.std.{proofs.{Common.{◌≡◌, List, [], ◌∷◌, map, sym, ◌∙◌}, lemmas.List.Elements.{All-nil, All-cons, All-head, All-tail}}, specs.{Prelude.{◌↔◌}, List.{All}}}
 use Rattle.lab_history.specs.History.{History}
 use Rattle.lab_deps.specs.Soundness.{IsSound}
 use Rattle.lab_judge.specs.Phenomena.{IsGrade}
-use Rattle.lab_parts.specs.Whole.{whole, Fits}
-use Rattle.lab_parts.specs.WholeFindings.{Graded, IsFreeByParts, least_of}
-use Rattle.lab_parts.proofs.JoinedEdges.{edge_up_first, edge_up_second, edges_joined}
-use Rattle.lab_parts.proofs.JoinedSound.{joined_sound}
-use Rattle.lab_parts.proofs.WholeSound.{whole_initial, whole_sound}
-use Rattle.lab_parts.proofs.SplitKinds.{SplitsFree}
-use Rattle.lab_parts.proofs.SplitLevels.{least_level}
-use Rattle.lab_parts.proofs.SplitWalks.{Splits}
+use Rattle.lab_parts.specs.{Whole.{whole, Fits}, WholeFindings.{Graded, IsFreeByParts, least_of}}
+use Rattle.lab_parts.proofs.{JoinedEdges.{edge_up_first, edge_up_second, edges_joined}, JoinedSound.{joined_sound}, WholeSound.{whole_initial, whole_sound}, SplitKinds.{SplitsFree}, SplitLevels.{least_level}, SplitWalks.{Splits}}
 
 -- a part and the run of those behind it
 pub splits_ahead : (first part : History) (parts : List History) → IsSound first → Fits first (part ∷ parts) → Splits first (whole part parts)

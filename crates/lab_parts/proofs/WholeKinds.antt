@@ -2,17 +2,9 @@
 use Rattle.std.proofs.Common.{◌≡◌, ℕ, Bool, suc, List, ◌∷◌, refl}
 use Rattle.lab_history.specs.History.{History}
 use Rattle.lab_deps.specs.declared.edge.Kind.{Kind}
-use Rattle.lab_judge.specs.Phenomena.{IsClosedWalk, NoWalk}
-use Rattle.lab_judge.specs.Places.{IsCircle}
-use Rattle.lab_judge.specs.declared.places.Point.{Point}
-use Rattle.lab_judge.specs.declared.places.Point.TheVariants.{Start, Commit}
-use Rattle.lab_parts.specs.WholeEdges.{moved_edge, edge_in}
-use Rattle.lab_parts.specs.WholeFindings.{moved_point, point_in, HasThoseOfParts, IsFreeByParts, NoCircle}
-use Rattle.lab_parts.proofs.SplitWalks.{first_closed, second_closed, each_closed}
-use Rattle.lab_parts.proofs.SplitKinds.{IsCounted, counted_first, counted_second, counted_each, no_walk, no_counted}
-use Rattle.lab_parts.proofs.SplitCircles.{first_circle, second_circle, each_circle, no_circle}
-use Rattle.lab_parts.proofs.WholeCycles.{those_of_parts}
-use Rattle.lab_parts.proofs.WholeFree.{free_by_parts}
+use Rattle.lab_judge.specs.{Phenomena.{IsClosedWalk, NoWalk}, Places.{IsCircle}, declared.places.Point.{Point, TheVariants.{Start, Commit}}}
+use Rattle.lab_parts.specs.{WholeEdges.{moved_edge, edge_in}, WholeFindings.{moved_point, point_in, HasThoseOfParts, IsFreeByParts, NoCircle}}
+use Rattle.lab_parts.proofs.{SplitWalks.{first_closed, second_closed, each_closed}, SplitKinds.{IsCounted, counted_first, counted_second, counted_each, no_walk, no_counted}, SplitCircles.{first_circle, second_circle, each_circle, no_circle}, WholeCycles.{those_of_parts}, WholeFree.{free_by_parts}}
 
 -- ---- exactly those of the parts
 pub cycles : HasThoseOfParts IsClosedWalk edge_in

@@ -1,13 +1,7 @@
 -- A run of parts in the orders, or with the places, of its parts.
-use Rattle.std.proofs.Common.{List, [], ◌∷◌, map, sym, ◌∙◌}
-use Rattle.std.specs.List.{All}
-use Rattle.std.proofs.lemmas.List.Elements.{All-head, All-tail}
+use Rattle.std.{proofs.{Common.{List, [], ◌∷◌, map, sym, ◌∙◌}, lemmas.List.Elements.{All-head, All-tail}}, specs.List.{All}}
 use Rattle.lab_judge.specs.Runs.{IsSerialRun, IsSnapshotRun}
-use Rattle.lab_parts.specs.Whole.{whole, Fits}
-use Rattle.lab_parts.specs.WholeRuns.{Ordered, Placed, whole_order, whole_spans}
-use Rattle.lab_parts.proofs.JoinedOrders.{both_serial}
-use Rattle.lab_parts.proofs.JoinedSpans.{both_placed}
-use Rattle.lab_parts.proofs.WholeSound.{whole_initial}
+use Rattle.lab_parts.{specs.{Whole.{whole, Fits}, WholeRuns.{Ordered, Placed, whole_order, whole_spans}}, proofs.{JoinedOrders.{both_serial}, JoinedSpans.{both_placed}, WholeSound.{whole_initial}}}
 
 -- in the orders of the parts, one behind the other
 pub whole_serial : (first : Ordered) (others : List Ordered) → IsSerialRun first.part first.order → All (λ o. IsSerialRun o.part o.order) others

@@ -1,11 +1,8 @@
 -- Sound parts that fit are a sound run.
-use Rattle.std.proofs.Common.{◌≡◌, List, [], ◌∷◌, refl, sym, ◌∙◌}
-use Rattle.std.specs.List.{All}
-use Rattle.std.proofs.lemmas.List.Elements.{All-head, All-tail}
+use Rattle.std.{proofs.{Common.{◌≡◌, List, [], ◌∷◌, refl, sym, ◌∙◌}, lemmas.List.Elements.{All-head, All-tail}}, specs.List.{All}}
 use Rattle.lab_history.specs.History.{History}
 use Rattle.lab_deps.specs.Soundness.{IsSound}
-use Rattle.lab_parts.specs.Whole.{whole, Fits}
-use Rattle.lab_parts.proofs.JoinedSound.{joined_sound}
+use Rattle.lab_parts.{specs.Whole.{whole, Fits}, proofs.JoinedSound.{joined_sound}}
 
 -- a run begins with the table with which its first part begins
 pub whole_initial : (first : History) (parts : List History) → (whole first parts).initial ≡ first.initial

@@ -1,12 +1,6 @@
 -- How many of a transaction's operations are drawn, where few are.
-use Rattle.std.proofs.Common.{◌≡◌, ◌≤◌, ◌<◌, ℕ, zero, suc, ◌+◌, ◌*◌, ◌==◌, Bool, true, false, ◌||◌, cond, List, [], ◌∷◌, length, refl, sym, arith}
-use Rattle.std.proofs.Common.{nat_le, leb-true}
-use Rattle.std.specs.List.{list_any}
-use Rattle.std.proofs.lemmas.Bool.{false≢true, eqb-true, eq-eqb, and_parts}
-use Rattle.lab_picture.specs.Few.{count_to, is_kept}
-use Rattle.lab_picture.specs.Named.{is_at, touches}
-use Rattle.lab_picture.specs.declared.drawing.Arrow.{Arrow}
-use Rattle.lab_picture.specs.declared.drawing.Spot.{Spot}
+use Rattle.std.{proofs.{Common.{◌≡◌, ◌≤◌, ◌<◌, ℕ, zero, suc, ◌+◌, ◌*◌, ◌==◌, Bool, true, false, ◌||◌, cond, List, [], ◌∷◌, length, refl, sym, arith, nat_le, leb-true}, lemmas.Bool.{false≢true, eqb-true, eq-eqb, and_parts}}, specs.List.{list_any}}
+use Rattle.lab_picture.specs.{Few.{count_to, is_kept}, Named.{is_at, touches}, declared.drawing.{Arrow.{Arrow}, Spot.{Spot}}}
 
 all_step : (b : Bool) (a k : ℕ) → a ≤ k → a + cond b 1 0 ≤ suc k
 all_step true a k le = omega arith

@@ -1,21 +1,8 @@
 -- An arrow's ends and the marked operation are drawn.
-use Rattle.std.proofs.Common.{◌≡◌, ℕ, ◌==◌, ◌||◌, Bool, true, not, cond, Some, List, [], ◌∷◌, refl, sym, subst, ap, ◌∙◌, inl, inr}
-use Rattle.std.specs.Prelude.{nat_le, Contains, Option}
-use Rattle.std.specs.List.{list_any}
-use Rattle.std.proofs.lemmas.Bool.{eq-eqb, or_left, or_right}
-use Rattle.std.proofs.lemmas.List.Elements.{Contains-append_cases}
+use Rattle.std.{proofs.{Common.{◌≡◌, ℕ, ◌==◌, ◌||◌, Bool, true, not, cond, Some, List, [], ◌∷◌, refl, sym, subst, ap, ◌∙◌, inl, inr}, lemmas.{Bool.{eq-eqb, or_left, or_right}, List.Elements.{Contains-append_cases}}}, specs.{Prelude.{nat_le, Contains, Option}, List.{list_any}}}
 use Rattle.lab_table.proofs.Members.{no_member, only_member}
 use Rattle.lab_history.specs.History.{History}
-use Rattle.lab_picture.specs.Columns.{marked_in}
-use Rattle.lab_picture.specs.DrawnLaws.{IsDrawnAt}
-use Rattle.lab_picture.specs.Few.{is_kept}
-use Rattle.lab_picture.specs.Named.{is_at, touches}
-use Rattle.lab_picture.specs.Sketch.{Sketch}
-use Rattle.lab_picture.specs.Slots.{is_few}
-use Rattle.lab_picture.specs.Svg.{arrows_drawn}
-use Rattle.lab_picture.specs.declared.drawing.Arrow.{Arrow}
-use Rattle.lab_picture.specs.declared.drawing.Spot.{Spot}
-use Rattle.lab_picture.proofs.KeptRows.{at_itself}
+use Rattle.lab_picture.{specs.{Columns.{marked_in}, DrawnLaws.{IsDrawnAt}, Few.{is_kept}, Named.{is_at, touches}, Sketch.{Sketch}, Slots.{is_few}, Svg.{arrows_drawn}, declared.drawing.{Arrow.{Arrow}, Spot.{Spot}}}, proofs.KeptRows.{at_itself}}
 
 -- an arrow that touches an operation is among those that do
 some_touch : (arrows : List Arrow) (a : Arrow) (n k : ℕ) → Contains arrows a → touches n k a ≡ true → list_any (touches n k) arrows ≡ true

@@ -1,10 +1,7 @@
 -- How many operations of a column are drawn at most, and how high a picture is.
-use Rattle.std.proofs.Common.{◌≡◌, ◌≤◌, ℕ, ◌+◌, ◌*◌, ◌/◌, Bool, true, false, cond, nat_lt, Option, List, [], ◌∷◌, length, refl, subst, inl, inr, ltb-false, mul-le-mul, length-take, arith}
-use Rattle.std.specs.Prelude.{Contains, max, min}
-use Rattle.std.proofs.lemmas.List.Elements.{Contains-append_cases}
+use Rattle.std.{proofs.{Common.{◌≡◌, ◌≤◌, ℕ, ◌+◌, ◌*◌, ◌/◌, Bool, true, false, cond, nat_lt, Option, List, [], ◌∷◌, length, refl, subst, inl, inr, ltb-false, mul-le-mul, length-take, arith}, lemmas.List.Elements.{Contains-append_cases}}, specs.Prelude.{Contains, max, min}}
 use Rattle.lab_table.proofs.Members.{no_member, only_member, first_member, later_member}
-use Rattle.lab_history.specs.History.{History}
-use Rattle.lab_history.specs.Version.{ops_of}
+use Rattle.lab_history.specs.{History.{History}, Version.{ops_of}}
 use Rattle.lab_picture.specs.Columns.{marked_in, most_from, most_ops, shown_columns}
 use Rattle.lab_picture.specs.DrawnLaws.{limit, DrawsFew, IsLow}
 use Rattle.lab_picture.specs.Few.{is_kept}
@@ -13,10 +10,8 @@ use Rattle.lab_picture.specs.Sketch.{Sketch}
 use Rattle.lab_picture.specs.Slots.{is_few, drawn_of, most_drawn}
 use Rattle.lab_picture.specs.Svg.{arrows_drawn, frame_of, goes_below}
 use Rattle.lab_picture.specs.Values.{value_lines}
-use Rattle.lab_picture.specs.declared.drawing.Arrow.{Arrow}
-use Rattle.lab_picture.specs.declared.drawing.Spot.{Spot}
-use Rattle.lab_picture.proofs.DrawnCounts.{count_all, count_few}
-use Rattle.lab_picture.proofs.LowHeadings.{head_low}
+use Rattle.lab_picture.specs.declared.drawing.{Arrow.{Arrow}, Spot.{Spot}}
+use Rattle.lab_picture.proofs.{DrawnCounts.{count_all, count_few}, LowHeadings.{head_low}}
 
 module _ (h : History) where
   grows : (most : ℕ) (ns : List ℕ) → most ≤ most_from h most ns

@@ -1,28 +1,11 @@
 -- In the picture of a walk that a report names each dependency has its arrow.
-use Rattle.std.proofs.Common.{◌≡◌, ℕ, Bool, true, Option, Some, None, List, [], ◌∷◌, refl, sym, ◌∙◌, subst, inl, inr}
-use Rattle.std.specs.Prelude.{Contains, not}
-use Rattle.std.specs.List.{flat_map}
-use Rattle.std.proofs.lemmas.Bool.{false≢true, not-false}
-use Rattle.std.proofs.lemmas.List.Elements.{Contains-append_left, Contains-append_right, Contains-append_cases}
+use Rattle.std.{proofs.{Common.{◌≡◌, ℕ, Bool, true, Option, Some, None, List, [], ◌∷◌, refl, sym, ◌∙◌, subst, inl, inr}, lemmas.{Bool.{false≢true, not-false}, List.Elements.{Contains-append_left, Contains-append_right, Contains-append_cases}}}, specs.{Prelude.{Contains, not}, List.{flat_map}}}
 use Rattle.lab_table.proofs.Members.{no_member, first_member, only_member}
 use Rattle.lab_history.specs.History.{History}
-use Rattle.lab_deps.specs.Edges.{IsEdge}
-use Rattle.lab_deps.specs.declared.edge.Edge.{Edge}
-use Rattle.lab_deps.specs.declared.edge.Kind.{Kind}
-use Rattle.lab_deps.specs.declared.edge.Kind.TheVariants.{Write, ItemRead, PredicateRead, ItemAnti, PredicateAnti}
-use Rattle.lab_judge.specs.Judgement.{IsExactJudgement}
-use Rattle.lab_judge.specs.Phenomena.{IsWalk, IsClosedWalk, is_write}
-use Rattle.lab_judge.specs.declared.report.Report.{Report}
-use Rattle.lab_judge.proofs.ClosedWalks.{Through, none_forbidden, times_are}
-use Rattle.lab_picture.specs.ArrowLaws.{LeadsBetween, NamesWalk, DrawsArrow, DrawsWrites}
-use Rattle.lab_reports.specs.Phenomena.{phenomenon_name}
-use Rattle.lab_picture.specs.Making.{arrows_of, listed}
-use Rattle.lab_picture.specs.Sketch.{of_serial, of_finding, drawing_of}
-use Rattle.lab_reports.specs.declared.phenomenon.Phenomenon.{Phenomenon}
-use Rattle.lab_reports.specs.declared.phenomenon.Phenomenon.TheVariants.{G0}
-use Rattle.lab_picture.specs.declared.drawing.Arrow.{Arrow}
-use Rattle.lab_picture.proofs.JudgedWalks.{is_found, is_g0}
-use Rattle.lab_picture.proofs.MadeArrows.{has_arrow}
+use Rattle.lab_deps.specs.{Edges.{IsEdge}, declared.edge.{Edge.{Edge}, Kind.{Kind, TheVariants.{Write, ItemRead, PredicateRead, ItemAnti, PredicateAnti}}}}
+use Rattle.lab_judge.{specs.{Judgement.{IsExactJudgement}, Phenomena.{IsWalk, IsClosedWalk, is_write}, declared.report.Report.{Report}}, proofs.ClosedWalks.{Through, none_forbidden, times_are}}
+use Rattle.lab_picture.{specs.{ArrowLaws.{LeadsBetween, NamesWalk, DrawsArrow, DrawsWrites}, Making.{arrows_of, listed}, Sketch.{of_serial, of_finding, drawing_of}, declared.drawing.Arrow.{Arrow}}, proofs.{JudgedWalks.{is_found, is_g0}, MadeArrows.{has_arrow}}}
+use Rattle.lab_reports.specs.{Phenomena.{phenomenon_name}, declared.phenomenon.Phenomenon.{Phenomenon, TheVariants.{G0}}}
 
 -- what a member of a list makes is a member of what they all make
 made_of : {X Y : Type 0} (f : X → List Y) (xs : List X) (x : X) (y : Y) → Contains xs x → Contains (f x) y → Contains (flat_map f xs) y

@@ -1,16 +1,9 @@
 -- Where rows are installed by their committed writers, an installer wrote the row, and stands at one place.
-use Rattle.std.proofs.Common.{◌≡◌, ℕ, suc, ◌≤◌, ◌==◌, true, cond, Some, ap, ◌∙◌, arith}
-use Rattle.std.specs.Prelude.{count_by}
-use Rattle.std.proofs.lemmas.Bool.{and_parts}
+use Rattle.std.{proofs.{Common.{◌≡◌, ℕ, suc, ◌≤◌, ◌==◌, true, cond, Some, ap, ◌∙◌, arith}, lemmas.Bool.{and_parts}}, specs.Prelude.{count_by}}
 use Rattle.lab_table.specs.Row.{Row}
-use Rattle.lab_history.specs.History.{History}
-use Rattle.lab_history.specs.Version.{installers, outcome_of, place_in, writes_row}
-use Rattle.lab_deps.specs.Edges.{InstallsAt}
-use Rattle.lab_deps.specs.Soundness.{Stands, has_committed, is_writer}
-use Rattle.lab_deps.specs.declared.fault.LocalFault.TheVariants.{InstallOrder}
-use Rattle.lab_deps.proofs.Places.{times, times_count, at_times, placed, stable_nat}
-use Rattle.lab_judge.proofs.Lists.{one_place}
-use Rattle.lab_judge.proofs.SeenVersions.{one_if, at_most_one}
+use Rattle.lab_history.specs.{History.{History}, Version.{installers, outcome_of, place_in, writes_row}}
+use Rattle.lab_deps.{specs.{Edges.{InstallsAt}, Soundness.{Stands, has_committed, is_writer}, declared.fault.LocalFault.TheVariants.{InstallOrder}}, proofs.Places.{times, times_count, at_times, placed, stable_nat}}
+use Rattle.lab_judge.proofs.{Lists.{one_place}, SeenVersions.{one_if, at_most_one}}
 
 module _ (h : History) (installed : (row : Row) → Stands h (InstallOrder row) → ⊥) (row : Row) (p n : ℕ) (at : InstallsAt h row p n) where
   counted : times n (installers h row) ≡ cond (is_writer h row n) 1 0

@@ -1,26 +1,14 @@
 -- A walk that a report names is closed, and the rows are installed by their committed writers.
-use Rattle.std.proofs.Common.{◌≡◌, ℕ, ◌<◌, Bool, true, false, Option, Some, None, List, inl, refl, sym, ◌∙◌, subst, arith}
-use Rattle.std.specs.Prelude.{nat_le}
+use Rattle.std.{proofs.Common.{◌≡◌, ℕ, ◌<◌, Bool, true, false, Option, Some, None, List, inl, refl, sym, ◌∙◌, subst, arith}, specs.Prelude.{nat_le}}
 use Rattle.lab_table.specs.Row.{Row}
 use Rattle.lab_history.specs.History.{History}
-use Rattle.lab_deps.specs.FaultOrder.{IsFirst, kind_place}
-use Rattle.lab_deps.specs.Refusal.{is_uncommitted_read}
-use Rattle.lab_deps.specs.Soundness.{Stands, IsSound}
-use Rattle.lab_deps.specs.declared.edge.Edge.{Edge}
-use Rattle.lab_deps.specs.declared.fault.LocalFault.{LocalFault}
-use Rattle.lab_deps.specs.declared.fault.LocalFault.TheVariants.{AbortedRead, IntermediateRead, InstallOrder}
-use Rattle.lab_deps.proofs.FaultOrders.{reads_last}
+use Rattle.lab_deps.{specs.{FaultOrder.{IsFirst, kind_place}, Refusal.{is_uncommitted_read}, Soundness.{Stands, IsSound}, declared.{edge.Edge.{Edge}, fault.LocalFault.{LocalFault, TheVariants.{AbortedRead, IntermediateRead, InstallOrder}}}}, proofs.FaultOrders.{reads_last}}
 use Rattle.lab_judge.specs.Judgement.{IsSerialVerdict, IsExactJudgement, FindsWalk, FindsFault, Judges, JudgesAll, JudgesReads, JudgesNothing, JudgesAtRead, JudgesAtFault, RestsOnOrder}
 use Rattle.lab_judge.specs.Phenomena.{IsClosedWalk, IsG0, IsG1c, IsGSingle, IsG2Item, IsG2}
-use Rattle.lab_judge.specs.declared.report.Finding.{Finding}
-use Rattle.lab_judge.specs.declared.report.Finding.TheVariants.{Absent, Walk, At, NotJudged}
-use Rattle.lab_judge.specs.declared.report.Report.{Report}
-use Rattle.lab_judge.specs.declared.serial.Serial.{Serial}
+use Rattle.lab_judge.specs.declared.{report.{Finding.{Finding, TheVariants.{Absent, Walk, At, NotJudged}}, Report.{Report}}, serial.Serial.{Serial}}
 use Rattle.lab_judge.specs.declared.serial.Serial.TheVariants as serial
 use Rattle.lab_picture.specs.ArrowLaws.{NamesWalk}
-use Rattle.lab_reports.specs.Phenomena.{finding_of}
-use Rattle.lab_reports.specs.declared.phenomenon.Phenomenon.{Phenomenon}
-use Rattle.lab_reports.specs.declared.phenomenon.Phenomenon.TheVariants.{G0, G1a, G1b, G1c, GSingle, G2Item, G2}
+use Rattle.lab_reports.specs.{Phenomena.{finding_of}, declared.phenomenon.Phenomenon.{Phenomenon, TheVariants.{G0, G1a, G1b, G1c, GSingle, G2Item, G2}}}
 
 -- something was judged
 abbrev WasJudged : Finding → Type 0

@@ -1,15 +1,10 @@
 -- A row that an arrow names stands in the boxes at both its ends.
 use Rattle.std.proofs.Common.{◌≡◌, ℕ, ◌==◌, ◌≤◌, ◌+◌, Bool, true, false, not, ◌||◌, cond, List, [], ◌∷◌, ◌++◌, length, map, filter, refl, sym, ap, ◌∙◌, subst, append_assoc, inl, inr, arith}
-use Rattle.std.specs.Prelude.{Contains, codes}
+use Rattle.std.specs.{Prelude.{Contains, codes}, List.{list_any}}
 use Rattle.std.specs.FinMap as finite
-use Rattle.std.specs.List.{list_any}
-use Rattle.std.proofs.lemmas.Bool.{false≢true, eqb-true, eq-eqb, and_from, or_left, or_right}
-use Rattle.std.proofs.lemmas.List.{append-nil, length-append, nil_from_length}
-use Rattle.std.proofs.lemmas.List.Elements.{Contains-append_cases}
-use Rattle.lab_table.proofs.Members.{no_member, only_member}
-use Rattle.lab_table.specs.Row.{Row, row_test, rows_equiv}
-use Rattle.lab_history.specs.History.{History}
-use Rattle.lab_history.specs.declared.operation.Op.{Op}
+use Rattle.std.proofs.lemmas.{Bool.{false≢true, eqb-true, eq-eqb, and_from, or_left, or_right}, List.{append-nil, length-append, nil_from_length, Elements.{Contains-append_cases}}}
+use Rattle.lab_table.{proofs.Members.{no_member, only_member}, specs.Row.{Row, row_test, rows_equiv}}
+use Rattle.lab_history.specs.{History.{History}, declared.operation.Op.{Op}}
 use Rattle.lab_statement.specs.Printed.{printed_statement}
 use Rattle.lab_picture.specs.Boxes.{fits, shown_effect, telling}
 use Rattle.lab_picture.specs.Effect.{behind, or_none, is_unlisted, listed_text, written_text, written_lead, effect_text}
@@ -18,10 +13,7 @@ use Rattle.lab_picture.specs.Lines.{all_lines}
 use Rattle.lab_picture.specs.Named.{is_at, touches, rows_at, is_named}
 use Rattle.lab_picture.specs.RowLaws.{BoxHas, HasRow}
 use Rattle.lab_picture.specs.TextLaws.{StandsIn, Have}
-use Rattle.lab_picture.specs.declared.drawing.Arrow.{Arrow}
-use Rattle.lab_picture.specs.declared.drawing.Spot.{Spot}
-use Rattle.lab_picture.specs.declared.kept.Behind.{Behind}
-use Rattle.lab_picture.specs.declared.kept.Behind.TheVariants.{Nothing}
+use Rattle.lab_picture.specs.declared.{drawing.{Arrow.{Arrow}, Spot.{Spot}}, kept.Behind.{Behind, TheVariants.{Nothing}}}
 use Rattle.lab_picture.proofs.TextLines.{lines_joined, lines_unparted}
 
 -- a text stands in one that goes on before or behind

@@ -1,19 +1,9 @@
 -- The least dependencies of pairs of transactions: what is asked for one after another, and that they are one list.
-use Rattle.std.proofs.Common.{◌≡◌, ℕ, ◌+◌, ◌<◌, Bool, true, false, Option, Some, None, Result, Ok, Err, List, [], ◌∷◌, ◌++◌, length, take, get_or, refl, sym, ap, ◌∙◌, subst}
-use Rattle.std.specs.Prelude.{◌↔◌, Contains, IfOk, IfSome}
-use Rattle.std.specs.Ordering.{is_eq, is_lt, ordering_reverse}
-use Rattle.std.specs.declared.cmp.Ordering.{Ordering}
-use Rattle.std.specs.declared.cmp.Ordering.TheVariants.{Less, Equal, Greater}
-use Rattle.std.proofs.lemmas.Bool.{false≢true}
-use Rattle.std.proofs.lemmas.List.{take_more}
+use Rattle.std.proofs.{Common.{◌≡◌, ℕ, ◌+◌, ◌<◌, Bool, true, false, Option, Some, None, Result, Ok, Err, List, [], ◌∷◌, ◌++◌, length, take, get_or, refl, sym, ap, ◌∙◌, subst}, lemmas.{Bool.{false≢true}, List.{take_more}}}
+use Rattle.std.specs.{Prelude.{◌↔◌, Contains, IfOk, IfSome}, Ordering.{is_eq, is_lt, ordering_reverse}, declared.cmp.Ordering.{Ordering, TheVariants.{Less, Equal, Greater}}}
 use Rattle.lab_history.specs.History.{History}
-use Rattle.lab_deps.specs.Edges.{IsEdge}
-use Rattle.lab_deps.specs.EdgeOrder.{edge_cmp}
-use Rattle.lab_deps.specs.declared.edge.Edge.{Edge}
-use Rattle.lab_deps.specs.declared.edge.Kind.{Kind}
-use Rattle.lab_deps.proofs.EdgeOrders.{edges_total, same_edge}
-use Rattle.lab_picture.specs.Forward.{IsLeastOf, AreLeastOf}
-use Rattle.lab_picture.specs.declared.forward.Pair.{Pair}
+use Rattle.lab_deps.{specs.{Edges.{IsEdge}, EdgeOrder.{edge_cmp}, declared.edge.{Edge.{Edge}, Kind.{Kind}}}, proofs.EdgeOrders.{edges_total, same_edge}}
+use Rattle.lab_picture.specs.{Forward.{IsLeastOf, AreLeastOf}, declared.forward.Pair.{Pair}}
 
 -- the least of listed dependencies is the least of those that there are
 pub least_of_listed : {F : Type 0} (h : History) (es : List Edge) (p : Pair) (kinds : Kind → Bool) (r : Result (Option Edge) F)

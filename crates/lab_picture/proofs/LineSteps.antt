@@ -1,9 +1,6 @@
 -- One line more of a text.
-use Rattle.std.proofs.Common.{◌≡◌, ℕ, zero, suc, ◌+◌, ◌<◌, cond, List, [], ◌∷◌, ◌++◌, drop, length, refl, sym, ap, ◌∙◌, subst, append_assoc, arith}
-use Rattle.std.proofs.lemmas.Bool.{ne_eqb, eq-eqb}
-use Rattle.std.proofs.lemmas.List.{append-nil}
-use Rattle.lab_picture.specs.Lines.{lines_from, lines_at}
-use Rattle.lab_picture.specs.Text.{front, back, line_at}
+use Rattle.std.proofs.{Common.{◌≡◌, ℕ, zero, suc, ◌+◌, ◌<◌, cond, List, [], ◌∷◌, ◌++◌, drop, length, refl, sym, ap, ◌∙◌, subst, append_assoc, arith}, lemmas.{Bool.{ne_eqb, eq-eqb}, List.{append-nil}}}
+use Rattle.lab_picture.specs.{Lines.{lines_from, lines_at}, Text.{front, back, line_at}}
 
 module _ (width : ℕ) where
   -- an empty text has no line

@@ -1,28 +1,12 @@
 -- Where rows are installed by their committed writers each dependency has its arrow, between the operations that make it.
-use Rattle.std.proofs.Common.{◌≡◌, ℕ, zero, suc, ◌+◌, ◌-◌, ◌<◌, ◌≤◌, ◌==◌, Bool, true, ◌&&◌, Option, Some, None, is_some, List, refl, sym, ap, subst, ◌∙◌, arith}
+use Rattle.std.proofs.{Common.{◌≡◌, ℕ, zero, suc, ◌+◌, ◌-◌, ◌<◌, ◌≤◌, ◌==◌, Bool, true, ◌&&◌, Option, Some, None, is_some, List, refl, sym, ap, subst, ◌∙◌, arith}, lemmas.{Bool.{false≢true, eqb-true, eq-eqb, leb-true, le-leb, ltb-true, lt-ltb, and_parts, and_from}, Option.{none-some}}}
 use Rattle.std.specs.Prelude.{slice_get, nat_le, nat_lt}
 use Rattle.std.specs.FinMap as map
-use Rattle.std.proofs.lemmas.Bool.{false≢true, eqb-true, eq-eqb, leb-true, le-leb, ltb-true, lt-ltb, and_parts, and_from}
-use Rattle.std.proofs.lemmas.Option.{none-some}
-use Rattle.lab_table.specs.Row.{Row}
-use Rattle.lab_table.proofs.Tests.{some_of}
-use Rattle.lab_history.specs.History.{History}
-use Rattle.lab_history.specs.Version.{ops_of, op_at, viewed, installers, place_in, last_write}
-use Rattle.lab_history.specs.declared.operation.Op.{Op}
-use Rattle.lab_history.proofs.Greatest.{last_is_greatest}
-use Rattle.lab_deps.specs.Edges.{IsEdge, Depends, place_of, changes, InstallsAt}
-use Rattle.lab_deps.specs.Soundness.{Stands}
-use Rattle.lab_deps.specs.declared.edge.Edge.{Edge}
-use Rattle.lab_deps.specs.declared.edge.Kind.{Kind}
-use Rattle.lab_deps.specs.declared.edge.Kind.TheVariants.{Write, ItemRead, PredicateRead, ItemAnti, PredicateAnti}
-use Rattle.lab_deps.specs.declared.fault.LocalFault.TheVariants.{InstallOrder}
-use Rattle.lab_deps.proofs.Places.{place_there}
-use Rattle.lab_picture.specs.declared.drawing.Arrow.{Arrow}
-use Rattle.lab_picture.specs.declared.drawing.Tie.TheVariants.{Dependency}
-use Rattle.lab_picture.specs.Making.{anti_first, reader_of, ties, ties_at, makes, reading_op, writing_op, from_of, to_of, arrow_between, arrow_of}
-use Rattle.lab_picture.specs.ArrowLaws.{MakesAt, MakesFirst, WritesLast, LeadsBetween, IsArrowOf}
-use Rattle.lab_picture.proofs.FirstOps.{IsFirst, found_first}
-use Rattle.lab_picture.proofs.InstalledRows.{wrote, one_found}
+use Rattle.lab_table.{specs.Row.{Row}, proofs.Tests.{some_of}}
+use Rattle.lab_history.{specs.{History.{History}, Version.{ops_of, op_at, viewed, installers, place_in, last_write}, declared.operation.Op.{Op}}, proofs.Greatest.{last_is_greatest}}
+use Rattle.lab_deps.{specs.{Edges.{IsEdge, Depends, place_of, changes, InstallsAt}, Soundness.{Stands}, declared.{edge.{Edge.{Edge}, Kind.{Kind, TheVariants.{Write, ItemRead, PredicateRead, ItemAnti, PredicateAnti}}}, fault.LocalFault.TheVariants.{InstallOrder}}}, proofs.Places.{place_there}}
+use Rattle.lab_picture.specs.{declared.drawing.{Arrow.{Arrow}, Tie.TheVariants.{Dependency}}, Making.{anti_first, reader_of, ties, ties_at, makes, reading_op, writing_op, from_of, to_of, arrow_between, arrow_of}, ArrowLaws.{MakesAt, MakesFirst, WritesLast, LeadsBetween, IsArrowOf}}
+use Rattle.lab_picture.proofs.{FirstOps.{IsFirst, found_first}, InstalledRows.{wrote, one_found}}
 
 -- what an operation makes, where its version and the writer's have these places
 tied : (h : History) (kind : Kind) (row : Row) (op : Op) (seen own : Option ℕ) (s o : ℕ) → seen ≡ Some s → own ≡ Some o → ties_at h kind row op seen own ≡ ties h kind row op s o

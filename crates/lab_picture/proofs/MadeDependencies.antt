@@ -1,11 +1,8 @@
 -- A dependency with a reader is one that an operation of the reader makes.
-use Rattle.std.proofs.Common.{◌≢◌, ℕ, refl}
-use Rattle.std.specs.Prelude.{◌↔◌}
+use Rattle.std.{proofs.Common.{◌≢◌, ℕ, refl}, specs.Prelude.{◌↔◌}}
 use Rattle.lab_table.specs.Row.{Row}
 use Rattle.lab_history.specs.History.{History}
-use Rattle.lab_deps.specs.Edges.{Depends}
-use Rattle.lab_deps.specs.declared.edge.Kind.{Kind}
-use Rattle.lab_deps.specs.declared.edge.Kind.TheVariants.{Write, ItemRead, PredicateRead, ItemAnti, PredicateAnti}
+use Rattle.lab_deps.specs.{Edges.{Depends}, declared.edge.Kind.{Kind, TheVariants.{Write, ItemRead, PredicateRead, ItemAnti, PredicateAnti}}}
 use Rattle.lab_picture.specs.ArrowLaws.{MakesAt}
 
 module _ (h : History) (row : Row) (from to : ℕ) where

@@ -1,28 +1,15 @@
 -- Where a row's installers aren't its committed writers, one is found to be out of place, and is.
-use Rattle.std.proofs.Common.{◌≡◌, ℕ, zero, suc, ◌+◌, ◌≤◌, ◌==◌, Bool, true, false, cond, Option, Some, None, List, [], ◌∷◌, refl, sym, ap, ◌∙◌, subst, arith, inl, inr}
+use Rattle.std.proofs.{Common.{◌≡◌, ℕ, zero, suc, ◌+◌, ◌≤◌, ◌==◌, Bool, true, false, cond, Option, Some, None, List, [], ◌∷◌, refl, sym, ap, ◌∙◌, subst, arith, inl, inr}, lemmas.{Bool.{false≢true, eqb-true, eq-eqb, and_parts, and_from}, Option.{none-some, same_Some}}}
 use Rattle.std.specs.Prelude.{slice_get, is_none, codes}
-use Rattle.std.proofs.lemmas.Bool.{false≢true, eqb-true, eq-eqb, and_parts, and_from}
-use Rattle.std.proofs.lemmas.Option.{none-some, same_Some}
 use Rattle.lab_table.specs.Row.{Row}
-use Rattle.lab_history.specs.History.{History}
-use Rattle.lab_history.specs.Version.{find_txn, installers, outcome_of, place_in, writes_row, is_at, is_missing}
-use Rattle.lab_history.specs.declared.transaction.Txn.{Txn}
-use Rattle.lab_deps.specs.FaultOrder.{IsFirst}
-use Rattle.lab_deps.specs.Soundness.{InstallsOther, has_committed, is_writer}
-use Rattle.lab_deps.specs.declared.fault.LocalFault.TheVariants.{InstallOrder}
-use Rattle.lab_deps.proofs.BrokenStands.{decides_none}
-use Rattle.lab_deps.proofs.Found.{committed, committed_there, either_found, neither_found}
-use Rattle.lab_deps.proofs.Places.{times, times_count, at_times, apart_times, at_most_once, place_there, no_place, next, here, start}
-use Rattle.lab_judge.specs.Judgement.{IsSerialVerdict, IsExactJudgement}
-use Rattle.lab_judge.specs.ReportText.{line_text, serial_text}
-use Rattle.lab_judge.specs.declared.report.Report.{Report}
-use Rattle.lab_judge.specs.declared.serial.Serial.TheVariants.{NoFault}
+use Rattle.lab_history.specs.{History.{History}, Version.{find_txn, installers, outcome_of, place_in, writes_row, is_at, is_missing}, declared.transaction.Txn.{Txn}}
+use Rattle.lab_deps.specs.{FaultOrder.{IsFirst}, Soundness.{InstallsOther, has_committed, is_writer}, declared.fault.LocalFault.TheVariants.{InstallOrder}}
+use Rattle.lab_deps.proofs.{BrokenStands.{decides_none}, Found.{committed, committed_there, either_found, neither_found}, Places.{times, times_count, at_times, apart_times, at_most_once, place_there, no_place, next, here, start}}
+use Rattle.lab_judge.specs.{Judgement.{IsSerialVerdict, IsExactJudgement}, ReportText.{line_text, serial_text}, declared.{report.Report.{Report}, serial.Serial.TheVariants.{NoFault}}}
 use Rattle.lab_picture.specs.Installs.{is_left_out, first_left_out, misplaced_at, wrong_at, first_wrong, misplaced_of, misplaced_text}
 use Rattle.lab_picture.specs.InstallLaws.{IsOut, NamesOut, times_installed}
 use Rattle.lab_picture.specs.Sketch.{of_installs, of_serial, drawing_of}
-use Rattle.lab_picture.specs.declared.installs.Misplaced.{Misplaced}
-use Rattle.lab_picture.specs.declared.installs.Why.{Why}
-use Rattle.lab_picture.specs.declared.installs.Why.TheVariants.{Missing, Unwritten, Repeated}
+use Rattle.lab_picture.specs.declared.installs.{Misplaced.{Misplaced}, Why.{Why, TheVariants.{Missing, Unwritten, Repeated}}}
 
 -- a place that is found is that one
 is_the_place : (o : Option ℕ) (p : ℕ) → is_at o p ≡ true → o ≡ Some p

@@ -1,32 +1,17 @@
 -- A nickname's test finds the form that the nickname is for.
 use Rattle.std.proofs.Common.{◌≡◌, ℕ, zero, suc, ◌==◌, Bool, true, false, ◌&&◌, not, cond, Option, Some, None, List, [], ◌∷◌, length, refl, sym, ap, ◌∙◌, subst, arith, inl, inr}
-use Rattle.std.specs.Prelude.{Contains, filter, is_some, slice_index_or}
-use Rattle.std.specs.List.{list_any, Any, All}
-use Rattle.std.specs.FinMap.{find, entries, get-entries}
+use Rattle.std.specs.{Prelude.{Contains, filter, is_some, slice_index_or}, List.{list_any, Any, All}, FinMap.{find, entries, get-entries}}
 use Rattle.std.proofs.lemmas.Bool.{true≢false, false≢true, and_parts, and_from, or_cases, or_left, or_right, not-true, not_from_false, eqb-true}
-use Rattle.std.proofs.lemmas.List.Elements.{All-contains, Contains-append_cases, filter_passes}
-use Rattle.std.proofs.lemmas.List.Folds.{Any-from_list_any, list_any-from_Any}
-use Rattle.std.proofs.lemmas.List.Sums.{AllPass-from_list_all, list_all-from_AllPass}
+use Rattle.std.proofs.lemmas.List.{Elements.{All-contains, Contains-append_cases, filter_passes}, Folds.{Any-from_list_any, list_any-from_Any}, Sums.{AllPass-from_list_all, list_all-from_AllPass}}
 use Rattle.std.proofs.lemmas.Option.{none-some, slice_get-get_or}
-use Rattle.lab_table.specs.Row.{Row, row_cmp, row_test}
-use Rattle.lab_table.specs.Table.{State}
-use Rattle.lab_table.proofs.Maps.{row_eq_self, tested_same, tested_apart, tests_itself}
-use Rattle.lab_table.proofs.Members.{no_member, first_member, later_member, only_member, member_at}
-use Rattle.lab_history.specs.History.{History}
-use Rattle.lab_history.specs.Version.{ops_of, last_write, new_state, writes_row}
-use Rattle.lab_history.specs.declared.operation.Op.{Op}
-use Rattle.lab_history.proofs.Greatest.{none_is_written, none_written}
-use Rattle.lab_deps.specs.declared.edge.Edge.{Edge}
-use Rattle.lab_deps.specs.declared.edge.Kind.{Kind}
-use Rattle.lab_deps.specs.declared.edge.Kind.TheVariants.{Write, ItemRead, PredicateRead, ItemAnti, PredicateAnti}
-use Rattle.lab_judge.specs.Phenomena.{is_write, is_item_anti}
-use Rattle.lab_judge.specs.Places.{is_anti}
-use Rattle.lab_reports.specs.declared.phenomenon.Phenomenon.{Phenomenon}
-use Rattle.lab_reports.specs.declared.phenomenon.Phenomenon.TheVariants.{G0, G1a, G1b, G1c, GSingle, G2Item, G2}
+use Rattle.lab_table.{specs.{Row.{Row, row_cmp, row_test}, Table.{State}}, proofs.{Maps.{row_eq_self, tested_same, tested_apart, tests_itself}, Members.{no_member, first_member, later_member, only_member, member_at}}}
+use Rattle.lab_history.{specs.{History.{History}, Version.{ops_of, last_write, new_state, writes_row}, declared.operation.Op.{Op}}, proofs.Greatest.{none_is_written, none_written}}
+use Rattle.lab_deps.specs.declared.edge.{Edge.{Edge}, Kind.{Kind, TheVariants.{Write, ItemRead, PredicateRead, ItemAnti, PredicateAnti}}}
+use Rattle.lab_judge.specs.{Phenomena.{is_write, is_item_anti}, Places.{is_anti}}
+use Rattle.lab_reports.specs.declared.phenomenon.Phenomenon.{Phenomenon, TheVariants.{G0, G1a, G1b, G1c, GSingle, G2Item, G2}}
 use Rattle.lab_picture.specs.Cycles.{walk_phenomenon}
 use Rattle.lab_picture.specs.Nicknames.{all_nicknames, Wrote, IsLostUpdate, IsReadSkew, IsWriteSkew, IsReadOnlyAnomaly, IsPhantom, HasForm, loses, is_lost_update, skews, is_write_skew, is_g_single, is_g2_item, writes_none, only_reads, is_read_skew, wrote_nothing, is_read_only, is_read_only_anomaly, is_predicate_anti, is_phantom, has_form, nicknames_of}
-use Rattle.lab_picture.specs.declared.nicknames.Nickname.{Nickname}
-use Rattle.lab_picture.specs.declared.nicknames.Nickname.TheVariants.{LostUpdate, ReadSkew, WriteSkew, ReadOnlyAnomaly, Phantom}
+use Rattle.lab_picture.specs.declared.nicknames.Nickname.{Nickname, TheVariants.{LostUpdate, ReadSkew, WriteSkew, ReadOnlyAnomaly, Phantom}}
 
 -- what a test of kinds finds
 only_write : (k : Kind) → is_write k ≡ true → k ≡ Write

@@ -1,9 +1,6 @@
 -- What is known of the operations of one of a history's transactions.
 use Rattle.std.proofs.Common.{ℕ, ◌≤◌, ◌==◌, true, false, cond, Some, List, [], ◌∷◌, length, length-append, arith}
-use Rattle.lab_history.specs.History.{History}
-use Rattle.lab_history.specs.HistoryRules.{Keeps, operations}
-use Rattle.lab_history.specs.Version.{find_txn, ops_in, ops_of}
-use Rattle.lab_history.specs.declared.transaction.Txn.{Txn}
+use Rattle.lab_history.specs.{History.{History}, HistoryRules.{Keeps, operations}, Version.{find_txn, ops_in, ops_of}, declared.transaction.Txn.{Txn}}
 
 ops_fit : (ts : List Txn) (n : ℕ) → length (ops_in (find_txn ts n)) ≤ length (operations ts)
 ops_fit [] n = omega arith

@@ -1,8 +1,6 @@
 -- Nicknames as they are said one after another.
-use Rattle.std.proofs.Common.{◌≡◌, ℕ, Bool, List, [], ◌∷◌, ◌++◌, filter, flat_map, refl, sym, ap, ◌∙◌, append_assoc}
-use Rattle.std.specs.Prelude.{codes}
-use Rattle.lab_picture.specs.Nicknames.{nickname_name, next_name, in_parentheses}
-use Rattle.lab_picture.specs.declared.nicknames.Nickname.{Nickname}
+use Rattle.std.{proofs.Common.{◌≡◌, ℕ, Bool, List, [], ◌∷◌, ◌++◌, filter, flat_map, refl, sym, ap, ◌∙◌, append_assoc}, specs.Prelude.{codes}}
+use Rattle.lab_picture.specs.{Nicknames.{nickname_name, next_name, in_parentheses}, declared.nicknames.Nickname.{Nickname}}
 
 -- the nicknames that are left to be said, the first behind one text and each other behind a comma, and what stands at their end
 abbrev pub names_behind : List ℕ → List ℕ → List Nickname → List ℕ

@@ -1,10 +1,7 @@
 -- The lines of a text are the text, and part no parentheses where they can end outside of them.
 use Rattle.std.proofs.Common.{◌≡◌, ◌⊎◌, ℕ, suc, ◌+◌, ◌-◌, ◌==◌, ◌≤◌, ◌<◌, nat_le, true, false, ◌&&◌, cond, List, [], ◌∷◌, ◌++◌, take, drop, length, refl, sym, ap, ◌∙◌, subst, inl, inr, arith}
-use Rattle.std.proofs.lemmas.Bool.{eqb-true, eqb-false, ne_eqb, and_parts}
-use Rattle.std.proofs.lemmas.List.{append-nil, take-append-drop, take-take, length-take, length-drop}
-use Rattle.lab_picture.specs.Lines.{lines_from}
-use Rattle.lab_picture.specs.TextLaws.{joined, depth_of, AreUnparted}
-use Rattle.lab_picture.specs.Text.{depth_behind, outside_from, last_outside, last_blank, first_place, cut, front, back}
+use Rattle.std.proofs.lemmas.{Bool.{eqb-true, eqb-false, ne_eqb, and_parts}, List.{append-nil, take-append-drop, take-take, length-take, length-drop}}
+use Rattle.lab_picture.specs.{Lines.{lines_from}, TextLaws.{joined, depth_of, AreUnparted}, Text.{depth_behind, outside_from, last_outside, last_blank, first_place, cut, front, back}}
 
 -- a blank outside parentheses leaves none open
 blank_closed : (depth b : ℕ) → b ≡ 32 → depth ≡ 0 → depth_behind depth b ≡ 0

@@ -1,16 +1,9 @@
 -- The title of a walk names a phenomenon that it is one of.
-use Rattle.std.proofs.Common.{◌≡◌, ℕ, zero, suc, ◌==◌, ◌≤◌, true, false, not, cond, List, refl, sym, ap, subst, arith}
-use Rattle.std.proofs.lemmas.Bool.{false≢true, eqb-true}
+use Rattle.std.proofs.{Common.{◌≡◌, ℕ, zero, suc, ◌==◌, ◌≤◌, true, false, not, cond, List, refl, sym, ap, subst, arith}, lemmas.Bool.{false≢true, eqb-true}}
 use Rattle.lab_history.specs.History.{History}
 use Rattle.lab_deps.specs.declared.edge.Edge.{Edge}
-use Rattle.lab_judge.specs.Judgement.{IsSerialVerdict, IsExactJudgement}
-use Rattle.lab_judge.specs.Phenomena.{IsClosedWalk, count_kind, is_write, is_item_anti}
-use Rattle.lab_judge.specs.Places.{is_anti}
-use Rattle.lab_judge.specs.declared.report.Report.{Report}
-use Rattle.lab_judge.specs.declared.serial.Serial.TheVariants.{NoCycle}
-use Rattle.lab_picture.specs.TitleLaws.{HasPhenomenon, TellsWalk}
-use Rattle.lab_picture.specs.Cycles.{walk_phenomenon}
-use Rattle.lab_picture.specs.Titles.{serial_title}
+use Rattle.lab_judge.specs.{Judgement.{IsSerialVerdict, IsExactJudgement}, Phenomena.{IsClosedWalk, count_kind, is_write, is_item_anti}, Places.{is_anti}, declared.{report.Report.{Report}, serial.Serial.TheVariants.{NoCycle}}}
+use Rattle.lab_picture.specs.{TitleLaws.{HasPhenomenon, TellsWalk}, Cycles.{walk_phenomenon}, Titles.{serial_title}}
 use Rattle.lab_reports.specs.declared.phenomenon.Phenomenon.TheVariants.{G0, G1c, GSingle, G2Item, G2}
 
 some : (n : ℕ) → (n == 0) ≡ false → 1 ≤ n

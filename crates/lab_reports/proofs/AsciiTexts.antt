@@ -1,9 +1,5 @@
 -- Texts of ASCII.
-use Rattle.std.proofs.Common.{◌≡◌, ◌<◌, ℕ, zero, suc, true, List, [], ◌∷◌, ◌++◌, arith}
-use Rattle.std.specs.Prelude.{IsAscii, nat_lt}
-use Rattle.std.specs.List.{list_all}
-use Rattle.std.proofs.lemmas.Bool.{and_parts}
-use Rattle.std.proofs.lemmas.Str.Ascii.{IsAscii-cons}
+use Rattle.std.{proofs.{Common.{◌≡◌, ◌<◌, ℕ, zero, suc, true, List, [], ◌∷◌, ◌++◌, arith}, lemmas.{Bool.{and_parts}, Str.Ascii.{IsAscii-cons}}}, specs.{Prelude.{IsAscii, nat_lt}, List.{list_all}}}
 
 below : (b : ℕ) → nat_lt b 128 ≡ true → b < 128
 below b h = grind arith

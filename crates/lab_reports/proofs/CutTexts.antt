@@ -1,8 +1,5 @@
 -- Texts of which no more than a part is shown.
-use Rattle.std.proofs.Common.{◌≡◌, ℕ, ◌+◌, ◌<◌, ◌≤◌, true, false, List, ◌++◌, length, take, sym, ap, append_assoc, arith, ◌∙◌}
-use Rattle.std.specs.Prelude.{nat_le, codes, if◌then◌else◌}
-use Rattle.std.proofs.lemmas.List.{length-append}
-use Rattle.std.proofs.Math.Seq.{take-append-add}
+use Rattle.std.{proofs.{Common.{◌≡◌, ℕ, ◌+◌, ◌<◌, ◌≤◌, true, false, List, ◌++◌, length, take, sym, ap, append_assoc, arith, ◌∙◌}, lemmas.List.{length-append}, Math.Seq.{take-append-add}}, specs.Prelude.{nat_le, codes, if◌then◌else◌}}
 use Rattle.lab_reports.specs.Shortfall.{max_shown, cut}
 
 module _ (old text : List ℕ) where

@@ -1,12 +1,7 @@
 -- Places in a history file are spelled in ASCII.
-use Rattle.std.proofs.Common.{ℕ, ◌<◌, ◌^◌, ◌++◌, refl}
-use Rattle.std.specs.Prelude.{IsAscii, IsUtf8, codes, decimal, ⊤}
-use Rattle.std.proofs.lemmas.Fmt.{IsAscii-decimal}
-use Rattle.std.proofs.lemmas.Str.{IsUtf8-from_ascii}
-use Rattle.lab_history.specs.PathText.{index_text, txn_text, op_text, list_text, path_text}
-use Rattle.lab_history.specs.declared.path.Path.{Path}
+use Rattle.std.{proofs.{Common.{ℕ, ◌<◌, ◌^◌, ◌++◌, refl}, lemmas.{Fmt.{IsAscii-decimal}, Str.{IsUtf8-from_ascii}}}, specs.Prelude.{IsAscii, IsUtf8, codes, decimal, ⊤}}
+use Rattle.lab_history.specs.{PathText.{index_text, txn_text, op_text, list_text, path_text}, declared.path.{Path.{Path}, ListPlace.{ListPlace}}}
 use Rattle.lab_history.specs.declared.path.Path.TheVariants as path
-use Rattle.lab_history.specs.declared.path.ListPlace.{ListPlace}
 use Rattle.lab_history.specs.declared.path.ListPlace.TheVariants as list
 use Rattle.lab_reports.proofs.AsciiTexts.{ascii_by, joined}
 

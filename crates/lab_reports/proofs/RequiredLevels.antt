@@ -1,26 +1,16 @@
 -- What a judgement's level and its snapshot verdict say of the history.
-use Rattle.std.proofs.Common.{◌≡◌, ◌≢◌, ℕ, ◌+◌, ◌≤◌, Bool, true, false, true≢false, cond, List, [], ◌∷◌, sym, ap, ◌∙◌, arith}
-use Rattle.std.specs.Prelude.{nat_le, not}
+use Rattle.std.{proofs.Common.{◌≡◌, ◌≢◌, ℕ, ◌+◌, ◌≤◌, Bool, true, false, true≢false, cond, List, [], ◌∷◌, sym, ap, ◌∙◌, arith}, specs.Prelude.{nat_le, not}}
 use Rattle.lab_history.specs.History.{History}
-use Rattle.lab_deps.specs.Refusal.{is_uncommitted_read}
-use Rattle.lab_deps.specs.declared.edge.Edge.{Edge}
-use Rattle.lab_deps.specs.declared.edge.Kind.{Kind}
-use Rattle.lab_deps.specs.declared.edge.Kind.TheVariants.{Write, ItemRead, PredicateRead, ItemAnti, PredicateAnti}
+use Rattle.lab_deps.specs.{Refusal.{is_uncommitted_read}, declared.edge.{Edge.{Edge}, Kind.{Kind, TheVariants.{Write, ItemRead, PredicateRead, ItemAnti, PredicateAnti}}}}
 use Rattle.lab_judge.proofs.ClosedWalks.{times, times_are}
 use Rattle.lab_judge.specs.Judgement.{IsExactJudgement, IsSnapshotVerdict, Judges, JudgesAtRead}
 use Rattle.lab_judge.specs.Phenomena.{is_write, is_item_anti, count_kind, MeetsPl1, MeetsPl2, MeetsPl299, MeetsPl3, IsGrade}
 use Rattle.lab_judge.specs.Places.{is_anti}
-use Rattle.lab_judge.specs.declared.places.Places.{Places}
+use Rattle.lab_judge.specs.declared.{places.Places.{Places}, serial.Serial.{Serial}, report.{Finding.{Finding}, Grade.{Grade}, Report.{Report}}}
 use Rattle.lab_judge.specs.declared.places.Places.TheVariants as places
-use Rattle.lab_judge.specs.declared.serial.Serial.{Serial}
 use Rattle.lab_judge.specs.declared.serial.Serial.TheVariants as serial
-use Rattle.lab_judge.specs.declared.report.Finding.{Finding}
-use Rattle.lab_judge.specs.declared.report.Grade.{Grade}
 use Rattle.lab_judge.specs.declared.report.Grade.TheVariants as grade
-use Rattle.lab_judge.specs.declared.report.Report.{Report}
-use Rattle.lab_reports.specs.Requirements.{levels_met, is_yes, meets}
-use Rattle.lab_reports.specs.RequirementLaws.{Has, MetIsSo}
-use Rattle.lab_reports.specs.declared.requirement.Requirement.TheVariants.{Pl1, Pl2, Pl299, Pl3, Snapshot}
+use Rattle.lab_reports.specs.{Requirements.{levels_met, is_yes, meets}, RequirementLaws.{Has, MetIsSo}, declared.requirement.Requirement.TheVariants.{Pl1, Pl2, Pl299, Pl3, Snapshot}}
 
 -- ---- each level is implied by those above it
 

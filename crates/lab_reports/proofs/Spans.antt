@@ -1,7 +1,6 @@
 -- The values of transactions with their places.
 use Rattle.std.proofs.Common.{◌≡◌, ℕ, List, [], ◌∷◌, map, ap, refl}
-use Rattle.serde_json.specs.Data.{array, item}
-use Rattle.serde_json.specs.View.{items_of}
+use Rattle.serde_json.specs.{Data.{array, item}, View.{items_of}}
 use Rattle.lab_history_file.specs.Tree.{list_tree}
 use Rattle.lab_judge.specs.Runs.{span_of, spans_of}
 use Rattle.lab_reports.specs.Tree.{span_tree}

@@ -1,23 +1,16 @@
 -- The values of reports and refusals have no float, and nest no deeper than JSON is read.
 use Rattle.std.proofs.Common.{◌≡◌, ◌≤◌, ℕ, suc, false, Option, Some, None, List, [], ◌∷◌, refl, arith}
-use Rattle.serde_json.specs.Data.{Data, depth}
-use Rattle.serde_json.specs.Read.{max_depth}
-use Rattle.serde_json.specs.Written.{has_float}
+use Rattle.serde_json.specs.{Data.{Data, depth}, Read.{max_depth}, Written.{has_float}}
 use Rattle.lab_history.specs.declared.fault.FileFault.{FileFault}
 use Rattle.lab_history.specs.declared.fault.FileFault.TheVariants as fault
 use Rattle.lab_history_file.specs.Tree.{natural_tree, list_tree}
-use Rattle.lab_deps.specs.FaultKinds.{parts_of}
-use Rattle.lab_deps.specs.declared.fault.FaultParts.{FaultParts}
+use Rattle.lab_deps.specs.{FaultKinds.{parts_of}, declared.fault.FaultParts.{FaultParts}}
 use Rattle.lab_deps.specs.declared.fault.FaultParts.TheVariants as parts
-use Rattle.lab_judge.specs.declared.places.Point.{Point}
+use Rattle.lab_judge.specs.declared.{places.{Point.{Point}, Places.{Places}}, serial.Serial.{Serial}, report.{Finding.{Finding}, Report.{Report}}}
 use Rattle.lab_judge.specs.declared.places.Point.TheVariants as point
-use Rattle.lab_judge.specs.declared.places.Places.{Places}
 use Rattle.lab_judge.specs.declared.places.Places.TheVariants as places
-use Rattle.lab_judge.specs.declared.serial.Serial.{Serial}
 use Rattle.lab_judge.specs.declared.serial.Serial.TheVariants as serial
-use Rattle.lab_judge.specs.declared.report.Finding.{Finding}
 use Rattle.lab_judge.specs.declared.report.Finding.TheVariants as finding
-use Rattle.lab_judge.specs.declared.report.Report.{Report}
 use Rattle.lab_reports.specs.Phenomena.{finding_of}
 use Rattle.lab_reports.specs.Tree.{edge_tree, parts_tree, span_tree, point_tree, serial_tree, places_tree, finding_tree, phenomena_tree, tree_of}
 use Rattle.lab_reports.specs.RefusalTree.{file_fault_tree, refused_tree}

@@ -4,8 +4,7 @@ use Rattle.std.specs.FinMap as finite
 use Rattle.std.specs.Cmp.Lexicographic.{bytes_decides}
 use Rattle.lab_table.specs.declared.word.Word.TheVariants as word
 use Rattle.lab_statement.specs.declared.token.Token.TheVariants as token
-use Rattle.lab_statement.proofs.PrintedNames.{name_reads}
-use Rattle.lab_statement.proofs.PrintedPreds.{open_leads, close_leads}
+use Rattle.lab_statement.proofs.{PrintedNames.{name_reads}, PrintedPreds.{open_leads, close_leads}}
 use Rattle.lab_statement.specs.Grammar as grammar
 use Rattle.lab_script.specs.Grammar as line_grammar
 use Rattle.lab_script.proofs.DistinctRows.{sorted_distinct}

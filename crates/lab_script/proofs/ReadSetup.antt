@@ -1,8 +1,7 @@
 -- A setup of the grammar is read.
 use Rattle.lab_script.proofs.Common.{from_entries_push, rows_total, rows_apart, ◌≡◌, ℕ, zero, suc, ◌+◌, ◌<◌, ◌≤◌, true, List, [], ◌∷◌, ◌++◌, length, None, sym, ap, refl, subst, ◌∙◌, append_assoc, arith, test_name, Token, Reads, row_table_read, named_row_read, row_onto_read, repeated_read, rows_read, table_read, setup_end_read, setup_read, reads_is, ℤ, Row, row_cmp, IsRow, IsId, IsEnd, IsNamedRow, IsRows, IsRowList, IsSetup, AllDistinct, find, le-leb, length-append, Table, printed_setup, after, no_rows_at, begins_setup}
-use Rattle.lab_statement.proofs.ReadRows.{row_again, parts_of}
+use Rattle.lab_statement.proofs.{ReadRows.{row_again, parts_of}, AtomParts.{no_close}}
 use Rattle.lab_script.proofs.DistinctRows.{not_before, is_absent, table_of}
-use Rattle.lab_statement.proofs.AtomParts.{no_close}
 use Rattle.lab_statement.specs.declared.token.Token.TheVariants as token
 use Rattle.lab_statement.specs.Grammar as grammar
 use Rattle.lab_script.specs.Grammar as line_grammar

@@ -1,11 +1,6 @@
 -- The line of a statement, and the table that it leaves, from what running it answers.
 use Rattle.lab_script.proofs.Common.{◌≡◌, ℕ, ℤ, ◌≢◌, List, ◌++◌, Option, Some, None, refl, sym, ap, ◌∙◌, append_assoc, option_map, codes, Row, Table, Statement, printed_statement, printed_row_name, newline, rows_or, row_text, kind_refusal_text, refusal_text, answer_text, statement_text, table_with, fault_text}
-use Rattle.lab_table.specs.Statement.{Ran, kind_run, run}
-use Rattle.lab_table.specs.Running.{Gives, IsKindFault, IsFault}
-use Rattle.lab_table.specs.declared.statement.StatementKind.{StatementKind}
-use Rattle.lab_table.specs.declared.statement.StatementKind.TheVariants.{Select, Update, Insert, Delete}
-use Rattle.lab_table.specs.declared.table.TableFault.{TableFault}
-use Rattle.lab_table.specs.declared.table.TableFault.TheVariants.{NoMemory, DuplicateKey, OutOfRange}
+use Rattle.lab_table.specs.{Statement.{Ran, kind_run, run}, Running.{Gives, IsKindFault, IsFault}, declared.{statement.StatementKind.{StatementKind, TheVariants.{Select, Update, Insert, Delete}}, table.TableFault.{TableFault, TheVariants.{NoMemory, DuplicateKey, OutOfRange}}}}
 use Rattle.lab_table.proofs.Running.{fault_is_due}
 
 -- a statement that runs lists its rows

@@ -1,8 +1,7 @@
 -- The lines of a text, byte by byte: they are those of the definition, and those that bstr gives.
 use Rattle.lab_script.proofs.Common.{◌≡◌, ℕ, ◌+◌, ◌-◌, ◌<◌, ◌≤◌, Bool, true, false, cond, List, [], ◌∷◌, ◌++◌, length, take, drop, map, refl, sym, ap, ◌∙◌, inl, inr, arith, suc, zero, length-append, append_assoc, length-drop, ◌==◌, nat_lt, ◌&&◌, slice_index, slice_split, onto_first, lines, lines_of_parts, strip_carriage_return, cases_Bool, lt-ltb, eqb-suc-zero, append-nil, take_at}
 use Rattle.std.proofs.Math.Seq.{get_or-append_seam}
-use Rattle.bstr.specs.Text.{line_len, lines_of, no_cr, without_terminator}
-use Rattle.bstr.proofs.lemmas.LineLemmas.{line_len-bounds, lines-step, lines-nil}
+use Rattle.bstr.{specs.Text.{line_len, lines_of, no_cr, without_terminator}, proofs.lemmas.LineLemmas.{line_len-bounds, lines-step, lines-nil}}
 
 -- the lines of bytes, of which the first begins with these before them
 abbrev pub lines_behind : List ℕ → List ℕ → List (List ℕ)

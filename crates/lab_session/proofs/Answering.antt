@@ -1,16 +1,8 @@
 -- What a seat has once the turns have answered its command.
-use Rattle.std.proofs.Common.{◌≡◌, ◌++◌, ◌∷◌, [], Bool, true, false, refl, sym, ap, subst, ◌∙◌, inl, inr}
-use Rattle.std.specs.Prelude.{Some}
-use Rattle.std.proofs.lemmas.Option.{same_Some}
-use Rattle.lab_table.specs.declared.statement.Command.{Command}
-use Rattle.lab_table.specs.declared.statement.Command.TheVariants.{Run}
+use Rattle.std.{proofs.{Common.{◌≡◌, ◌++◌, ◌∷◌, [], Bool, true, false, refl, sym, ap, subst, ◌∙◌, inl, inr}, lemmas.Option.{same_Some}}, specs.Prelude.{Some}}
+use Rattle.lab_table.specs.declared.statement.Command.{Command, TheVariants.{Run}}
 use Rattle.lab_engine.specs.Journal.{EngineRun}
-use Rattle.lab_session.specs.declared.bench.Receipt.{Receipt}
-use Rattle.lab_session.specs.declared.fault.LabFault.{LabFault}
-use Rattle.lab_session.specs.Seats.{Seated, IsLogged, GrowsBy}
-use Rattle.lab_session.specs.Waiting.{IsTold}
-use Rattle.lab_session.specs.Turns.{holding, resting, IsStepped, IsSteppedIn, IsRetriedIn, IsAnswered, IsGoneOn}
-use Rattle.lab_session.proofs.Turning.{logged}
+use Rattle.lab_session.{specs.{declared.{bench.Receipt.{Receipt}, fault.LabFault.{LabFault}}, Seats.{Seated, IsLogged, GrowsBy}, Waiting.{IsTold}, Turns.{holding, resting, IsStepped, IsSteppedIn, IsRetriedIn, IsAnswered, IsGoneOn}}, proofs.Turning.{logged}}
 
 module _ (Runs : EngineRun → Type 0) where
   -- a list has one more call whatever the seat held

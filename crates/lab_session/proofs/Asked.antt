@@ -1,20 +1,11 @@
 -- How a command goes that a session asks for.
-use Rattle.std.proofs.Common.{◌≡◌, ◌≢◌, ℕ, refl, sym, ap, subst, ◌∙◌, Bool, true, false, ◌⊎◌, inl, inr}
-use Rattle.std.specs.Prelude.{IsSome, Option, Some, None, is_some}
-use Rattle.std.proofs.lemmas.Bool.{both_ways}
-use Rattle.lab_table.specs.Table.{Table}
-use Rattle.lab_table.specs.declared.statement.Statement.{Statement}
-use Rattle.lab_table.specs.declared.statement.Command.{Command}
-use Rattle.lab_table.specs.declared.statement.Command.TheVariants.{Begin, Commit, Abort, Run}
-use Rattle.lab_engine.specs.declared.event.Level.{Level}
-use Rattle.lab_engine.specs.declared.event.EngineFault.TheVariants.{DuplicateKey, OutOfRange, Deadlock, WriteConflict, NoTransaction, AlreadyBegun, Busy, ReadConflict}
-use Rattle.lab_engine.specs.declared.event.Outcome.{Outcome}
-use Rattle.lab_engine.specs.declared.event.Outcome.TheVariants.{Begun, Rows as Listed, Committed, Aborted, Waits, Refused}
+use Rattle.std.{proofs.{Common.{◌≡◌, ◌≢◌, ℕ, refl, sym, ap, subst, ◌∙◌, Bool, true, false, ◌⊎◌, inl, inr}, lemmas.{Bool.{both_ways}, Option.{same_Some}}}, specs.Prelude.{IsSome, Option, Some, None, is_some}}
+use Rattle.lab_table.specs.{Table.{Table}, declared.statement.{Statement.{Statement}, Command.{Command, TheVariants.{Begin, Commit, Abort, Run}}}}
+use Rattle.lab_engine.specs.declared.event.{Level.{Level}, EngineFault.TheVariants.{DuplicateKey, OutOfRange, Deadlock, WriteConflict, NoTransaction, AlreadyBegun, Busy, ReadConflict}, Outcome.{Outcome, TheVariants.{Begun, Rows as Listed, Committed, Aborted, Waits, Refused}}}
 use Rattle.lab_engine.specs.Log.{Past, Txn, asked, active, active_after, waiting, waiting_after}
 use Rattle.lab_engine.specs.Rules.{Asks, Permitted}
 use Rattle.lab_engine.specs.Recording.{is_answer}
 use Rattle.lab_engine.proofs.LockSteps.{none_some}
-use Rattle.std.proofs.lemmas.Option.{same_Some}
 
 -- how a command that isn't refused as Busy goes: it is answered, or its statement waits
 abbrev pub Goes : Command → Bool → Option Statement → Bool → Type 0

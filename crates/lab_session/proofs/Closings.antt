@@ -1,17 +1,9 @@
 -- What the refusals of a run's end say.
 use Rattle.std.proofs.Common.{ℕ, List}
 use Rattle.lab_table.specs.Table.{Table}
-use Rattle.lab_engine.specs.declared.event.Level.{Level}
-use Rattle.lab_engine.specs.declared.event.LogEvent.{LogEvent}
-use Rattle.lab_engine.specs.declared.recording.RecordFault.{RecordFault}
+use Rattle.lab_engine.specs.{declared.{event.{Level.{Level}, LogEvent.{LogEvent}}, recording.RecordFault.{RecordFault}}, Log.{past_of}, Journal.{EngineRun}, Recording.{Line}, OverLimit.{IsRecordFault}}
 use Rattle.lab_engine.specs.declared.recording.RecordFault.TheVariants as record_fault
-use Rattle.lab_engine.specs.Log.{past_of}
-use Rattle.lab_engine.specs.Journal.{EngineRun}
-use Rattle.lab_engine.specs.Recording.{Line}
-use Rattle.lab_engine.specs.OverLimit.{IsRecordFault}
-use Rattle.lab_session.specs.Play.{IsLegalPlay, IsScriptedFault, unclosed_fault}
-use Rattle.lab_session.specs.Seats.{Seated}
-use Rattle.lab_session.specs.Closing.{AreClosed, IsCloseFault, close_fault_of}
+use Rattle.lab_session.specs.{Play.{IsLegalPlay, IsScriptedFault, unclosed_fault}, Seats.{Seated}, Closing.{AreClosed, IsCloseFault, close_fault_of}}
 
 -- a log without a recording isn't closed
 pub unrecorded_is : (sessions : ℕ) (run : EngineRun) (seats : List Seated) (fault : RecordFault) → AreClosed sessions run.log seats → IsRecordFault run.setup (past_of run.log) fault

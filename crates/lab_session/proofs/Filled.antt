@@ -1,16 +1,8 @@
 -- A refusal because the log is full, told by what is done under the lock.
-use Rattle.std.proofs.Common.{◌≡◌, ℕ, refl, Bool}
-use Rattle.std.specs.Prelude.{Result, IfErr}
-use Rattle.std.proofs.lemmas.Result.{IfErr-weaker}
+use Rattle.std.{proofs.{Common.{◌≡◌, ℕ, refl, Bool}, lemmas.Result.{IfErr-weaker}}, specs.Prelude.{Result, IfErr}}
 use Rattle.lab_engine.specs.Journal.{EngineRun}
-use Rattle.lab_session.specs.declared.bench.BenchFault.{BenchFault}
-use Rattle.lab_session.specs.declared.bench.BenchFault.TheVariants.{NoMemory, Full}
-use Rattle.lab_session.specs.declared.fault.LabFault.{LabFault}
+use Rattle.lab_session.specs.{declared.{bench.BenchFault.{BenchFault, TheVariants.{NoMemory, Full}}, fault.LabFault.{LabFault}}, Bench.{IsFull}, Seats.{Seated}, Waiting.{TellsFull, IsTold, lab_fault_of}, Free.{TellsSomeFull}}
 use Rattle.lab_session.specs.declared.fault.LabFault.TheVariants as lab_fault
-use Rattle.lab_session.specs.Bench.{IsFull}
-use Rattle.lab_session.specs.Seats.{Seated}
-use Rattle.lab_session.specs.Waiting.{TellsFull, IsTold, lab_fault_of}
-use Rattle.lab_session.specs.Free.{TellsSomeFull}
 
 pub tells_full : (run : EngineRun) (fault : BenchFault) (waits : Bool) → (fault ≡ Full → IsFull run) → TellsFull run (lab_fault_of fault waits)
 tells_full run NoMemory waits h = tt

@@ -1,22 +1,10 @@
 -- From what the threads of a free play hand on to the calls of each session in the log.
-use Rattle.std.proofs.Common.{◌≡◌, ◌≢◌, ℕ, zero, suc, ◌+◌, ◌≤◌, ◌<◌, length, refl, sym, ap, subst, ◌∙◌, arith, Bool, true, false, cond, ◌&&◌, List, [], ◌∷◌, ◌++◌, map}
-use Rattle.std.specs.Prelude.{◌==◌, None, filter, slice_index_or}
-use Rattle.std.proofs.lemmas.Bool.{both_ways, eq-eqb}
+use Rattle.std.proofs.{Common.{◌≡◌, ◌≢◌, ℕ, zero, suc, ◌+◌, ◌≤◌, ◌<◌, length, refl, sym, ap, subst, ◌∙◌, arith, Bool, true, false, cond, ◌&&◌, List, [], ◌∷◌, ◌++◌, map, inl, inr}, lemmas.{Bool.{both_ways, eq-eqb, Decides.{eqb_tells}}, List.{Elements.{All-map, All-append}, Sums.{sum_by-cons}}}}
+use Rattle.std.specs.{Prelude.{◌==◌, None, filter, slice_index_or}, List.{All}}
 use Rattle.lab_script.specs.declared.script.Line.{Line as ScriptLine}
-use Rattle.std.specs.List.{All}
-use Rattle.std.proofs.lemmas.Bool.Decides.{eqb_tells}
-use Rattle.std.proofs.lemmas.List.Elements.{All-map, All-append}
-use Rattle.std.proofs.lemmas.List.Sums.{sum_by-cons}
-use Rattle.std.proofs.Common.{inl, inr}
 use Rattle.lab_table.specs.Table.{Table}
-use Rattle.lab_engine.specs.declared.event.Level.{Level}
-use Rattle.lab_engine.specs.declared.event.LogEvent.{LogEvent}
-use Rattle.lab_engine.specs.Log.{past_of}
-use Rattle.lab_engine.specs.OverLimit.{BreaksLimit}
-use Rattle.lab_engine.specs.Recording.{Line, is_answer, calls}
-use Rattle.lab_session.specs.declared.free.Ended.{Ended}
-use Rattle.lab_session.specs.declared.fault.CloseFault.{CloseFault}
-use Rattle.lab_session.specs.declared.fault.CloseFault.TheVariants.{NoMemory, SeatMissing, ReceiptDiffers, OverLimit, SeatRepeated}
+use Rattle.lab_engine.specs.{declared.event.{Level.{Level}, LogEvent.{LogEvent}}, Log.{past_of}, OverLimit.{BreaksLimit}, Recording.{Line, is_answer, calls}}
+use Rattle.lab_session.specs.declared.{free.Ended.{Ended}, fault.CloseFault.{CloseFault, TheVariants.{NoMemory, SeatMissing, ReceiptDiffers, OverLimit, SeatRepeated}}}
 use Rattle.lab_session.specs.Seats.{Seated, call_at, calls_behind, placed_calls}
 use Rattle.lab_session.specs.Play.{given_lines, commands_of, commands_called, AreCommandsOf, unclosed_fault}
 use Rattle.lab_session.specs.Closing.{seats_of, AreClosed, IsLabCloseFault}

@@ -1,19 +1,8 @@
 -- Lines at the front of a script that have been given.
-use Rattle.std.proofs.Common.{◌≡◌, ℕ, suc, ◌+◌, ◌≤◌, ◌<◌, refl, sym, ap, subst, ◌∙◌, arith, Bool, true, false, cond, ◌||◌, List, [], ◌∷◌, ◌++◌, inl, inr, length, drop, get_or}
-use Rattle.std.specs.Prelude.{◌==◌, Some, is_some, is_none, ◌&&◌}
-use Rattle.std.proofs.lemmas.Bool.{lt-ltb}
-use Rattle.std.proofs.lemmas.Bool.Decides.{eqb_tells}
-use Rattle.std.proofs.Math.Bool.{or-true}
-use Rattle.lab_script.specs.declared.script.Line.{Line as ScriptLine}
-use Rattle.lab_script.specs.Ranges.{SessionInRange}
-use Rattle.lab_engine.specs.declared.event.LogEvent.{LogEvent}
-use Rattle.lab_engine.specs.Log.{Past, past_of, waiting}
-use Rattle.lab_engine.specs.Recording.{Line, given, lines_by, next_line}
-use Rattle.lab_engine.proofs.Runs.{past_of-push}
-use Rattle.lab_session.specs.Play.{given_lines}
-use Rattle.lab_session.specs.UnderWay.{count_of, HasOneMore, AreCounts, IsBehind, IsCovered}
-use Rattle.lab_session.specs.declared.scripted.Front.{Front}
-use Rattle.lab_session.proofs.Playing.{drop_at, counts_more, counts_few, counts_same, lines_more}
+use Rattle.std.{proofs.{Common.{◌≡◌, ℕ, suc, ◌+◌, ◌≤◌, ◌<◌, refl, sym, ap, subst, ◌∙◌, arith, Bool, true, false, cond, ◌||◌, List, [], ◌∷◌, ◌++◌, inl, inr, length, drop, get_or}, lemmas.Bool.{lt-ltb, Decides.{eqb_tells}}, Math.Bool.{or-true}}, specs.Prelude.{◌==◌, Some, is_some, is_none, ◌&&◌}}
+use Rattle.lab_script.specs.{declared.script.Line.{Line as ScriptLine}, Ranges.{SessionInRange}}
+use Rattle.lab_engine.{specs.{declared.event.LogEvent.{LogEvent}, Log.{Past, past_of, waiting}, Recording.{Line, given, lines_by, next_line}}, proofs.Runs.{past_of-push}}
+use Rattle.lab_session.{specs.{Play.{given_lines}, UnderWay.{count_of, HasOneMore, AreCounts, IsBehind, IsCovered}, declared.scripted.Front.{Front}}, proofs.Playing.{drop_at, counts_more, counts_few, counts_same, lines_more}}
 
 -- none at first
 pub front_starts : (lines : List ScriptLine) (counts : List ℕ) → AreCounts (λ _. 0) counts → IsBehind lines (record { lines = 0; of_sessions = counts })

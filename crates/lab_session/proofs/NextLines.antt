@@ -1,16 +1,10 @@
 -- The next line of a session in a script, and where there is none.
-use Rattle.std.proofs.Common.{◌≡◌, ℕ, suc, ◌+◌, ◌≤◌, ◌<◌, refl, sym, ap, subst, ◌∙◌, arith, Bool, true, false, cond, ◌||◌, List, [], ◌∷◌, ◌++◌, ◌⊎◌, inl, inr, length, map}
+use Rattle.std.proofs.{Common.{◌≡◌, ℕ, suc, ◌+◌, ◌≤◌, ◌<◌, refl, sym, ap, subst, ◌∙◌, arith, Bool, true, false, cond, ◌||◌, List, [], ◌∷◌, ◌++◌, ◌⊎◌, inl, inr, length, map}, lemmas.{Bool.{both_ways, eq-eqb, or_cases, or_parts, Decides.{eqb_tells}}, Option.{same_Some}}}
 use Rattle.std.specs.Prelude.{◌==◌, Some, None, is_some, nat_lt, filter}
-use Rattle.std.proofs.lemmas.Bool.{both_ways, eq-eqb, or_cases, or_parts}
-use Rattle.std.proofs.lemmas.Bool.Decides.{eqb_tells}
 use borrow.Author.Tests.{ltb-true, ltb-false}
 use Rattle.lab_table.specs.declared.statement.Command.{Command}
-use Rattle.lab_engine.specs.Log.{Past, waiting}
-use Rattle.lab_engine.specs.Recording.{Line, given, lines_by, next_line}
-use Rattle.lab_engine.proofs.LockSteps.{none_some}
-use Rattle.lab_session.specs.Play.{commands_of}
-use Rattle.lab_session.proofs.Playing.{next_rests, lines_more}
-use Rattle.std.proofs.lemmas.Option.{same_Some}
+use Rattle.lab_engine.{specs.{Log.{Past, waiting}, Recording.{Line, given, lines_by, next_line}}, proofs.LockSteps.{none_some}}
+use Rattle.lab_session.{specs.Play.{commands_of}, proofs.Playing.{next_rests, lines_more}}
 
 -- the next line of a session is the first of its commands that it hasn't given
 abbrev pub NextOf : Past → List Line → List Line → Line → Type 0

@@ -1,36 +1,16 @@
 -- A script has one play at a level and on a setup.
-use Rattle.std.proofs.Common.{◌≡◌, ◌≢◌, inl, inr, ℕ, ◌<◌, ◌≤◌, refl, sym, ap, subst, ◌∙◌, arith, List, [], ◌∷◌, length}
-use Rattle.std.specs.Prelude.{Some, is_some, true, Ok}
-use Rattle.std.specs.Result.{is_ok, result_err}
-use Rattle.std.proofs.lemmas.Bool.{cases_lt, false≢true}
-use Rattle.std.proofs.lemmas.List.{reverse-reverse, length-reverse}
-use Rattle.std.proofs.lemmas.Option.{same_Some}
-use Rattle.lab_table.specs.Table.{Table}
-use Rattle.lab_table.specs.declared.statement.Statement.{Statement}
-use Rattle.lab_table.specs.declared.statement.Command.{Command}
-use Rattle.lab_table.specs.declared.statement.Command.TheVariants.{Run}
-use Rattle.lab_history.specs.History.{History}
-use Rattle.lab_history.specs.FirstPartsFault.{checked}
-use Rattle.lab_history.specs.declared.fault.Limit.{Limit}
-use Rattle.lab_engine.specs.declared.event.Level.{Level}
+use Rattle.std.{proofs.{Common.{◌≡◌, ◌≢◌, inl, inr, ℕ, ◌<◌, ◌≤◌, refl, sym, ap, subst, ◌∙◌, arith, List, [], ◌∷◌, length}, lemmas.{Bool.{cases_lt, false≢true}, List.{reverse-reverse, length-reverse}, Option.{same_Some}}}, specs.{Prelude.{Some, is_some, true, Ok}, Result.{is_ok, result_err}}}
+use Rattle.lab_table.specs.{Table.{Table}, declared.statement.{Statement.{Statement}, Command.{Command, TheVariants.{Run}}}}
+use Rattle.lab_history.specs.{History.{History}, FirstPartsFault.{checked}, declared.fault.Limit.{Limit}}
+use Rattle.lab_engine.specs.declared.event.{Level.{Level}, EngineFault.TheVariants.{Busy}, Outcome.TheVariants.{Refused}, LogEvent.{LogEvent}}
 use Rattle.lab_engine.specs.declared.recording.RecordFault.TheVariants as record_fault
-use Rattle.lab_engine.specs.declared.event.EngineFault.TheVariants.{Busy}
-use Rattle.lab_engine.specs.declared.event.Outcome.TheVariants.{Refused}
-use Rattle.lab_engine.specs.declared.event.LogEvent.{LogEvent}
 use Rattle.lab_engine.specs.Log.{Past, past_of, active, waiting}
 use Rattle.lab_engine.specs.Rules.{IsLegal, Permitted}
 use Rattle.lab_engine.specs.Recording.{Line, next_line, IsRetryable, IsLeastRetryable, IsIdle, FollowsScript, AllFollowScript, IsScripted, IsRecording}
 use Rattle.lab_engine.specs.OverLimit.{BreaksLimit, fault_of}
 use Rattle.lab_engine.specs.LeastCircle.{NamesLeastOf, AllNameLeast}
-use Rattle.lab_engine.proofs.LockSteps.{none_some}
-use Rattle.lab_engine.proofs.OneOutcome.{one_answer}
-use Rattle.lab_engine.proofs.OneRecording.{one_recording}
-use Rattle.lab_session.specs.Play.{IsLegalPlay, FollowsLegally, IsScriptedFault}
-use Rattle.lab_session.specs.declared.fault.PlayFault.{PlayFault}
-use Rattle.lab_session.specs.declared.fault.PlayFault.TheVariants.{NoMemory, OverLimit, Close, NoThread, Full}
-use Rattle.lab_session.proofs.Asked.{retried, not_busy}
-use Rattle.lab_session.proofs.Playing.{next_rests}
-use Rattle.lab_session.proofs.Stages.{rests, holds, ended, StageOf, stages}
+use Rattle.lab_engine.proofs.{LockSteps.{none_some}, OneOutcome.{one_answer}, OneRecording.{one_recording}}
+use Rattle.lab_session.{specs.{Play.{IsLegalPlay, FollowsLegally, IsScriptedFault}, declared.fault.PlayFault.{PlayFault, TheVariants.{NoMemory, OverLimit, Close, NoThread, Full}}}, proofs.{Asked.{retried, not_busy}, Playing.{next_rests}, Stages.{rests, holds, ended, StageOf, stages}}}
 
 -- of the least numbers with a property there is one
 one_least : (P : ℕ → Type 0) (n m : ℕ) → P n → ((k : ℕ) → k < n → ¬ P k) → P m → ((k : ℕ) → k < m → ¬ P k) → n ≡ m

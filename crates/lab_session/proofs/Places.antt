@@ -1,23 +1,12 @@
 -- A seat's list has a place for the call that ends what its last answer left active.
-use Rattle.std.proofs.Common.{◌≡◌, ◌≢◌, ℕ, ◌<◌, ◌≤◌, ◌+◌, ◌++◌, length, length-append, refl, sym, ap, subst, ◌∙◌, arith, true, false, List, [], ◌∷◌, inl, inr}
-use Rattle.std.specs.Prelude.{Bool, IsTrue, ◌↔◌, IsSome, is_some, None}
-use Rattle.std.proofs.lemmas.Bool.{both_ways}
-use Rattle.std.proofs.lemmas.Option.{same_Some}
-use Rattle.lab_table.specs.Table.{Table}
-use Rattle.lab_table.specs.declared.statement.Statement.{Statement}
-use Rattle.lab_table.specs.declared.statement.Command.{Command}
-use Rattle.lab_table.specs.declared.statement.Command.TheVariants.{Begin, Commit, Abort, Run}
-use Rattle.lab_engine.specs.declared.event.Level.{Level}
-use Rattle.lab_engine.specs.declared.event.EngineFault.TheVariants.{DuplicateKey, OutOfRange, Deadlock, WriteConflict, NoTransaction, AlreadyBegun, Busy, ReadConflict}
-use Rattle.lab_engine.specs.declared.event.Outcome.{Outcome}
-use Rattle.lab_engine.specs.declared.event.Outcome.TheVariants.{Begun, Rows as Listed, Committed, Aborted, Waits, Refused}
+use Rattle.std.{proofs.{Common.{◌≡◌, ◌≢◌, ℕ, ◌<◌, ◌≤◌, ◌+◌, ◌++◌, length, length-append, refl, sym, ap, subst, ◌∙◌, arith, true, false, List, [], ◌∷◌, inl, inr}, lemmas.{Bool.{both_ways}, Option.{same_Some}}}, specs.Prelude.{Bool, IsTrue, ◌↔◌, IsSome, is_some, None}}
+use Rattle.lab_table.specs.{Table.{Table}, declared.statement.{Statement.{Statement}, Command.{Command, TheVariants.{Begin, Commit, Abort, Run}}}}
+use Rattle.lab_engine.specs.declared.event.{Level.{Level}, EngineFault.TheVariants.{DuplicateKey, OutOfRange, Deadlock, WriteConflict, NoTransaction, AlreadyBegun, Busy, ReadConflict}, Outcome.{Outcome, TheVariants.{Begun, Rows as Listed, Committed, Aborted, Waits, Refused}}}
 use Rattle.lab_engine.specs.Log.{Past, active, waiting}
 use Rattle.lab_engine.specs.Rules.{Permitted}
 use Rattle.lab_engine.specs.Engine.{Ends}
-use Rattle.lab_session.specs.declared.seat.Call.{Call}
+use Rattle.lab_session.{specs.{declared.seat.Call.{Call}, Seats.{last_outcome, IsOpen}}, proofs.Turning.{last_is}}
 use Rattle.lab_engine.specs.EventQuery.{is_over}
-use Rattle.lab_session.specs.Seats.{last_outcome, IsOpen}
-use Rattle.lab_session.proofs.Turning.{last_is}
 
 -- the same calls, with no less room
 pub roomy : (old new : List Call) (had has : ℕ) → new ≡ old → had ≤ has → (IsOpen old → length old < had) → IsOpen new → length new < has

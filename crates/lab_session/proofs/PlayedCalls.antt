@@ -1,20 +1,9 @@
 -- The calls of each session in a log that follows a script to its end.
-use Rattle.std.proofs.Common.{◌≡◌, ◌≢◌, ℕ, ◌≤◌, refl, sym, ap, subst, ◌∙◌, arith, Bool, true, false, cond, ◌&&◌, List, [], ◌∷◌, ◌++◌, ◌⊎◌, inl, inr, length, map, reverse, append-nil, length-append}
+use Rattle.std.proofs.{Common.{◌≡◌, ◌≢◌, ℕ, ◌≤◌, refl, sym, ap, subst, ◌∙◌, arith, Bool, true, false, cond, ◌&&◌, List, [], ◌∷◌, ◌++◌, ◌⊎◌, inl, inr, length, map, reverse, append-nil, length-append}, lemmas.List.{map-append, reverse-reverse, Elements.{filter-append}}}
 use Rattle.std.specs.Prelude.{◌==◌, is_some}
-use Rattle.std.proofs.lemmas.List.{map-append, reverse-reverse}
-use Rattle.std.proofs.lemmas.List.Elements.{filter-append}
-use Rattle.lab_table.specs.Table.{Table}
-use Rattle.lab_table.specs.declared.statement.Command.TheVariants.{Abort}
-use Rattle.lab_engine.specs.declared.event.Level.{Level}
-use Rattle.lab_engine.specs.declared.event.LogEvent.{LogEvent}
-use Rattle.lab_engine.specs.Log.{Past, past_of}
-use Rattle.lab_engine.specs.Rules.{IsLegal}
-use Rattle.lab_engine.specs.Recording.{Line, given, is_answer, calls, IsScripted}
-use Rattle.lab_engine.proofs.Runs.{past_of-push}
-use Rattle.lab_session.specs.Play.{commands_of, commands_called, IsPlayed}
-use Rattle.lab_session.proofs.Unblocked.{none_waits}
-use Rattle.lab_session.proofs.NextLines.{next_none}
-use Rattle.lab_session.proofs.Stages.{called, rests, holds, ended, StageOf, same_split, stages}
+use Rattle.lab_table.specs.{Table.{Table}, declared.statement.Command.TheVariants.{Abort}}
+use Rattle.lab_engine.{specs.{declared.event.{Level.{Level}, LogEvent.{LogEvent}}, Log.{Past, past_of}, Rules.{IsLegal}, Recording.{Line, given, is_answer, calls, IsScripted}}, proofs.Runs.{past_of-push}}
+use Rattle.lab_session.{specs.Play.{commands_of, commands_called, IsPlayed}, proofs.{Unblocked.{none_waits}, NextLines.{next_none}, Stages.{called, rests, holds, ended, StageOf, same_split, stages}}}
 
 -- the commands of calls after one event more
 called_more : (session : ℕ) (log : List LogEvent) (event : LogEvent)

@@ -1,31 +1,15 @@
 -- Every command of a play prints, where those of its script do.
-use Rattle.std.proofs.Common.{◌≡◌, ◌≢◌, ◌⊎◌, ⊎_elim, inl, inr, ℕ, zero, suc, refl, sym, ap, subst, ◌∙◌, Bool, true, false, cond, List, [], ◌∷◌, ◌++◌, reverse, arith}
+use Rattle.std.proofs.{Common.{◌≡◌, ◌≢◌, ◌⊎◌, ⊎_elim, inl, inr, ℕ, zero, suc, refl, sym, ap, subst, ◌∙◌, Bool, true, false, cond, List, [], ◌∷◌, ◌++◌, reverse, arith}, lemmas.{Bool.{both_ways, Decides.{eqb_tells}}, List.{reverse-append, reverse-reverse}, Option.{same_Some}}}
 use Rattle.std.specs.Prelude.{◌==◌, Option, Some, None, is_some, nat_lt, ◌||◌, Contains}
-use Rattle.std.proofs.lemmas.Bool.{both_ways}
-use Rattle.std.proofs.lemmas.Bool.Decides.{eqb_tells}
-use Rattle.std.proofs.lemmas.List.{reverse-append, reverse-reverse}
-use Rattle.lab_table.specs.Table.{Table}
-use Rattle.lab_table.specs.declared.statement.Statement.{Statement}
-use Rattle.lab_table.specs.declared.statement.Command.{Command}
-use Rattle.lab_table.specs.declared.statement.Command.TheVariants.{Begin, Commit, Abort, Run}
-use Rattle.lab_script.specs.declared.script.Line.{Line as ScriptLine}
-use Rattle.lab_script.specs.declared.script.Script.{Script}
+use Rattle.lab_table.specs.{Table.{Table}, declared.statement.{Statement.{Statement}, Command.{Command, TheVariants.{Begin, Commit, Abort, Run}}}}
+use Rattle.lab_script.specs.{declared.script.{Line.{Line as ScriptLine}, Script.{Script}}, Limits.{ScriptPrints, AllPrint as LinesPrint}}
 use Rattle.lab_statement.specs.Limits.{CommandPrints, StatementPrints, IsDeep, IsLong}
-use Rattle.lab_script.specs.Limits.{ScriptPrints}
-use Rattle.lab_script.specs.Limits.{AllPrint as LinesPrint}
-use Rattle.lab_engine.specs.declared.event.Level.{Level}
-use Rattle.lab_engine.specs.declared.event.EngineFault.TheVariants.{DuplicateKey, OutOfRange, Deadlock, WriteConflict, NoTransaction, AlreadyBegun, Busy, ReadConflict}
-use Rattle.lab_engine.specs.declared.event.Outcome.{Outcome}
-use Rattle.lab_engine.specs.declared.event.Outcome.TheVariants.{Begun, Rows as Listed, Committed, Aborted, Waits, Refused}
-use Rattle.lab_engine.specs.declared.event.LogEvent.{LogEvent}
+use Rattle.lab_engine.specs.declared.event.{Level.{Level}, EngineFault.TheVariants.{DuplicateKey, OutOfRange, Deadlock, WriteConflict, NoTransaction, AlreadyBegun, Busy, ReadConflict}, Outcome.{Outcome, TheVariants.{Begun, Rows as Listed, Committed, Aborted, Waits, Refused}}, LogEvent.{LogEvent}}
 use Rattle.lab_engine.specs.Log.{Past, Txn, active, active_after, waiting, waiting_after}
 use Rattle.lab_engine.specs.Rules.{Asks, Permitted, IsLegal}
 use Rattle.lab_engine.specs.Recording.{Line, given, lines_by, next_line, FollowsScript, AllFollowScript}
 use Rattle.lab_engine.proofs.LockSteps.{none_some}
-use Rattle.lab_session.specs.LogText.{AllPrint, SomeEvent}
-use Rattle.lab_session.specs.Play.{given_lines, IsLegalPlay}
-use Rattle.lab_session.proofs.ScriptsPrint.{not_deep, not_long}
-use Rattle.std.proofs.lemmas.Option.{same_Some}
+use Rattle.lab_session.{specs.{LogText.{AllPrint, SomeEvent}, Play.{given_lines, IsLegalPlay}}, proofs.ScriptsPrint.{not_deep, not_long}}
 
 -- ---- what waits
 

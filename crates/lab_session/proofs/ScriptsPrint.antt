@@ -1,12 +1,8 @@
 -- A script that prints breaks no limit of a text.
-use Rattle.std.proofs.Common.{◌≡◌, ℕ, zero, suc, List, [], ◌∷◌, subst, arith}
-use Rattle.std.specs.Prelude.{Contains}
-use Rattle.lab_table.specs.declared.statement.Command.{Command}
-use Rattle.lab_table.specs.declared.statement.Command.TheVariants.{Begin, Commit, Abort, Run}
-use Rattle.lab_script.specs.declared.script.Line.{Line}
-use Rattle.lab_script.specs.declared.script.Script.{Script}
+use Rattle.std.{proofs.Common.{◌≡◌, ℕ, zero, suc, List, [], ◌∷◌, subst, arith}, specs.Prelude.{Contains}}
+use Rattle.lab_table.specs.declared.statement.Command.{Command, TheVariants.{Begin, Commit, Abort, Run}}
+use Rattle.lab_script.specs.{declared.script.{Line.{Line}, Script.{Script}}, Limits.{AllPrint, ScriptPrints, BreaksDepth, BreaksLength, BreaksTables, long_setup, many_lines, long_statement}}
 use Rattle.lab_statement.specs.Limits.{CommandPrints, IsDeep, IsLong}
-use Rattle.lab_script.specs.Limits.{AllPrint, ScriptPrints, BreaksDepth, BreaksLength, BreaksTables, long_setup, many_lines, long_statement}
 
 -- each line's command prints
 line_prints : (lines : List Line) → AllPrint lines → (line : Line) → Contains lines line → CommandPrints line.command

@@ -1,15 +1,8 @@
 -- A chain of waiting sessions, each blocked by the next, without those that it meets again.
-use Rattle.std.proofs.Common.{◌≡◌, ℕ, refl, sym, subst, ◌∙◌, Bool, true, false, ◌||◌, List, [], ◌∷◌}
-use Rattle.std.specs.Prelude.{◌==◌, Some}
-use Rattle.std.specs.List.{list_any}
-use Rattle.std.proofs.lemmas.Bool.{both_ways, eqb-true}
-use Rattle.std.proofs.lemmas.Option.{same_Some}
-use Rattle.lab_table.specs.Table.{Table}
-use Rattle.lab_table.specs.declared.statement.Statement.{Statement}
+use Rattle.std.{proofs.{Common.{◌≡◌, ℕ, refl, sym, subst, ◌∙◌, Bool, true, false, ◌||◌, List, [], ◌∷◌}, lemmas.{Bool.{both_ways, eqb-true}, Option.{same_Some}}}, specs.{Prelude.{◌==◌, Some}, List.{list_any}}}
+use Rattle.lab_table.specs.{Table.{Table}, declared.statement.Statement.{Statement}}
 use Rattle.lab_history.specs.HistoryRules.{AllDistinct}
-use Rattle.lab_engine.specs.declared.event.Level.{Level}
-use Rattle.lab_engine.specs.Log.{Past, waiting}
-use Rattle.lab_engine.specs.Rules.{IsChain}
+use Rattle.lab_engine.specs.{declared.event.Level.{Level}, Log.{Past, waiting}, Rules.{IsChain}}
 
 module _ (level : Level) (setup : Table) (past : Past) (goal : ℕ) where
   -- a chain from a session on, on which nobody stands twice

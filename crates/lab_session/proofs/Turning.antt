@@ -1,29 +1,15 @@
 -- A list with one more call; a command that isn't answered waits; of those to be retried there is one least, and it is answered.
-use Rattle.std.proofs.Common.{◌≡◌, ◌≢◌, ℕ, ◌<◌, ◌-◌, ◌++◌, length, length-append, refl, sym, ap, subst, ◌∙◌, arith, true, false, List, [], ◌∷◌, ◌⊎◌, inl, inr}
+use Rattle.std.proofs.{Common.{◌≡◌, ◌≢◌, ℕ, ◌<◌, ◌-◌, ◌++◌, length, length-append, refl, sym, ap, subst, ◌∙◌, arith, true, false, List, [], ◌∷◌, ◌⊎◌, inl, inr}, lemmas.{Bool.{both_ways, eq-eqb}, Option.{same_Some}}}
 use Rattle.std.specs.Prelude.{IsSome, is_some, cond, Option, Some, None, option_map, Contains, MatchOption, slice_get}
-use Rattle.std.proofs.lemmas.Bool.{both_ways, eq-eqb}
-use Rattle.std.proofs.lemmas.Option.{same_Some}
-use Rattle.lab_table.specs.Table.{Table}
-use Rattle.lab_table.specs.declared.statement.Statement.{Statement}
-use Rattle.lab_table.specs.declared.statement.Command.{Command}
-use Rattle.lab_table.specs.declared.statement.Command.TheVariants.{Run}
-use Rattle.lab_table.proofs.Members.{first_member}
-use Rattle.lab_table.proofs.Tests.{slice_get-middle}
-use Rattle.lab_engine.specs.declared.event.Level.{Level}
-use Rattle.lab_engine.specs.declared.event.EngineFault.TheVariants.{Busy}
-use Rattle.lab_engine.specs.declared.event.Outcome.{Outcome}
-use Rattle.lab_engine.specs.declared.event.Outcome.TheVariants.{Begun, Rows as Listed, Committed, Aborted, Waits, Refused}
-use Rattle.lab_engine.specs.declared.event.LogEvent.{LogEvent}
+use Rattle.lab_table.{specs.{Table.{Table}, declared.statement.{Statement.{Statement}, Command.{Command, TheVariants.{Run}}}}, proofs.{Members.{first_member}, Tests.{slice_get-middle}}}
+use Rattle.lab_engine.specs.declared.event.{Level.{Level}, EngineFault.TheVariants.{Busy}, Outcome.{Outcome, TheVariants.{Begun, Rows as Listed, Committed, Aborted, Waits, Refused}}, LogEvent.{LogEvent}}
 use Rattle.lab_engine.specs.Log.{Past, past_of, asked, waiting}
 use Rattle.lab_engine.specs.Rules.{BlockedBy, IsFree, IsCircle, Permitted}
 use Rattle.lab_engine.specs.Engine.{Appends, IsStep, IsRetry}
 use Rattle.lab_engine.specs.Recording.{is_answer, NoneRetryable, IsLeastRetryable}
-use Rattle.lab_engine.proofs.LockSteps.{none_some}
-use Rattle.lab_engine.proofs.Runs.{past_of-push}
-use Rattle.lab_session.specs.declared.bench.Receipt.{Receipt}
-use Rattle.lab_session.specs.declared.seat.Call.{Call}
+use Rattle.lab_engine.proofs.{LockSteps.{none_some}, Runs.{past_of-push}}
+use Rattle.lab_session.specs.{declared.{bench.Receipt.{Receipt}, seat.Call.{Call}}, Seats.{Seated, IsLogged, GrowsBy, last_outcome}}
 use Rattle.lab_engine.specs.Journal.{EngineRun}
-use Rattle.lab_session.specs.Seats.{Seated, IsLogged, GrowsBy, last_outcome}
 
 -- what the last of the calls was answered
 pub last_is : (calls : List Call) (call : Call) → last_outcome (calls ++ call ∷ []) ≡ Some call.receipt.outcome

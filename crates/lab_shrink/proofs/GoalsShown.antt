@@ -1,31 +1,16 @@
 -- What it is of a history that it shows a goal.
-use Rattle.std.proofs.Common.{◌≡◌, ◌⊎◌, inl, inr, ℕ, Bool, true, false, cond, Option, Some, None, List, refl, sym, subst}
-use Rattle.std.specs.Prelude.{◌↔◌}
+use Rattle.std.{proofs.Common.{◌≡◌, ◌⊎◌, inl, inr, ℕ, Bool, true, false, cond, Option, Some, None, List, refl, sym, subst}, specs.Prelude.{◌↔◌}}
 use Rattle.lab_table.specs.Row.{Row}
 use Rattle.lab_history.specs.History.{History}
-use Rattle.lab_deps.specs.FaultOrder.{IsFirst}
-use Rattle.lab_deps.specs.Refusal.{is_uncommitted_read}
-use Rattle.lab_deps.specs.Soundness.{IsSound}
-use Rattle.lab_deps.specs.declared.edge.Edge.{Edge}
-use Rattle.lab_deps.specs.declared.fault.LocalFault.{LocalFault}
+use Rattle.lab_deps.specs.{FaultOrder.{IsFirst}, Refusal.{is_uncommitted_read}, Soundness.{IsSound}, declared.{edge.Edge.{Edge}, fault.LocalFault.{LocalFault}}}
 use Rattle.lab_deps.specs.declared.fault.LocalFault.TheVariants as fault
 use Rattle.lab_judge.specs.Findings as found
 use Rattle.lab_judge.specs.Judgement.{FindsWalk, FindsFault, JudgesAll, JudgesAtRead, Judges, IsExactJudgement, IsSerialVerdict, RestsOnOrder}
 use Rattle.lab_judge.specs.Phenomena.{IsClosedWalk, IsG0, IsG1c, IsGSingle, IsG2Item, IsG2}
-use Rattle.lab_judge.specs.declared.report.Finding.{Finding}
-use Rattle.lab_judge.specs.declared.report.Finding.TheVariants.{Absent, Walk, At, NotJudged}
-use Rattle.lab_judge.specs.declared.report.Grade.{Grade}
-use Rattle.lab_judge.specs.declared.report.Report.{Report}
-use Rattle.lab_judge.specs.declared.serial.Serial.{Serial}
+use Rattle.lab_judge.specs.declared.{report.{Finding.{Finding, TheVariants.{Absent, Walk, At, NotJudged}}, Grade.{Grade}, Report.{Report}}, serial.Serial.{Serial}}
 use Rattle.lab_judge.specs.declared.serial.Serial.TheVariants as serial
-use Rattle.lab_reports.specs.Phenomena.{finding_of}
-use Rattle.lab_reports.specs.Shortfall.{is_present}
-use Rattle.lab_reports.specs.declared.phenomenon.Phenomenon.{Phenomenon}
-use Rattle.lab_reports.specs.declared.phenomenon.Phenomenon.TheVariants.{G0, G1a, G1b, G1c, GSingle, G2Item, G2}
-use Rattle.lab_shrink.specs.Goals.{kind_of, verdict_goal, goal_of, is_of_sound, IsNoOrder, IsFaultOf, IsShownBy, Shows, HasWalk, HasFault, Has}
-use Rattle.lab_shrink.specs.declared.goal.FaultKind.{FaultKind}
-use Rattle.lab_shrink.specs.declared.goal.Goal.{Goal}
-use Rattle.lab_shrink.specs.declared.goal.Goal.TheVariants.{NoOrder, Fault, Present}
+use Rattle.lab_reports.specs.{Phenomena.{finding_of}, Shortfall.{is_present}, declared.phenomenon.Phenomenon.{Phenomenon, TheVariants.{G0, G1a, G1b, G1c, GSingle, G2Item, G2}}}
+use Rattle.lab_shrink.specs.{Goals.{kind_of, verdict_goal, goal_of, is_of_sound, IsNoOrder, IsFaultOf, IsShownBy, Shows, HasWalk, HasFault, Has}, declared.goal.{FaultKind.{FaultKind}, Goal.{Goal, TheVariants.{NoOrder, Fault, Present}}}}
 
 -- ---- verdicts
 

@@ -1,12 +1,8 @@
 -- What is smaller than a smaller history is smaller than the whole.
-use Rattle.std.proofs.Common.{Some, None}
-use Rattle.std.specs.Prelude.{Option, IfSome, IfOk, Result, Ok, Err, unwrap_or}
+use Rattle.std.{proofs.Common.{Some, None}, specs.Prelude.{Option, IfSome, IfOk, Result, Ok, Err, unwrap_or}}
 use Rattle.lab_history.specs.History.{History}
-use Rattle.lab_cut.specs.PartOf.{IsPartOf}
-use Rattle.lab_cut.proofs.PartLaws.{part_through}
-use Rattle.lab_shrink.specs.Goals.{Shows}
-use Rattle.lab_shrink.specs.Smaller.{IsSmaller}
-use Rattle.lab_shrink.specs.declared.goal.Goal.{Goal}
+use Rattle.lab_cut.{specs.PartOf.{IsPartOf}, proofs.PartLaws.{part_through}}
+use Rattle.lab_shrink.specs.{Goals.{Shows}, Smaller.{IsSmaller}, declared.goal.Goal.{Goal}}
 
 -- from the smallest so far, or from the whole where there is none yet
 pub smaller_still : (whole : History) (goal : Goal) (found : Option History) (part : History) → IfSome found (IsSmaller whole goal) → IsSmaller (unwrap_or found whole) goal part → IsSmaller whole goal part

@@ -2,8 +2,7 @@
 use Rattle.std.proofs.Common.{List, ℕ, Option, Some}
 use Rattle.lab_history.specs.History.{History}
 use Rattle.lab_reports.specs.declared.phenomenon.Phenomenon.{Phenomenon}
-use Rattle.lab_shrink.specs.Smaller.{IsSmaller}
-use Rattle.lab_shrink.specs.declared.goal.Goal.{Goal}
+use Rattle.lab_shrink.specs.{Smaller.{IsSmaller}, declared.goal.Goal.{Goal}}
 use Rattle.lab_shrink_commands.specs.Answer.{IsGoalOf, IsFileOf, IsSmallerFile}
 
 -- by what a judgement of the whole shows

@@ -9,11 +9,8 @@ pub use Rattle.std.proofs.lemmas.List.{drop_all, drop_more, get_or-drop, length-
 pub use Rattle.std.proofs.lemmas.List.Folds.{list_all-append}
 pub use Rattle.std.proofs.lemmas.Option.{none-some, same_Some}
 pub use Rattle.std.proofs.lemmas.Result.{IfOk-equal, err_from_is_err_and}
-pub use Rattle.std.specs.Char.{is_ascii_digit, to_ascii_lowercase}
+pub use Rattle.std.specs.{Char.{is_ascii_digit, to_ascii_lowercase}, Fmt.{decimal, digit_glyph, digits_onto, signed_decimal}, List.{list_all, prefix_len}, Prelude.{IsTrue, OnOk, codes, if◌then◌else◌, is_ok, is_some, nat_le, negsuc, option_map, pos, unwrap_or, ℤ, ◌-ℤ◌, ◌||◌, ◌↔◌}}
 unfoldable pub use Rattle.std.specs.Fmt.{digits}
-pub use Rattle.std.specs.Fmt.{decimal, digit_glyph, digits_onto, signed_decimal}
-pub use Rattle.std.specs.List.{list_all, prefix_len}
-pub use Rattle.std.specs.Prelude.{IsTrue, OnOk, codes, if◌then◌else◌, is_ok, is_some, nat_le, negsuc, option_map, pos, unwrap_or, ℤ, ◌-ℤ◌, ◌||◌, ◌↔◌}
 pub use Rattle.lab_statement.specs.Depth.{deeper, depth_of, kind_depth, statement_depth, where_depth}
 pub use Rattle.lab_statement.specs.Each.{Each}
 pub use Rattle.lab_statement.specs.Fault.{IsFirstInText, IsStatementFault, SaysOfStatement, refusal_at}
@@ -28,15 +25,5 @@ unfoldable pub use Rattle.lab_statement.specs.Stopping.{atom_read, cmp_read, col
 pub use Rattle.lab_statement.specs.Stopping.{Reading, Reads, Stops, StopsAt, cmp_in, cmp_of, if_found, name_of, one_more, read_value, token_read, tokens_read, ◌>>=◌}
 pub use Rattle.lab_statement.specs.Text.{AreStatementTokens, BeginsLongStatement, HasWhere, SpellsStatement, begins_remark, code_of, is_code_byte, remark_of}
 pub use Rattle.lab_statement.specs.Token.{Part, begun, ended, is_blank, is_known, is_letter, letters, longer, longer_token, mark, tokens, tokens_from, whole, with_digit, word_token}
-pub use Rattle.lab_statement.specs.declared.fault.Refusal.{Refusal}
-pub use Rattle.lab_statement.specs.declared.fault.ScriptFaultKind.{ScriptFaultKind}
-pub use Rattle.lab_statement.specs.declared.fault.ScriptFaultKind.TheVariants.{NumberOutOfRange, TooManyTables, UnknownStatement}
-pub use Rattle.lab_statement.specs.declared.token.Token.{Token}
-pub use Rattle.lab_table.specs.Predicate.{Predicate, parts}
-pub use Rattle.lab_table.specs.TableName.{has_name_form, is_name_letter, is_table_name}
-pub use Rattle.lab_table.specs.Words.{is_reserved, word_named}
-pub use Rattle.lab_table.specs.declared.predicate.Cmp.{Cmp}
-pub use Rattle.lab_table.specs.declared.predicate.Col.{Col}
-pub use Rattle.lab_table.specs.declared.statement.Expr.{Expr}
-pub use Rattle.lab_table.specs.declared.statement.Statement.{Statement}
-pub use Rattle.lab_table.specs.declared.word.Word.{Word}
+pub use Rattle.lab_statement.specs.declared.{fault.{Refusal.{Refusal}, ScriptFaultKind.{ScriptFaultKind, TheVariants.{NumberOutOfRange, TooManyTables, UnknownStatement}}}, token.Token.{Token}}
+pub use Rattle.lab_table.specs.{Predicate.{Predicate, parts}, TableName.{has_name_form, is_name_letter, is_table_name}, Words.{is_reserved, word_named}, declared.{predicate.{Cmp.{Cmp}, Col.{Col}}, statement.{Expr.{Expr}, Statement.{Statement}}, word.Word.{Word}}}

@@ -1,6 +1,5 @@
 -- What is read of a text, where no byte of it is unknown, are its tokens, each as long as it can be.
-use Rattle.std.specs.Prelude.{Contains}
-use Rattle.std.proofs.lemmas.List.Folds.{length-prefix_len}
+use Rattle.std.{specs.Prelude.{Contains}, proofs.lemmas.List.Folds.{length-prefix_len}}
 use Rattle.lab_statement.proofs.Common.{◌≡◌, ℕ, zero, suc, ◌≤◌, ◌⊎◌, Bool, true, false, cond, not, ◌&&◌, ◌||◌, ◌==◌, nat_le, List, [], ◌∷◌, ◌++◌, length, take, drop, refl, sym, ap, subst, ◌∙◌, inl, inr, arith, length-append, take-append-drop, list_all, prefix_len, nat_tests, leb-true, and_from, and_parts, cases_Bool, eqb-true, false≢true, not-true, is_ascii_digit, to_ascii_lowercase, map, Token, whole, is_blank, is_known, is_letter, word_token, mark, tokens, tokens_from, ◌↔◌}
 use Rattle.lab_statement.specs.declared.token.Token.TheVariants as token
 use Rattle.lab_statement.specs.TokensOf.{AreTokens, IsToken, marks, number_of}

@@ -1,10 +1,9 @@
 -- The printed form of a predicate is in the grammar.
-use Rattle.lab_statement.proofs.Common.{ℕ, zero, suc, ◌≤◌, Bool, true, false, List, [], ◌∷◌, ◌++◌, arith, ◌||◌, Predicate, Token, is_and, is_or, deeper, depth_of, Kind, P, A, N, IsPred, col_token, cmp_token, PredInRange}
+use Rattle.lab_statement.proofs.{Common.{ℕ, zero, suc, ◌≤◌, Bool, true, false, List, [], ◌∷◌, ◌++◌, arith, ◌||◌, Predicate, Token, is_and, is_or, deeper, depth_of, Kind, P, A, N, IsPred, col_token, cmp_token, PredInRange}, PrintedNumbers.{number_tokens, number_fits, list_tokens, list_fits}}
 use Rattle.lab_table.specs.Predicate as predicate
 use Rattle.lab_table.specs.declared.word.Word.TheVariants as word
 use Rattle.lab_statement.specs.declared.token.Token.TheVariants as token
 use Rattle.lab_statement.specs.Grammar as grammar
-use Rattle.lab_statement.proofs.PrintedNumbers.{number_tokens, number_fits, list_tokens, list_fits}
 
 -- tokens, in parentheses where the test is true
 abbrev pub wrapped : Bool → List Token → List Token

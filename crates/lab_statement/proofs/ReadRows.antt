@@ -1,8 +1,7 @@
 -- A row of the grammar is read.
-use Rattle.lab_statement.proofs.Common.{◌≡◌, ℕ, List, [], ◌∷◌, ◌++◌, refl, ◌∙◌, append_assoc, ℤ, Token, IsRow, Reads, row_read}
+use Rattle.lab_statement.proofs.{Common.{◌≡◌, ℕ, List, [], ◌∷◌, ◌++◌, refl, ◌∙◌, append_assoc, ℤ, Token, IsRow, Reads, row_read}, ReadNumbers.{number_again, positive_again}}
 use Rattle.lab_statement.specs.declared.token.Token.TheVariants as token
 use Rattle.lab_statement.specs.Grammar as grammar
-use Rattle.lab_statement.proofs.ReadNumbers.{number_again, positive_again}
 
 -- the parts of a row, and what follows it
 pub parts_of : (is vs rest : List Token) → is ++ token.Comma ∷ vs ++ token.Close ∷ [] ++ rest ≡ is ++ (token.Comma ∷ (vs ++ token.Close ∷ rest))

@@ -1,8 +1,7 @@
 -- The statement that a text spells is what reading the text gives.
 use Rattle.lab_statement.proofs.Common.{◌≡◌, ℕ, true, List, length, Some, None, ◌≢◌, refl, sym, ap, ◌∙◌, arith, nat_le, list_all, eqb-true, eq-eqb, le-leb, leb-true, and_from, and_parts, same_Some, Statement, IsStatementFault, tokens, read_value, whole_statement_read, code_of, is_code_byte, SpellsStatement}
-use Rattle.lab_statement.specs.declared.fault.ScriptFault.{ScriptFault}
+use Rattle.lab_statement.specs.{declared.fault.ScriptFault.{ScriptFault}, StatementText.{is_code_alone, statement_in}}
 use Rattle.lab_statement.specs.declared.fault.ScriptFault.TheVariants as fault
-use Rattle.lab_statement.specs.StatementText.{is_code_alone, statement_in}
 use Rattle.lab_statement.proofs.Remarks.{code_undashed, undashed_code}
 use Rattle.lab_statement.proofs.KnownTokens.{as_spelled, as_whole}
 use Rattle.lab_statement.proofs.Readings.{valued}

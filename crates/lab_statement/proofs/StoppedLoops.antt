@@ -1,6 +1,5 @@
 -- Members with a connective between two of them, read by a loop that may stop at a fault.
-use Rattle.lab_statement.proofs.Common.{◌≡◌, ℕ, zero, suc, ◌≤◌, ◌<◌, List, length, Some, None, refl, sym, ap, ◌∙◌, arith, Token, Refusal, after, Reading, Reads, StopsAt, more_read, joined_read}
-use Rattle.lab_statement.proofs.Readings.{stops_as}
+use Rattle.lab_statement.proofs.{Common.{◌≡◌, ℕ, zero, suc, ◌≤◌, ◌<◌, List, length, Some, None, refl, sym, ap, ◌∙◌, arith, Token, Refusal, after, Reading, Reads, StopsAt, more_read, joined_read}, Readings.{stops_as}}
 
 abbrev pub Reader : Type 0 → Type 0
 Reader X = List Token → Reading (X × List Token)

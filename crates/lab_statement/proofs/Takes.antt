@@ -1,6 +1,5 @@
 -- What a reading takes from the front of tokens, and with which faults it stops.
-use Rattle.lab_statement.proofs.Common.{◌≡◌, Bool, true, false, cond, List, [], ◌∷◌, ◌++◌, Option, Some, None, refl, sym, ap, subst, ◌∙◌, append_assoc, Token, ScriptFaultKind, UnknownStatement, after, Reading, Reads, Stops, ◌>>=◌, if_found, token_read, tokens_read}
-use Rattle.lab_statement.proofs.SameTokens.{after_is}
+use Rattle.lab_statement.proofs.{Common.{◌≡◌, Bool, true, false, cond, List, [], ◌∷◌, ◌++◌, Option, Some, None, refl, sym, ap, subst, ◌∙◌, append_assoc, Token, ScriptFaultKind, UnknownStatement, after, Reading, Reads, Stops, ◌>>=◌, if_found, token_read, tokens_read}, SameTokens.{after_is}}
 
 -- each value that is read is one of these, and each fault with which reading stops is one of those
 pub data Gives {X : Type 0} (Fault : ScriptFaultKind → Type 0) (Is : X → Type 0) : Reading X → Type 0 where

@@ -1,8 +1,6 @@
 -- What reading takes from a reader.
-use Rattle.std.proofs.Common.{◌≡◌, ◌⊎◌, inl, inr, ℕ, ◌≤◌, List, [], ◌++◌, length, Option, None, Some, IfSome, ap, sym, subst, refl, ◌∙◌, take_all, append-nil, append_assoc, take}
-use Rattle.std.proofs.lemmas.List.{take_at}
+use Rattle.std.proofs.{Common.{◌≡◌, ◌⊎◌, inl, inr, ℕ, ◌≤◌, List, [], ◌++◌, length, Option, None, Some, IfSome, ap, sym, subst, refl, ◌∙◌, take_all, append-nil, append_assoc, take}, lemmas.List.{take_at}, KnownBytes.{Consumes-nil, Consumes-trans, Consumes-kept}}
 use Rattle.std.specs.Io.KnownBytes.{Consumes, Keeps, IsAtEnd}
-use Rattle.std.proofs.KnownBytes.{Consumes-nil, Consumes-trans, Consumes-kept}
 use Rattle.lab_streams.specs.Input.{Takes, read_of}
 
 module _ (a b : Option (List ℕ)) where

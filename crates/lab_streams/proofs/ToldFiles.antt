@@ -2,10 +2,7 @@
 use Rattle.std.proofs.Common.{◌≡◌, inl, inr, ℕ, None, List, sym, ap, subst, ◌∙◌}
 use Rattle.lab_history.specs.History.{History}
 use Rattle.lab_history_file.proofs.OneFile.{one_history, no_file_fault, one_fault}
-use Rattle.lab_streams.specs.HistoryFile.{IsToldOf}
-use Rattle.lab_streams.specs.Reports.{refused_text}
-use Rattle.lab_streams.specs.declared.reporting.Format.{Format}
-use Rattle.lab_streams.specs.declared.ending.Ending.{Ending}
+use Rattle.lab_streams.specs.{HistoryFile.{IsToldOf}, Reports.{refused_text}, declared.{reporting.Format.{Format}, ending.Ending.{Ending}}}
 
 module _ (format : Format) (Tells : History → List ℕ → Ending → Type 0) (one_of : (h : History) (one other : List ℕ) (first again : Ending) → Tells h one first → Tells h other again → (one ≡ other) × (first ≡ again))
     (input one other : List ℕ) (first again : Ending) where

@@ -1,7 +1,5 @@
 -- A stream to which nothing was written.
-use Rattle.std.proofs.Common.{ℕ, List, refl}
-use Rattle.std.specs.Prelude.{Option, Some, None, Result, Ok, Err, OnErr}
-use Rattle.std.specs.Io.KnownBytes.{Keeps}
+use Rattle.std.{proofs.Common.{ℕ, List, refl}, specs.{Prelude.{Option, Some, None, Result, Ok, Err, OnErr}, Io.KnownBytes.{Keeps}}}
 
 pub kept : (known : Option (List ℕ)) → Keeps known known
 kept None = tt

@@ -1,13 +1,10 @@
 -- A statement without a test of values answers for a row's number alone.
-use Rattle.std.proofs.Common.{◌≡◌, ℕ, ℤ, List, false, not, ◌&&◌, ◌||◌, Option, Some, None, refl, ap, ◌∙◌}
-use Rattle.std.proofs.lemmas.Bool.{or_parts, true≢false}
+use Rattle.std.proofs.{Common.{◌≡◌, ℕ, ℤ, List, false, not, ◌&&◌, ◌||◌, Option, Some, None, refl, ap, ◌∙◌}, lemmas.Bool.{or_parts, true≢false}}
 use Rattle.lab_table.specs.Row.{Row, is_in}
 use Rattle.lab_table.specs.Predicate.{Predicate, Compare, Remainder, OneOf, Not, And, Or, holds}
 use Rattle.lab_table.specs.Statement.{where_holds, kind_selects}
 use Rattle.lab_table.specs.ValueTests.{pred_tests, where_tests, kind_tests}
-use Rattle.lab_table.specs.declared.predicate.Col.TheVariants.{Id, Value}
-use Rattle.lab_table.specs.declared.statement.StatementKind.{StatementKind}
-use Rattle.lab_table.specs.declared.statement.StatementKind.TheVariants.{Select, Update, Insert, Delete}
+use Rattle.lab_table.specs.declared.{predicate.Col.TheVariants.{Id, Value}, statement.StatementKind.{StatementKind, TheVariants.{Select, Update, Insert, Delete}}}
 
 module _ (id : ℕ) (x y : ℤ) where
   blind_pred : (p : Predicate) → pred_tests p ≡ false → holds p id x ≡ holds p id y

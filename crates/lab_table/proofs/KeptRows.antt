@@ -1,15 +1,7 @@
 -- Rows of a table that are kept, and rows whose values are made anew.
 use Rattle.std.proofs.Common.{◌≡◌, ℤ, Bool, true, false, cond, T, List, [], ◌∷◌, map, Some, refl, sym, ap, ◌∙◌}
-use Rattle.std.specs.Prelude.{filter, option_map}
-use Rattle.std.specs.Ordering.{is_lt}
-use Rattle.std.specs.FinMap.{find, is_sorted, from_entries, from_sorted, entries, get-from_entries, get-from_sorted, entries-from_sorted, entries_sorted}
-use Rattle.std.specs.FinMap.Entries.{below_all}
-use Rattle.lab_table.specs.Row.{Row, row_cmp, row_eq, rows_total}
-use Rattle.lab_table.specs.Table.{Table}
-use Rattle.lab_table.specs.Statement.{selects, matching}
-use Rattle.lab_table.specs.declared.statement.Statement.{Statement}
-use Rattle.lab_table.proofs.Maps.{same_row, same_rows}
-use Rattle.lab_table.proofs.Tests.{both, joined}
+use Rattle.std.specs.{Prelude.{filter, option_map}, Ordering.{is_lt}, FinMap.{find, is_sorted, from_entries, from_sorted, entries, get-from_entries, get-from_sorted, entries-from_sorted, entries_sorted, Entries.{below_all}}}
+use Rattle.lab_table.{specs.{Row.{Row, row_cmp, row_eq, rows_total}, Table.{Table}, Statement.{selects, matching}, declared.statement.Statement.{Statement}}, proofs.{Maps.{same_row, same_rows}, Tests.{both, joined}}}
 
 -- what is below all is below those that are kept
 below-filter : (p : Row → ℤ → Bool) (x : Row) (es : List (Row × ℤ)) → T (below_all row_cmp x es) → T (below_all row_cmp x (filter (λ e. p e.0 e.1) es))

@@ -1,8 +1,6 @@
 -- A predicate that a id's own number rules out isn't true of it.
-use Rattle.std.proofs.Common.{◌≡◌, ℕ, ℤ, Bool, true, false, ◌&&◌, ◌||◌, refl, sym, ap, ◌∙◌}
-use Rattle.std.proofs.lemmas.Bool.{false≢true}
-use Rattle.lab_table.specs.Predicate.{Predicate, Compare, Remainder, OneOf, Not, And, Or, holds, may_hold}
-use Rattle.lab_table.specs.declared.predicate.Col.TheVariants.{Id, Value}
+use Rattle.std.proofs.{Common.{◌≡◌, ℕ, ℤ, Bool, true, false, ◌&&◌, ◌||◌, refl, sym, ap, ◌∙◌}, lemmas.Bool.{false≢true}}
+use Rattle.lab_table.specs.{Predicate.{Predicate, Compare, Remainder, OneOf, Not, And, Or, holds, may_hold}, declared.predicate.Col.TheVariants.{Id, Value}}
 
 and_off : (a b c d : Bool) → (a ≡ false → c ≡ false) → (b ≡ false → d ≡ false) → (a && b) ≡ false → (c && d) ≡ false
 and_off false b c d f g off = ap (λ x. x && d) (f refl)

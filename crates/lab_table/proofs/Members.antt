@@ -1,8 +1,5 @@
 -- Members of lists.
-use Rattle.std.proofs.Common.{◌≡◌, ℕ, zero, suc, List, [], ◌∷◌, Some, refl, ap, ◌∙◌, arith}
-use Rattle.std.specs.Prelude.{Contains, slice_get}
-use Rattle.std.proofs.lemmas.List.Elements.{Contains-append_right}
-use Rattle.std.proofs.lemmas.Option.{slice_get_within, slice_get-get_or, get_or_from_slice_get}
+use Rattle.std.{proofs.{Common.{◌≡◌, ℕ, zero, suc, List, [], ◌∷◌, Some, refl, ap, ◌∙◌, arith}, lemmas.{List.Elements.{Contains-append_right}, Option.{slice_get_within, slice_get-get_or, get_or_from_slice_get}}}, specs.Prelude.{Contains, slice_get}}
 
 module _ {X : Type 0} where
   pub no_member : (x : X) → Contains [] x → ⊥

@@ -1,17 +1,7 @@
 -- The names of tables, as bytes.
-use Rattle.std.proofs.Common.{◌≡◌, ℕ, zero, suc, ◌≤◌, true, false, ◌&&◌, not, T, List, [], ◌∷◌, length, sym, ap, ◌∙◌, subst, arith}
-use Rattle.std.specs.Prelude.{◌-◌, nat_le, take, replicate}
-use Rattle.std.specs.Ordering.{nat_cmp}
-use Rattle.std.specs.Cmp.Lexicographic.{slice_cmp}
-use Rattle.std.specs.List.{list_all}
-use Rattle.std.specs.Char.{to_ascii_lowercase}
-use Rattle.std.proofs.lemmas.List.{length-map, take_at}
-use Rattle.std.proofs.lemmas.Bool.{and_from, leb-true, ne_eqb}
-use Rattle.lab_table.specs.Words.{is_reserved}
-use Rattle.lab_table.specs.Padded.{padded, unpadded, is_nonzero}
-use Rattle.lab_table.specs.TableName.{has_name_form, is_name_letter, is_table_name, in_lower_case, table_name_cmp}
-use Rattle.lab_table.proofs.Tests.{both, joined}
-use Rattle.lab_table.proofs.PaddedTexts.{is_true, unpadded_padded, padded_compared}
+use Rattle.std.proofs.{Common.{◌≡◌, ℕ, zero, suc, ◌≤◌, true, false, ◌&&◌, not, T, List, [], ◌∷◌, length, sym, ap, ◌∙◌, subst, arith}, lemmas.{List.{length-map, take_at}, Bool.{and_from, leb-true, ne_eqb}}}
+use Rattle.std.specs.{Prelude.{◌-◌, nat_le, take, replicate}, Ordering.{nat_cmp}, Cmp.Lexicographic.{slice_cmp}, List.{list_all}, Char.{to_ascii_lowercase}}
+use Rattle.lab_table.{specs.{Words.{is_reserved}, Padded.{padded, unpadded, is_nonzero}, TableName.{has_name_form, is_name_letter, is_table_name, in_lower_case, table_name_cmp}}, proofs.{Tests.{both, joined}, PaddedTexts.{is_true, unpadded_padded, padded_compared}}}
 
 -- a letter of a name isn't zero
 letter_nonzero : (b : ℕ) → T (is_name_letter b) → T (is_nonzero b)

@@ -1,15 +1,10 @@
 -- What a statement does to one row, by what it is: one that only lists, an insert, or one that changes what it lists.
-use Rattle.std.proofs.Common.{◌≡◌, ℕ, ℤ, Bool, true, false, cond, not, ◌&&◌, List, Option, Some, None, refl, sym, ap, ◌∙◌}
-use Rattle.std.specs.Prelude.{is_some, is_none, option_map, option_and_then}
-use Rattle.std.proofs.lemmas.Bool.{false≢true}
-use Rattle.std.proofs.lemmas.Option.{same_Some, none-some}
+use Rattle.std.{proofs.{Common.{◌≡◌, ℕ, ℤ, Bool, true, false, cond, not, ◌&&◌, List, Option, Some, None, refl, sym, ap, ◌∙◌}, lemmas.{Bool.{false≢true}, Option.{same_Some, none-some}}}, specs.Prelude.{is_some, is_none, option_map, option_and_then}}
 use Rattle.lab_table.specs.Row.{Row, row_eq, numbered, is_in}
 use Rattle.lab_table.specs.Table.{State}
 use Rattle.lab_table.specs.Predicate.{Predicate}
 use Rattle.lab_table.specs.Statement.{where_holds, where_may_hold, picks, may_pick, applied, in_range, overflows, state_left, is_read_only, is_update, inserted, matches, may_match, listed, written, fails, would_write, new_state, kind_is_read_only, kind_is_update, kind_inserted, kind_selects, kind_matches, kind_may_match, kind_matched, kind_rewritten, kind_listed, kind_written, kind_fails, kind_would_write, kind_new_state}
-use Rattle.lab_table.specs.declared.statement.Statement.{Statement}
-use Rattle.lab_table.specs.declared.statement.StatementKind.{StatementKind}
-use Rattle.lab_table.specs.declared.statement.StatementKind.TheVariants.{Select, Update, Insert, Delete}
+use Rattle.lab_table.specs.declared.statement.{Statement.{Statement}, StatementKind.{StatementKind, TheVariants.{Select, Update, Insert, Delete}}}
 use Rattle.lab_table.proofs.MayHold.{ruled_out}
 
 -- the state of a row that was deleted

@@ -1,24 +1,14 @@
 -- Sorted lists of rows of one table: their rows are found by their numbers.
-use Rattle.std.proofs.Common.{◌≡◌, ℕ, zero, suc, ◌-◌, ◌<◌, ◌≤◌, ◌&&◌, true, false, T, List, [], ◌∷◌, length, Some, refl, sym, ap, ◌∙◌, subst, arith}
+use Rattle.std.proofs.{Common.{◌≡◌, ℕ, zero, suc, ◌-◌, ◌<◌, ◌≤◌, ◌&&◌, true, false, T, List, [], ◌∷◌, length, Some, refl, sym, ap, ◌∙◌, subst, arith}, lemmas.{Bool.{false≢true, and_parts}, Option.{none-some, same_Some, get_or_from_slice_get}}}
 use Rattle.std.specs.Prelude.{nat_lt, slice_get, slice_index_or}
 use Rattle.std.specs.List.{list_all, prefix_len}
 use Rattle.std.specs.List.Sorted.{IsPartitionedBy, IsPartitionPoint}
 use Rattle.std.specs.Cmp.Lexicographic.{nat_list_cmp_total, nat_list_eq_equiv, bytes_decides, texts_ties}
 use Rattle.std.specs.Ordering.{ordering_then, ordering_reverse, is_eq, is_gt}
-use Rattle.std.specs.declared.cmp.Ordering.{Ordering}
-use Rattle.std.specs.declared.cmp.Ordering.TheVariants.{Less, Equal, Greater}
+use Rattle.std.specs.declared.cmp.Ordering.{Ordering, TheVariants.{Less, Equal, Greater}}
 use Rattle.std.specs.FinMap.{is_sorted}
 use Rattle.std.specs.FinMap.Entries.{below_all}
-use Rattle.std.proofs.lemmas.Bool.{false≢true, and_parts}
-use Rattle.std.proofs.lemmas.Option.{none-some, same_Some, get_or_from_slice_get}
-use Rattle.lab_table.specs.Row.{Row, row_cmp, is_in, numbered, of_table}
-use Rattle.lab_table.specs.TableName.{table_name_cmp, table_name_eq}
-use Rattle.lab_table.specs.Running.{comes_after}
-use Rattle.lab_table.specs.Placed.{is_of}
-use Rattle.lab_table.proofs.RowOrder.{in_one_table, behind_greater}
-use Rattle.lab_table.proofs.Searching.{parted, point_is}
-use Rattle.lab_table.proofs.SortedRows.{below_at}
-use Rattle.lab_table.proofs.Tests.{both}
+use Rattle.lab_table.{specs.{Row.{Row, row_cmp, is_in, numbered, of_table}, TableName.{table_name_cmp, table_name_eq}, Running.{comes_after}, Placed.{is_of}}, proofs.{RowOrder.{in_one_table, behind_greater}, Searching.{parted, point_is}, SortedRows.{below_at}, Tests.{both}}}
 
 -- the table of a lesser row doesn't come behind
 not_behind : (a b : Row) → row_cmp a b ≡ Less → is_gt (table_name_cmp a.table b.table) ≡ false

@@ -1,8 +1,5 @@
 -- What the comparison of two rows says.
-use Rattle.std.proofs.Common.{◌≡◌, true, false, T, refl, sym, ap, ◌∙◌, subst}
-use Rattle.std.specs.Ordering.{is_eq, is_lt, is_gt, ordering_reverse}
-use Rattle.std.specs.declared.cmp.Ordering.{Ordering}
-use Rattle.std.specs.declared.cmp.Ordering.TheVariants.{Less, Equal, Greater}
+use Rattle.std.{proofs.Common.{◌≡◌, true, false, T, refl, sym, ap, ◌∙◌, subst}, specs.{Ordering.{is_eq, is_lt, is_gt, ordering_reverse}, declared.cmp.Ordering.{Ordering, TheVariants.{Less, Equal, Greater}}}}
 use Rattle.lab_table.specs.Row.{Row, row_cmp, rows_total}
 
 -- a test for less

@@ -1,17 +1,7 @@
 -- Texts with zeros behind them.
-use Rattle.std.proofs.Common.{◌≡◌, ℕ, zero, suc, ◌+◌, ◌-◌, ◌≤◌, Bool, true, false, cond, ◌==◌, T, List, [], ◌∷◌, ◌++◌, length, take, drop, map, refl, sym, ap, ◌∙◌, arith}
-use Rattle.std.specs.Prelude.{replicate}
-use Rattle.std.specs.Ordering.{nat_cmp, ordering_then, ordering_reverse}
-use Rattle.std.specs.declared.cmp.Ordering.TheVariants.{Less, Equal, Greater}
-use Rattle.std.specs.Cmp.{tied_itself, nat_cmp_total}
-use Rattle.std.specs.Cmp.Lexicographic.{slice_cmp, nat_list_cmp_total}
-use Rattle.std.specs.List.{list_all, prefix_len}
-use Rattle.lab_table.specs.Padded.{padded, unpadded, is_nonzero}
-use Rattle.std.specs.Char.{to_ascii_lowercase}
-use Rattle.lab_table.specs.TableName.{in_lower_case}
-use Rattle.std.proofs.lemmas.Bool.{lt-ltb}
-use Rattle.std.proofs.lemmas.List.{map-append, length-map, drop-replicate}
-use Rattle.lab_table.proofs.Tests.{both}
+use Rattle.std.proofs.{Common.{◌≡◌, ℕ, zero, suc, ◌+◌, ◌-◌, ◌≤◌, Bool, true, false, cond, ◌==◌, T, List, [], ◌∷◌, ◌++◌, length, take, drop, map, refl, sym, ap, ◌∙◌, arith}, lemmas.{Bool.{lt-ltb}, List.{map-append, length-map, drop-replicate}}}
+use Rattle.std.specs.{Prelude.{replicate}, Ordering.{nat_cmp, ordering_then, ordering_reverse}, declared.cmp.Ordering.TheVariants.{Less, Equal, Greater}, Cmp.{tied_itself, nat_cmp_total, Lexicographic.{slice_cmp, nat_list_cmp_total}}, List.{list_all, prefix_len}, Char.{to_ascii_lowercase}}
+use Rattle.lab_table.{specs.{Padded.{padded, unpadded, is_nonzero}, TableName.{in_lower_case}}, proofs.Tests.{both}}
 
 next : (n : ℕ) → 1 + n ≡ suc n
 next n = omega arith

@@ -2,13 +2,10 @@
 use Rattle.std.proofs.Common.{◌≡◌, ℕ, ◌+◌, true, false, cond, T, List, [], ◌∷◌, ◌++◌, take, drop, length, refl, sym, ap, ◌∙◌, subst, slice_get, slice_set, one-add}
 use Rattle.std.specs.List.{prefix_len, insert as insert_at}
 use Rattle.std.specs.Ordering.{is_eq, is_gt}
-use Rattle.std.specs.declared.cmp.Ordering.{Ordering}
-use Rattle.std.specs.declared.cmp.Ordering.TheVariants.{Less, Equal, Greater}
+use Rattle.std.specs.declared.cmp.Ordering.{Ordering, TheVariants.{Less, Equal, Greater}}
 use Rattle.std.specs.FinMap.{FinMap, is_sorted, from_sorted, empty, empty_of_len, len-entries, insert, put, same_entries_map, entries-insert, entries-from_sorted}
 use Rattle.std.specs.FinMap.Entries.{by_order, is_sorted-put}
-use Rattle.lab_table.specs.Row.{Row, row_cmp, row_test, rows_total, rows_apart, rows_tested}
-use Rattle.lab_table.specs.Running.{comes_after}
-use Rattle.lab_table.specs.Placed.{is_row, is_row_at}
+use Rattle.lab_table.specs.{Row.{Row, row_cmp, row_test, rows_total, rows_apart, rows_tested}, Running.{comes_after}, Placed.{is_row, is_row_at}}
 
 -- nothing is both true and not
 never : (P : Type 0) → false ≡ true → P

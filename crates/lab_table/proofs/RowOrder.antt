@@ -1,13 +1,6 @@
 -- The order of rows, where their tables are the same and where they aren't.
-use Rattle.std.proofs.Common.{◌≡◌, ℕ, true, false, refl, sym, ap, ◌∙◌, rules}
-use Rattle.std.specs.Prelude.{nat_lt}
-use Rattle.std.specs.Ordering.{nat_cmp, ordering_then, is_eq, is_gt}
-use Rattle.std.specs.Cmp.{Equal-is}
-use Rattle.std.specs.Cmp.Lexicographic.{texts_ties}
-use Rattle.std.specs.declared.cmp.Ordering.{Ordering}
-use Rattle.std.specs.declared.cmp.Ordering.TheVariants.{Less, Equal, Greater}
-use Rattle.lab_table.specs.Row.{Row, row_cmp}
-use Rattle.lab_table.specs.TableName.{table_name_cmp, table_name_eq}
+use Rattle.std.{proofs.Common.{◌≡◌, ℕ, true, false, refl, sym, ap, ◌∙◌, rules}, specs.{Prelude.{nat_lt}, Ordering.{nat_cmp, ordering_then, is_eq, is_gt}, Cmp.{Equal-is, Lexicographic.{texts_ties}}, declared.cmp.Ordering.{Ordering, TheVariants.{Less, Equal, Greater}}}}
+use Rattle.lab_table.specs.{Row.{Row, row_cmp}, TableName.{table_name_cmp, table_name_eq}}
 
 pub apart_stays : (r other : Ordering) → is_eq r ≡ false → ordering_then r other ≡ r
 apart_stays Less other apart = refl

@@ -1,17 +1,8 @@
 -- Bytes that are compared all at once: whether they are the same, and where they differ first.
-use Rattle.std.proofs.Common.{◌≡◌, ℕ, zero, suc, ◌+◌, ◌-◌, ◌*◌, ◌<◌, Bool, true, false, not, cond, ◌&&◌, ◌==◌, List, [], ◌∷◌, length, map, get_or, refl, sym, ap, subst, ◌∙◌, arith, rules}
-use Rattle.std.specs.List.{prefix_len}
-use Rattle.std.specs.Simd.Lanes.{zip2, mask_l}
-use Rattle.std.specs.Ordering.{nat_cmp, ordering_then}
-use Rattle.std.specs.declared.cmp.Ordering.TheVariants.{Equal}
-use Rattle.std.specs.Cmp.{Equal-is, unsigned_ties}
-use Rattle.std.specs.Cmp.Lexicographic.{texts_ties}
-use Rattle.std.proofs.lemmas.Bool.{false≢true}
-use Rattle.std.proofs.lemmas.Simd.{length-zip2, trailing_mask_l}
+use Rattle.std.proofs.{Common.{◌≡◌, ℕ, zero, suc, ◌+◌, ◌-◌, ◌*◌, ◌<◌, Bool, true, false, not, cond, ◌&&◌, ◌==◌, List, [], ◌∷◌, length, map, get_or, refl, sym, ap, subst, ◌∙◌, arith, rules}, lemmas.{Bool.{false≢true}, Simd.{length-zip2, trailing_mask_l}}}
+use Rattle.std.specs.{List.{prefix_len}, Simd.Lanes.{zip2, mask_l}, Ordering.{nat_cmp, ordering_then}, declared.cmp.Ordering.TheVariants.{Equal}, Cmp.{Equal-is, unsigned_ties, Lexicographic.{texts_ties}}}
 use lib.Count.{count_trailing_zeros}
-use Rattle.lab_table.specs.TableName.{table_name_eq, table_name_cmp}
-use Rattle.lab_table.specs.Differences.{differ, differences}
-use Rattle.lab_table.proofs.RowOrder.{apart_stays}
+use Rattle.lab_table.{specs.{TableName.{table_name_eq, table_name_cmp}, Differences.{differ, differences}}, proofs.RowOrder.{apart_stays}}
 
 -- a number above 0 isn't 0
 above_zero : (n m : ℕ) → n ≡ suc m → (n == 0) ≡ false

@@ -1,7 +1,5 @@
 -- The order of all sessions, and the values of each.
-use Rattle.std.proofs.Common.{◌≡◌, ◌≢◌, ◌≤◌, ◌<◌, ◌+◌, ◌==◌, ◌∙◌, ℕ, suc, arith, ap, refl, sym, subst, inl, inr, cond, List, get_or, Some}
-use Rattle.std.proofs.lemmas.Bool.{cases_eq, eq-eqb, ne_eqb}
-use Rattle.std.proofs.lemmas.List.FromFn.{get_or-range_with_len}
+use Rattle.std.proofs.{Common.{◌≡◌, ◌≢◌, ◌≤◌, ◌<◌, ◌+◌, ◌==◌, ◌∙◌, ℕ, suc, arith, ap, refl, sym, subst, inl, inr, cond, List, get_or, Some}, lemmas.{Bool.{cases_eq, eq-eqb, ne_eqb}, List.FromFn.{get_or-range_with_len}}}
 use Rattle.lab_table.specs.Sessions.{all_sessions, of_session}
 
 -- the session at a place is the number behind it

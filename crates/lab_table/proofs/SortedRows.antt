@@ -1,13 +1,6 @@
 -- What stands below the rows of a list.
-use Rattle.std.proofs.Common.{◌≡◌, ℕ, zero, suc, ◌<◌, ◌&&◌, T, List, [], ◌∷◌, map, length, sym, subst, arith}
-use Rattle.std.specs.Prelude.{slice_index_or}
-use Rattle.std.specs.Ordering.{is_lt}
-use Rattle.std.specs.declared.cmp.Ordering.TheVariants.{Less}
-use Rattle.std.specs.FinMap.{is_sorted}
-use Rattle.std.specs.FinMap.Entries.{below_all}
-use Rattle.lab_table.specs.Row.{Row, row_cmp, rows_total}
-use Rattle.lab_table.proofs.Orderings.{is_less}
-use Rattle.lab_table.proofs.Tests.{both, joined}
+use Rattle.std.{proofs.Common.{◌≡◌, ℕ, zero, suc, ◌<◌, ◌&&◌, T, List, [], ◌∷◌, map, length, sym, subst, arith}, specs.{Prelude.{slice_index_or}, Ordering.{is_lt}, declared.cmp.Ordering.TheVariants.{Less}, FinMap.{is_sorted, Entries.{below_all}}}}
+use Rattle.lab_table.{specs.Row.{Row, row_cmp, rows_total}, proofs.{Orderings.{is_less}, Tests.{both, joined}}}
 
 module _ {V : Type 0} where
   -- what is below all is below each

@@ -1,7 +1,5 @@
 -- Tests that pass, and values that are there.
-use Rattle.std.proofs.Common.{◌≡◌, Bool, true, false, cond, ◌&&◌, T, List, [], ◌∷◌, ◌++◌, length, Option, Some, None, IsSome, option_map, refl, sym, subst}
-use Rattle.std.specs.Prelude.{slice_get}
-use Rattle.std.proofs.lemmas.Option.{same_Some, none-some}
+use Rattle.std.{proofs.{Common.{◌≡◌, Bool, true, false, cond, ◌&&◌, T, List, [], ◌∷◌, ◌++◌, length, Option, Some, None, IsSome, option_map, refl, sym, subst}, lemmas.Option.{same_Some, none-some}}, specs.Prelude.{slice_get}}
 
 -- a test of two things is the test of each
 pub both : (a b : Bool) → T (a && b) → T a × T b

@@ -1,11 +1,6 @@
 -- What the first row that was taken says of a commit at snapshot.
 use Rattle.std.proofs.Common.{refl, Option, Some, None, MatchOption}
-use Rattle.lab_engine.proofs.Common.{Table, Past, Txn, MayCommit}
-use Rattle.lab_engine.specs.declared.event.Level.TheVariants.{Snapshot}
-use Rattle.lab_engine.specs.declared.rules.Conflict.{Conflict}
-use Rattle.lab_engine.specs.Rules.{IsFirstConflict}
-use Rattle.lab_engine.specs.Taken.{IsFirstTaken}
-use Rattle.lab_engine.proofs.TakenRows.{first_by_write}
+use Rattle.lab_engine.{proofs.{Common.{Table, Past, Txn, MayCommit}, TakenRows.{first_by_write}}, specs.{declared.{event.Level.TheVariants.{Snapshot}, rules.Conflict.{Conflict}}, Rules.{IsFirstConflict}, Taken.{IsFirstTaken}}}
 
 -- a transaction may commit, or it is its first conflict
 pub taken_answers : (setup : Table) (past : Past) (txn : Txn) (found : Option Conflict) → IsFirstTaken past txn found

@@ -1,10 +1,8 @@
-use Rattle.std.proofs.Common.{◌≡◌, ◌≤◌, refl}
-use Rattle.std.specs.Prelude.{not}
+use Rattle.std.{proofs.Common.{◌≡◌, ◌≤◌, refl}, specs.Prelude.{not}}
 use Rattle.lab_deps.specs.KindSets.{is_anti}
 use Rattle.lab_judge.specs.Findings as found
 use Rattle.lab_judge.specs.Phenomena.{is_write, is_item_anti}
-use Rattle.lab_chain.proofs.ToldLevels.{run_level}
-use Rattle.lab_chain.proofs.ToldLines.{run_tells}
+use Rattle.lab_chain.proofs.{ToldLevels.{run_level}, ToldLines.{run_tells}}
 use Rattle.lab_chain.proofs.laws.sound_runs_are_told.Goals as goal
 
 pub returns-clause-g0 : goal.returns-clause-g0

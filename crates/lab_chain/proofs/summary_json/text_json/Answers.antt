@@ -1,7 +1,5 @@
-use Rattle.std.proofs.Common.{sym, ap, subst, ◌∙◌}
-use Rattle.std.specs.Prelude.{◌≡◌, IfOk}
-use Rattle.serde_json.specs.Data.{string}
-use Rattle.serde_json.specs.View.{view}
+use Rattle.std.{proofs.Common.{sym, ap, subst, ◌∙◌}, specs.Prelude.{◌≡◌, IfOk}}
+use Rattle.serde_json.specs.{Data.{string}, View.{view}}
 use Rattle.lab_chain.proofs.Utf8Texts.{utf8_is_string, other_texts_are_null}
 use Rattle.lab_chain.proofs.summary_json.text_json.Goals as goal
 

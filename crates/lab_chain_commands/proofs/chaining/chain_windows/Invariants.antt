@@ -1,5 +1,4 @@
-use Rattle.std.proofs.Common.{◌≡◌, ◌≤◌, ◌+◌, ◌-◌, length, map, take, drop}
-use Rattle.std.specs.Prelude.{min}
+use Rattle.std.{proofs.Common.{◌≡◌, ◌≤◌, ◌+◌, ◌-◌, length, map, take, drop}, specs.Prelude.{min}}
 use Rattle.lab_chain_commands.specs.ChainAnswers.{IsTold}
 use Rattle.lab_chain_commands.proofs.chaining.chain_windows.Given as goal
 

@@ -1,7 +1,5 @@
-use Rattle.std.proofs.Common.{◌≡◌, subst, sym, rules}
-use Rattle.std.specs.Prelude.{max}
-use Rattle.lab_chain_commands.specs.JoinAnswers.{piece_status}
-use Rattle.lab_chain_commands.proofs.PiecesRead.{AreRead, next_read}
+use Rattle.std.{proofs.Common.{◌≡◌, subst, sym, rules}, specs.Prelude.{max}}
+use Rattle.lab_chain_commands.{specs.JoinAnswers.{piece_status}, proofs.PiecesRead.{AreRead, next_read}}
 use Rattle.lab_chain_commands.proofs.joining.read_pieces.Goals as goal
 
 pub loop-name-preserved : goal.loop-name-preserved

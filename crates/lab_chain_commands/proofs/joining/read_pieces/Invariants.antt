@@ -1,5 +1,4 @@
-use Rattle.std.proofs.Common.{◌≡◌, List, map, take}
-use Rattle.std.specs.List.{All}
+use Rattle.std.{proofs.Common.{◌≡◌, List, map, take}, specs.List.{All}}
 use Rattle.lab_chain_commands.specs.JoinAnswers.{Named, IsNamed, joined_pieces, refusals_text, pieces_status}
 use Rattle.lab_chain_commands.proofs.joining.read_pieces.Given as goal
 

@@ -1,5 +1,4 @@
-use Rattle.std.specs.Prelude.{Some}
-use Rattle.std.proofs.lemmas.Result.{IfOk-weaker}
+use Rattle.std.{specs.Prelude.{Some}, proofs.lemmas.Result.{IfOk-weaker}}
 use Rattle.lab_chain_commands.proofs.judged_part.outcome_in.Goals as goal
 
 pub returns-in-Some-true-Some : goal.returns-in-Some-true-Some

@@ -1,5 +1,4 @@
-use Rattle.std.proofs.Common.{rules}
-use Rattle.std.proofs.lemmas.Result.{IfOk-weaker}
+use Rattle.std.proofs.{Common.{rules}, lemmas.Result.{IfOk-weaker}}
 use Rattle.lab_chain_commands.proofs.judged_part.outcome_of.Goals as goal
 
 pub returns-in-Ok : goal.returns-in-Ok

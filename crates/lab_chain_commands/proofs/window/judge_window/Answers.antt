@@ -1,5 +1,4 @@
-use Rattle.std.proofs.Common.{refl}
-use Rattle.std.proofs.lemmas.Result.{IfOk-weaker}
+use Rattle.std.proofs.{Common.{refl}, lemmas.Result.{IfOk-weaker}}
 use Rattle.lab_chain_commands.proofs.PartLists.{told_window}
 use Rattle.lab_chain_commands.proofs.window.judge_window.Goals as goal
 

@@ -1,10 +1,6 @@
-use Rattle.std.proofs.Common.{◌≡◌}
-use Rattle.std.specs.Prelude.{fold, max}
-use Rattle.std.specs.List.{flat_map}
-use Rattle.lab_chain.specs.Chain.{with_part}
-use Rattle.lab_chain.specs.Summary.{nothing}
-use Rattle.lab_chain_commands.specs.ChainAnswers.{outcome_text, outcome_status}
-use Rattle.lab_chain_commands.specs.JudgedParts.{part_of}
+use Rattle.std.{proofs.Common.{◌≡◌}, specs.{Prelude.{fold, max}, List.{flat_map}}}
+use Rattle.lab_chain.specs.{Chain.{with_part}, Summary.{nothing}}
+use Rattle.lab_chain_commands.specs.{ChainAnswers.{outcome_text, outcome_status}, JudgedParts.{part_of}}
 use Rattle.lab_chain_commands.proofs.window.tell_parts.Given as goal
 
 abbrev pub invariant-loop-part : goal.invariant-loop-part

@@ -1,7 +1,5 @@
-use Rattle.std.proofs.Common.{◌≡◌, ◌≤◌, ℕ, List, [], ◌++◌, length, map, take, sym, subst, arith, rules}
-use Rattle.std.specs.Prelude.{max}
-use Rattle.lab_commands.specs.Batching.{IsBatchAnswer}
-use Rattle.lab_commands.proofs.BatchWindows.{none_said, both_said, front_and_window}
+use Rattle.std.{proofs.Common.{◌≡◌, ◌≤◌, ℕ, List, [], ◌++◌, length, map, take, sym, subst, arith, rules}, specs.Prelude.{max}}
+use Rattle.lab_commands.{specs.Batching.{IsBatchAnswer}, proofs.BatchWindows.{none_said, both_said, front_and_window}}
 use Rattle.lab_commands.proofs.batching.judge_windows.Goals as goal
 
 pub loop-done-init : goal.loop-done-init

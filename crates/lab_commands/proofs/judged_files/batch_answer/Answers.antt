@@ -1,5 +1,4 @@
-use Rattle.std.proofs.lemmas.Iterator.{YieldsList-from_slice, YieldsList-from_zip}
-use Rattle.std.proofs.lemmas.Iterator.Consumers.{YieldsList-end}
+use Rattle.std.proofs.lemmas.Iterator.{YieldsList-from_slice, YieldsList-from_zip, Consumers.{YieldsList-end}}
 use Rattle.lab_commands.proofs.BatchParts.{have_parts, batched}
 use Rattle.lab_commands.proofs.judged_files.batch_answer.Goals as goal
 

@@ -1,6 +1,4 @@
-use Rattle.std.proofs.Common.{◌≡◌}
-use Rattle.std.specs.Prelude.{fold, max}
-use Rattle.std.specs.List.{flat_map}
+use Rattle.std.{proofs.Common.{◌≡◌}, specs.{Prelude.{fold, max}, List.{flat_map}}}
 use Rattle.lab_commands.specs.Batching.{part_text, part_status}
 use Rattle.lab_commands.proofs.judged_files.batch_answer.Given as goal
 

@@ -1,6 +1,5 @@
 use Rattle.lab_streams.proofs.ToldFiles.{one_told}
-use Rattle.lab_commands.specs.Judging.{IsReportOf}
-use Rattle.lab_commands.proofs.OneReport.{one_report}
+use Rattle.lab_commands.{specs.Judging.{IsReportOf}, proofs.OneReport.{one_report}}
 use Rattle.lab_commands.proofs.laws.judge_answer_unique.Goals as goal
 
 pub returns : goal.returns

@@ -1,8 +1,4 @@
-use Rattle.std.proofs.Common.{ap, ◌∙◌}
-use Rattle.std.specs.Prelude.{filter}
-use Rattle.std.specs.Str.Iter.{split_text, split_has_more, split_pattern}
-use Rattle.std.proofs.lemmas.Iterator.Splits.{YieldsList-from_str_split}
-use Rattle.std.proofs.lemmas.Iterator.Consumers.{YieldsList-end}
+use Rattle.std.{proofs.{Common.{ap, ◌∙◌}, lemmas.Iterator.{Splits.{YieldsList-from_str_split}, Consumers.{YieldsList-end}}}, specs.{Prelude.{filter}, Str.Iter.{split_text, split_has_more, split_pattern}}}
 use Rattle.lab_commands.specs.ListedNames.{is_name}
 use Rattle.lab_commands.proofs.listed.parted.Goals as goal
 

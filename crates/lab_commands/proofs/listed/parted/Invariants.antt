@@ -1,5 +1,4 @@
-use Rattle.std.proofs.Common.{◌≡◌, map}
-use Rattle.std.specs.Prelude.{filter}
+use Rattle.std.{proofs.Common.{◌≡◌, map}, specs.Prelude.{filter}}
 use Rattle.lab_commands.specs.ListedNames.{is_name}
 use Rattle.lab_commands.proofs.listed.parted.Given as goal
 

@@ -1,7 +1,5 @@
-use Rattle.std.proofs.Common.{◌∙◌, ap}
-use Rattle.std.proofs.lemmas.Result.{on_ok_weaker}
-use Rattle.lab_commands.specs.Overwriting.{put_each}
-use Rattle.lab_commands.proofs.PutInTurn.{overwritten_in_turn}
+use Rattle.std.proofs.{Common.{◌∙◌, ap}, lemmas.Result.{on_ok_weaker}}
+use Rattle.lab_commands.{specs.Overwriting.{put_each}, proofs.PutInTurn.{overwritten_in_turn}}
 use Rattle.lab_commands.proofs.overwriting.overwrite.Goals as goal
 
 pub returns : goal.returns

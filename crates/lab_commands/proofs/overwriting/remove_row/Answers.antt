@@ -1,5 +1,4 @@
-use Rattle.std.proofs.Common.{T, ◌∙◌, ap, subst, sym}
-use Rattle.std.specs.FinMap.{from_sorted, is_sorted}
+use Rattle.std.{proofs.Common.{T, ◌∙◌, ap, subst, sym}, specs.FinMap.{from_sorted, is_sorted}}
 use Rattle.lab_table.specs.Row.{row_cmp}
 use Rattle.lab_commands.proofs.PutInTurn.{others, others_sorted, removed}
 use Rattle.lab_commands.proofs.overwriting.remove_row.Goals as goal

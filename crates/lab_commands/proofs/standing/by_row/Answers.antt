@@ -1,6 +1,5 @@
-use Rattle.std.proofs.Common.{T, ◌≡◌, ◌∙◌, ap, subst, sym}
+use Rattle.std.{proofs.Common.{T, ◌≡◌, ◌∙◌, ap, subst, sym}, specs.FinMap.{from_sorted, is_sorted}}
 use Rattle.std.specs.FinMap as map
-use Rattle.std.specs.FinMap.{from_sorted, is_sorted}
 use Rattle.lab_table.specs.Row.{row_cmp}
 use Rattle.lab_commands.proofs.PutInTurn.{of_its_entries}
 use Rattle.lab_commands.proofs.standing.by_row.Goals as goal

@@ -1,6 +1,5 @@
 use Rattle.std.proofs.Common.{ap, ◌∙◌}
-use Rattle.lab_compare.specs.Cells.{cells_from, left_behind}
-use Rattle.lab_compare.proofs.Left.{beginning}
+use Rattle.lab_compare.{specs.Cells.{cells_from, left_behind}, proofs.Left.{beginning}}
 use Rattle.lab_compare.proofs.cells.cells_of.Goals as goal
 
 pub returns : goal.returns

@@ -1,5 +1,4 @@
-use Rattle.std.proofs.Common.{◌-◌, drop, length, ap, ◌∙◌}
-use Rattle.std.specs.Prelude.{unwrap_or}
+use Rattle.std.{proofs.Common.{◌-◌, drop, length, ap, ◌∙◌}, specs.Prelude.{unwrap_or}}
 use Rattle.lab_table.specs.Sessions.{of_session}
 use Rattle.lab_compare.proofs.Left.{noted, passed}
 use Rattle.lab_compare.proofs.cells.note.Goals as goal

@@ -1,6 +1,4 @@
-use Rattle.std.proofs.Common.{◌+◌, drop, sym, subst, arith}
-use Rattle.std.proofs.lemmas.List.{drop_more, drop_all}
-use Rattle.std.proofs.lemmas.Result.{err_from_is_err_and}
+use Rattle.std.proofs.{Common.{◌+◌, drop, sym, subst, arith}, lemmas.{List.{drop_more, drop_all}, Result.{err_from_is_err_and}}}
 use Rattle.lab_compare.proofs.SidesSoFar.{SoFar, none_so_far, next_so_far, all_so_far, refused_next}
 use Rattle.lab_compare.proofs.playing.sides_of.Goals as goal
 

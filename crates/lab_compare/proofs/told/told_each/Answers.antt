@@ -1,5 +1,4 @@
-use Rattle.std.proofs.Common.{◌≡◌, ◌+◌, ◌∷◌, drop, sym, ap, ◌∙◌}
-use Rattle.std.proofs.lemmas.List.{drop_more}
+use Rattle.std.proofs.{Common.{◌≡◌, ◌+◌, ◌∷◌, drop, sym, ap, ◌∙◌}, lemmas.List.{drop_more}}
 use Rattle.lab_compare.proofs.Telling.{told_next}
 use Rattle.lab_compare.proofs.told.told_each.Goals as goal
 

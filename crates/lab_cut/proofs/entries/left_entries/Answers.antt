@@ -1,7 +1,5 @@
 use Rattle.std.proofs.Common.{◌∙◌, ap, drop}
-use Rattle.lab_cut.specs.Left.{left_of}
-use Rattle.lab_cut.proofs.OneMore.{one_left}
-use Rattle.lab_cut.proofs.Steps.{drop_one_more}
+use Rattle.lab_cut.{specs.Left.{left_of}, proofs.{OneMore.{one_left}, Steps.{drop_one_more}}}
 use Rattle.lab_cut.proofs.entries.left_entries.Goals as goal
 
 pub loop-entry-preserved : goal.loop-entry-preserved

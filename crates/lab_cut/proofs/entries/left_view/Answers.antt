@@ -1,9 +1,6 @@
-use Rattle.std.proofs.Common.{◌∙◌, ap, length}
-use Rattle.std.specs.Prelude.{drop}
-use Rattle.std.specs.FinMap.{from_sorted}
+use Rattle.std.{proofs.Common.{◌∙◌, ap, length}, specs.{Prelude.{drop}, FinMap.{from_sorted}}}
 use Rattle.lab_table.specs.Row.{row_cmp}
-use Rattle.lab_cut.specs.Left.{left_of}
-use Rattle.lab_cut.proofs.MadeEntries.{sorted_left}
+use Rattle.lab_cut.{specs.Left.{left_of}, proofs.MadeEntries.{sorted_left}}
 use Rattle.lab_cut.proofs.entries.left_view.Goals as goal
 
 pub new-requires : goal.new-requires

@@ -1,5 +1,4 @@
-use Rattle.std.proofs.Common.{◌∙◌, sym, ap, subst, T}
-use Rattle.std.specs.FinMap.{from_sorted, is_sorted, entries_sorted}
+use Rattle.std.{proofs.Common.{◌∙◌, sym, ap, subst, T}, specs.FinMap.{from_sorted, is_sorted, entries_sorted}}
 use Rattle.lab_table.specs.Row.{row_cmp}
 use Rattle.lab_cut.proofs.Overlays.{same_map_again}
 use Rattle.lab_cut.proofs.entries.table_copy.Goals as goal

@@ -1,8 +1,5 @@
 use Rattle.std.proofs.Common.{◌≡◌, sym, subst}
-use Rattle.lab_cut.specs.Seen.{seeing}
-use Rattle.lab_cut.specs.PartOf.{IsPartOf}
-use Rattle.lab_cut.proofs.MadeParts.{so_made}
-use Rattle.lab_cut.proofs.SameShape.{entries_part}
+use Rattle.lab_cut.{specs.{Seen.{seeing}, PartOf.{IsPartOf}}, proofs.{MadeParts.{so_made}, SameShape.{entries_part}}}
 use Rattle.lab_cut.proofs.entries.without_entries.Goals as goal
 
 pub returns : goal.returns

@@ -1,6 +1,5 @@
 use Rattle.std.proofs.Common.{◌≡◌, None, drop}
-use Rattle.lab_cut.specs.Cut.{goes, last_of_front}
-use Rattle.lab_cut.specs.Kept.{kept_in}
+use Rattle.lab_cut.specs.{Cut.{goes, last_of_front}, Kept.{kept_in}}
 use Rattle.lab_cut.proofs.installers.last_of_front.Given as goal
 
 abbrev pub invariant-loop-txn : goal.invariant-loop-txn

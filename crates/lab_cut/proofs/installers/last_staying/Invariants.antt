@@ -1,6 +1,5 @@
 use Rattle.std.proofs.Common.{◌≡◌, None, drop}
-use Rattle.lab_cut.specs.Cut.{last_staying}
-use Rattle.lab_cut.specs.Kept.{kept_in}
+use Rattle.lab_cut.specs.{Cut.{last_staying}, Kept.{kept_in}}
 use Rattle.lab_cut.proofs.installers.last_staying.Given as goal
 
 abbrev pub invariant-loop-txn : goal.invariant-loop-txn

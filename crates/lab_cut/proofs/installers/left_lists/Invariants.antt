@@ -1,7 +1,5 @@
 use Rattle.std.proofs.Common.{◌≡◌, ◌++◌, drop}
-use Rattle.lab_cut.specs.Cut.{left_list}
-use Rattle.lab_cut.specs.Kept.{kept_in}
-use Rattle.lab_cut.specs.MadeEntries.{made_entries}
+use Rattle.lab_cut.specs.{Cut.{left_list}, Kept.{kept_in}, MadeEntries.{made_entries}}
 use Rattle.lab_cut.proofs.installers.left_lists.Given as goal
 
 abbrev pub invariant-loop-row : goal.invariant-loop-row

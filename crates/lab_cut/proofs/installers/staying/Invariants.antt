@@ -1,6 +1,5 @@
 use Rattle.std.proofs.Common.{◌≡◌, ◌++◌, drop}
-use Rattle.lab_cut.specs.Cut.{staying}
-use Rattle.lab_cut.specs.Kept.{kept_in}
+use Rattle.lab_cut.specs.{Cut.{staying}, Kept.{kept_in}}
 use Rattle.lab_cut.proofs.installers.staying.Given as goal
 
 abbrev pub invariant-loop-txn : goal.invariant-loop-txn

@@ -1,9 +1,7 @@
 use Rattle.std.proofs.Common.{◌≡◌, ◌++◌, drop}
 use Rattle.lab_table.specs.Row.{Row}
 use Rattle.lab_history.specs.declared.operation.VersionName.{VersionName}
-use Rattle.lab_cut.specs.Cut.{renamed}
-use Rattle.lab_cut.specs.Kept.{kept_in}
-use Rattle.lab_cut.specs.MadeEntries.{made_entries}
+use Rattle.lab_cut.specs.{Cut.{renamed}, Kept.{kept_in}, MadeEntries.{made_entries}}
 use Rattle.lab_cut.proofs.moved.left_entries.Given as goal
 
 abbrev pub invariant-loop-row : goal.invariant-loop-row

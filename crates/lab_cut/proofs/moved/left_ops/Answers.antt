@@ -1,9 +1,5 @@
 use Rattle.std.proofs.Common.{◌∙◌, ap, drop, map}
-use Rattle.lab_cut.specs.Cut.{left_op}
-use Rattle.lab_cut.specs.Kept.{kept_in}
-use Rattle.lab_cut.specs.Left.{left_of}
-use Rattle.lab_cut.proofs.OneMore.{one_left_made}
-use Rattle.lab_cut.proofs.Steps.{drop_one_more}
+use Rattle.lab_cut.{specs.{Cut.{left_op}, Kept.{kept_in}, Left.{left_of}}, proofs.{OneMore.{one_left_made}, Steps.{drop_one_more}}}
 use Rattle.lab_cut.proofs.moved.left_ops.Goals as goal
 
 pub loop-op-preserved : goal.loop-op-preserved

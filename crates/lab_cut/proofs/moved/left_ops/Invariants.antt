@@ -1,7 +1,5 @@
 use Rattle.std.proofs.Common.{◌≡◌, ◌++◌, map, drop}
-use Rattle.lab_cut.specs.Cut.{left_op}
-use Rattle.lab_cut.specs.Left.{left_of}
-use Rattle.lab_cut.specs.Kept.{kept_in}
+use Rattle.lab_cut.specs.{Cut.{left_op}, Left.{left_of}, Kept.{kept_in}}
 use Rattle.lab_cut.proofs.moved.left_ops.Given as goal
 
 abbrev pub invariant-loop-op : goal.invariant-loop-op

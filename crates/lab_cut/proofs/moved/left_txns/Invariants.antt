@@ -1,6 +1,5 @@
 use Rattle.std.proofs.Common.{◌≡◌, ◌++◌, drop}
-use Rattle.lab_cut.specs.Cut.{left_txns}
-use Rattle.lab_cut.specs.Kept.{kept_in}
+use Rattle.lab_cut.specs.{Cut.{left_txns}, Kept.{kept_in}}
 use Rattle.lab_cut.proofs.moved.left_txns.Given as goal
 
 abbrev pub invariant-loop-txn : goal.invariant-loop-txn

@@ -1,11 +1,7 @@
-use Rattle.std.proofs.Common.{◌∙◌, ap}
-use Rattle.std.specs.FinMap.{from_sorted}
+use Rattle.std.{proofs.Common.{◌∙◌, ap}, specs.FinMap.{from_sorted}}
 use Rattle.lab_table.specs.Row.{Row, row_cmp}
 use Rattle.lab_history.specs.declared.operation.VersionName.{VersionName}
-use Rattle.lab_cut.specs.Cut.{renamed}
-use Rattle.lab_cut.specs.Kept.{kept_in}
-use Rattle.lab_cut.specs.MadeEntries.{made_entries}
-use Rattle.lab_cut.proofs.MadeEntries.{sorted_of}
+use Rattle.lab_cut.{specs.{Cut.{renamed}, Kept.{kept_in}, MadeEntries.{made_entries}}, proofs.MadeEntries.{sorted_of}}
 use Rattle.lab_cut.proofs.moved.left_view.Goals as goal
 
 pub new-requires : goal.new-requires

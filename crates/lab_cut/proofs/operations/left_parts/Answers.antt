@@ -1,11 +1,6 @@
 use Rattle.std.proofs.Common.{◌≡◌, ◌∙◌, ◌≤◌, None, length, sym, ap, subst}
-use Rattle.lab_history.specs.History.{History}
-use Rattle.lab_history.specs.HistoryRules.{operations}
-use Rattle.lab_history.specs.Limits.{max_operations}
-use Rattle.lab_cut.specs.Kept.{kept_in, all_kept, last_given}
-use Rattle.lab_cut.specs.Cut.{left_initial, left_txns, left_installed, left_end, cut}
-use Rattle.lab_cut.specs.PartOf.{IsPartOf}
-use Rattle.lab_cut.proofs.CutParts.{cut_part}
+use Rattle.lab_history.specs.{History.{History}, HistoryRules.{operations}, Limits.{max_operations}}
+use Rattle.lab_cut.{specs.{Kept.{kept_in, all_kept, last_given}, Cut.{left_initial, left_txns, left_installed, left_end, cut}, PartOf.{IsPartOf}}, proofs.CutParts.{cut_part}}
 use Rattle.lab_cut.proofs.operations.left_parts.Goals as goal
 
 pub of-requires : goal.of-requires

@@ -1,9 +1,5 @@
 use Rattle.std.proofs.Common.{◌≡◌, ◌∙◌, sym, ap, subst}
-use Rattle.lab_cut.specs.Chosen.{has}
-use Rattle.lab_cut.specs.InRows.{is_among, in_rows}
-use Rattle.lab_cut.specs.PartOf.{IsPartOf}
-use Rattle.lab_cut.proofs.MadeParts.{so_made}
-use Rattle.lab_cut.proofs.SameShape.{rows_part}
+use Rattle.lab_cut.{specs.{Chosen.{has}, InRows.{is_among, in_rows}, PartOf.{IsPartOf}}, proofs.{MadeParts.{so_made}, SameShape.{rows_part}}}
 use Rattle.lab_cut.proofs.rows.with_rows.Goals as goal
 
 pub returns : goal.returns

@@ -1,9 +1,6 @@
 use Rattle.std.proofs.Common.{◌∙◌, ◌++◌, [], ap}
 use Rattle.lab_history.specs.VersionName.{new_states}
-use Rattle.lab_cut.specs.Cut.{base}
-use Rattle.lab_cut.specs.Kept.{kept_in}
-use Rattle.lab_cut.specs.MadeEntries.{with_value, made_entries}
-use Rattle.lab_cut.proofs.OneMore.{one_made}
+use Rattle.lab_cut.{specs.{Cut.{base}, Kept.{kept_in}, MadeEntries.{with_value, made_entries}}, proofs.OneMore.{one_made}}
 use Rattle.lab_cut.proofs.tables.bases_of.Goals as goal
 
 pub loop-row-preserved : goal.loop-row-preserved

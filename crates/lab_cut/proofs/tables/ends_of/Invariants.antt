@@ -1,8 +1,6 @@
 use Rattle.std.proofs.Common.{◌≡◌, ◌++◌, drop}
 use Rattle.lab_history.specs.VersionName.{new_states}
-use Rattle.lab_cut.specs.Cut.{new_end}
-use Rattle.lab_cut.specs.Kept.{kept_in}
-use Rattle.lab_cut.specs.MadeEntries.{made_entries}
+use Rattle.lab_cut.specs.{Cut.{new_end}, Kept.{kept_in}, MadeEntries.{made_entries}}
 use Rattle.lab_cut.proofs.tables.ends_of.Given as goal
 
 abbrev pub invariant-loop-row : goal.invariant-loop-row

@@ -1,11 +1,7 @@
-use Rattle.std.proofs.Common.{◌∙◌, ap}
-use Rattle.std.specs.FinMap.{entries, from_sorted}
+use Rattle.std.{proofs.Common.{◌∙◌, ap}, specs.FinMap.{entries, from_sorted}}
 use Rattle.lab_table.specs.Row.{row_cmp}
 use Rattle.lab_history.specs.VersionName.{new_states}
-use Rattle.lab_cut.specs.Cut.{new_end}
-use Rattle.lab_cut.specs.Kept.{kept_in}
-use Rattle.lab_cut.specs.MadeEntries.{made_entries}
-use Rattle.lab_cut.proofs.MadeEntries.{sorted_of}
+use Rattle.lab_cut.{specs.{Cut.{new_end}, Kept.{kept_in}, MadeEntries.{made_entries}}, proofs.MadeEntries.{sorted_of}}
 use Rattle.lab_cut.proofs.tables.new_ends.Goals as goal
 
 pub new-requires : goal.new-requires

@@ -1,9 +1,6 @@
-use Rattle.std.proofs.Common.{◌≡◌, ◌∙◌, sym, ap, subst, T}
-use Rattle.std.specs.FinMap.{from_sorted, entries, is_sorted, entries_sorted}
-use Rattle.lab_table.specs.Row.{row_cmp}
-use Rattle.lab_table.specs.Table.{Table}
-use Rattle.lab_cut.specs.Overlaid.{kept_rows, put_present}
-use Rattle.lab_cut.proofs.Overlays.{kept_sorted, overlaid, same_map_again}
+use Rattle.std.{proofs.Common.{◌≡◌, ◌∙◌, sym, ap, subst, T}, specs.FinMap.{from_sorted, entries, is_sorted, entries_sorted}}
+use Rattle.lab_table.specs.{Row.{row_cmp}, Table.{Table}}
+use Rattle.lab_cut.{specs.Overlaid.{kept_rows, put_present}, proofs.Overlays.{kept_sorted, overlaid, same_map_again}}
 use Rattle.lab_cut.proofs.tables.with_states.Goals as goal
 
 pub from_rising-rows-requires : goal.from_rising-rows-requires

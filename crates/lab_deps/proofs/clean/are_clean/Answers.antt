@@ -1,6 +1,4 @@
-use Rattle.std.proofs.Common.{ℕ, T, ◌∙◌, refl, sym, ap, subst, length, ◌<◌, ◌≤◌, add-one, arith}
-use Rattle.std.specs.FinMap.{find, entries, entries_sorted, is_sorted, get-entries}
-use Rattle.std.proofs.lemmas.Option.{same_Some, slice_get_read, slice_get_within}
+use Rattle.std.{proofs.{Common.{ℕ, T, ◌∙◌, refl, sym, ap, subst, length, ◌<◌, ◌≤◌, add-one, arith}, lemmas.Option.{same_Some, slice_get_read, slice_get_within}}, specs.FinMap.{find, entries, entries_sorted, is_sorted, get-entries}}
 use Rattle.lab_table.specs.Row.{row_cmp}
 use Rattle.lab_history.specs.Version.{op_at}
 use Rattle.lab_deps.proofs.CleanHistories.{one_more}

@@ -1,10 +1,6 @@
-use Rattle.std.proofs.Common.{◌≡◌, ℕ, suc, ◌+◌, ◌<◌, true, Some, T}
-use Rattle.std.specs.Prelude.{slice_get}
-use Rattle.std.specs.FinMap.{find, entries, is_sorted}
+use Rattle.std.{proofs.Common.{◌≡◌, ℕ, suc, ◌+◌, ◌<◌, true, Some, T}, specs.{Prelude.{slice_get}, FinMap.{find, entries, is_sorted}}}
 use Rattle.lab_table.specs.Row.{Row, row_cmp}
-use Rattle.lab_history.specs.Version.{op_at}
-use Rattle.lab_history.specs.declared.operation.Op.{Op}
-use Rattle.lab_history.specs.declared.operation.VersionName.{VersionName}
+use Rattle.lab_history.specs.{Version.{op_at}, declared.operation.{Op.{Op}, VersionName.{VersionName}}}
 use Rattle.lab_deps.specs.Fine.{is_fine, IsCleanOp}
 use Rattle.lab_deps.proofs.clean.are_clean.Given as goal
 

@@ -1,8 +1,5 @@
-use Rattle.std.proofs.Common.{ℕ, ◌∙◌, refl, ap, length, ◌<◌, ◌≤◌, arith}
-use Rattle.std.specs.Prelude.{slice_get}
-use Rattle.std.proofs.lemmas.Option.{slice_get_read, slice_get_within}
-use Rattle.lab_deps.proofs.KeptTxns.{txn_at}
-use Rattle.lab_deps.proofs.CleanHistories.{txn_more, all_clean}
+use Rattle.std.{proofs.{Common.{ℕ, ◌∙◌, refl, ap, length, ◌<◌, ◌≤◌, arith}, lemmas.Option.{slice_get_read, slice_get_within}}, specs.Prelude.{slice_get}}
+use Rattle.lab_deps.proofs.{KeptTxns.{txn_at}, CleanHistories.{txn_more, all_clean}}
 use Rattle.lab_deps.proofs.clean.is_clean.Goals as goal
 
 pub is_clean_txn-requires : goal.is_clean_txn-requires

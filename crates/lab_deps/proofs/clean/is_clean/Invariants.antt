@@ -1,5 +1,4 @@
-use Rattle.std.proofs.Common.{◌≡◌, ℕ, ◌<◌, Some}
-use Rattle.std.specs.Prelude.{slice_get}
+use Rattle.std.{proofs.Common.{◌≡◌, ℕ, ◌<◌, Some}, specs.Prelude.{slice_get}}
 use Rattle.lab_history.specs.declared.transaction.Txn.{Txn}
 use Rattle.lab_deps.specs.Fine.{IsCleanTxn}
 use Rattle.lab_deps.proofs.clean.is_clean.Given as goal

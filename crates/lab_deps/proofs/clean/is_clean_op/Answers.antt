@@ -1,8 +1,6 @@
 use Rattle.std.proofs.Common.{sym, ap, ◌-◌, ◌∙◌}
-use Rattle.lab_deps.specs.Passes.{missed_row}
+use Rattle.lab_deps.{specs.Passes.{missed_row}, proofs.{BrokenRows.{none_breaks}, FineReads.{clean_op, view_fine, fine_next}}}
 use Rattle.lab_deps.specs.declared.kind.OpFault.TheVariants as kind
-use Rattle.lab_deps.proofs.BrokenRows.{none_breaks}
-use Rattle.lab_deps.proofs.FineReads.{clean_op, view_fine, fine_next}
 use Rattle.lab_deps.proofs.clean.is_clean_op.Goals as goal
 
 pub returns-clause-clean : goal.returns-clause-clean

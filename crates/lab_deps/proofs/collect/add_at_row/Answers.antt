@@ -1,12 +1,6 @@
-use Rattle.std.proofs.Common.{◌≡◌, T, sym, ap, ◌∙◌, subst}
-use Rattle.std.specs.Prelude.{is_some}
-use Rattle.std.specs.FinMap.{find, get, entries_sorted, is_sorted, get-entries}
+use Rattle.std.{proofs.Common.{◌≡◌, T, sym, ap, ◌∙◌, subst}, specs.{Prelude.{is_some}, FinMap.{find, get, entries_sorted, is_sorted, get-entries}}}
 use Rattle.lab_table.specs.Row.{row_cmp}
-use Rattle.lab_deps.specs.Collected.{reading_at}
-use Rattle.lab_deps.specs.Numbering.{FitsVersions, where_fits}
-use Rattle.lab_deps.specs.Sinks.{Grows}
-use Rattle.lab_deps.proofs.Sinking.{grows_none}
-use Rattle.lab_deps.proofs.SeenRows.{looked}
+use Rattle.lab_deps.{specs.{Collected.{reading_at}, Numbering.{FitsVersions, where_fits}, Sinks.{Grows}}, proofs.{Sinking.{grows_none}, SeenRows.{looked}}}
 use Rattle.lab_deps.proofs.collect.add_at_row.Goals as goal
 
 pub value_near-listing-requires : goal.value_near-listing-requires

@@ -1,9 +1,6 @@
-use Rattle.std.specs.Prelude.{Contains}
-use Rattle.std.specs.List.{flat_map}
+use Rattle.std.specs.{Prelude.{Contains}, List.{flat_map}}
 use Rattle.lab_table.specs.Row.{Row}
-use Rattle.lab_deps.specs.EdgesByRow.{Chain, found_at_row, found_by, rows_of}
-use Rattle.lab_deps.specs.Numbering.{HasPlaces, where_fits}
-use Rattle.lab_deps.proofs.Sinking.{Leads}
+use Rattle.lab_deps.{specs.{EdgesByRow.{Chain, found_at_row, found_by, rows_of}, Numbering.{HasPlaces, where_fits}}, proofs.Sinking.{Leads}}
 use Rattle.lab_deps.proofs.collect.add_at_rows.Given as goal
 
 -- what is left is handed at each of the rows that are left

@@ -1,15 +1,6 @@
-use Rattle.std.proofs.Common.{◌≡◌, sym, ap, ◌∙◌, subst}
-use Rattle.std.specs.Prelude.{None, Some, Contains}
-use Rattle.std.specs.Map.{lookup}
-use Rattle.std.proofs.lemmas.Map.Views.{Contains-from_lookup}
-use Rattle.lab_table.specs.Row.{row_test}
-use Rattle.lab_table.proofs.Maps.{tested_same}
-use Rattle.lab_deps.specs.EdgesByRow.{rows_of}
-use Rattle.lab_deps.specs.Sinks.{Grows}
-use Rattle.lab_deps.proofs.FittingRows.{fits_rows}
-use Rattle.lab_deps.proofs.OpsOfOneRow.{found_there, found_nowhere}
-use Rattle.lab_deps.specs.Numbering.{HasPlaces, FitsVersions, where_fits}
-use Rattle.lab_deps.proofs.Sinking.{grows_none, fits_more}
+use Rattle.std.{proofs.{Common.{◌≡◌, sym, ap, ◌∙◌, subst}, lemmas.Map.Views.{Contains-from_lookup}}, specs.{Prelude.{None, Some, Contains}, Map.{lookup}}}
+use Rattle.lab_table.{specs.Row.{row_test}, proofs.Maps.{tested_same}}
+use Rattle.lab_deps.{specs.{EdgesByRow.{rows_of}, Sinks.{Grows}, Numbering.{HasPlaces, FitsVersions, where_fits}}, proofs.{FittingRows.{fits_rows}, OpsOfOneRow.{found_there, found_nowhere}, Sinking.{grows_none, fits_more}}}
 use Rattle.lab_deps.proofs.collect.add_op.Goals as goal
 
 pub returns-in-None-get : goal.returns-in-None-get

@@ -1,9 +1,5 @@
-use Rattle.std.proofs.Common.{◌≡◌, ◌+◌, ◌++◌, ◌∷◌, drop, refl, sym, ap, ◌∙◌, subst, append_assoc}
-use Rattle.std.specs.List.{flat_map}
-use Rattle.std.proofs.lemmas.List.{append-nil, drop_all, drop_more}
-use Rattle.std.proofs.lemmas.Result.{IfOk-weaker}
-use Rattle.lab_deps.specs.EdgesByRow.{HasMembersOf, found_by}
-use Rattle.lab_deps.proofs.SameMembers.{joined_members, members_of, members_through}
+use Rattle.std.{proofs.{Common.{◌≡◌, ◌+◌, ◌++◌, ◌∷◌, drop, refl, sym, ap, ◌∙◌, subst, append_assoc}, lemmas.{List.{append-nil, drop_all, drop_more}, Result.{IfOk-weaker}}}, specs.List.{flat_map}}
+use Rattle.lab_deps.{specs.EdgesByRow.{HasMembersOf, found_by}, proofs.SameMembers.{joined_members, members_of, members_through}}
 use Rattle.lab_deps.proofs.collect.edges_of_ops.Goals as goal
 
 pub loop-op-preserved : goal.loop-op-preserved

@@ -1,7 +1,5 @@
-use Rattle.std.proofs.Common.{ℕ, List, ◌++◌, drop}
-use Rattle.std.specs.List.{flat_map}
-use Rattle.lab_deps.specs.EdgesByRow.{HasMembersOf, found_by}
-use Rattle.lab_deps.specs.Numbering.{HasPlaces}
+use Rattle.std.{proofs.Common.{ℕ, List, ◌++◌, drop}, specs.List.{flat_map}}
+use Rattle.lab_deps.specs.{EdgesByRow.{HasMembersOf, found_by}, Numbering.{HasPlaces}}
 use Rattle.lab_deps.proofs.collect.edges_of_ops.Given as goal
 
 -- the edges so far and those of the operations that are left are all

@@ -1,11 +1,6 @@
-use Rattle.std.proofs.Common.{◌≡◌, ◌+◌, ◌++◌, ◌∷◌, ◌<◌, ◌≤◌, length, get_or, drop, sym, ap, ◌∙◌, subst}
-use Rattle.std.specs.List.{flat_map}
+use Rattle.std.{proofs.{Common.{◌≡◌, ◌+◌, ◌++◌, ◌∷◌, ◌<◌, ◌≤◌, length, get_or, drop, sym, ap, ◌∙◌, subst}, lemmas.List.{append-nil, drop_all, drop_more}}, specs.List.{flat_map}}
 use Rattle.std.specs.FinMap as map
-use Rattle.std.proofs.lemmas.List.{append-nil, drop_all, drop_more}
-use Rattle.lab_deps.specs.Collected.{neighbours_at}
-use Rattle.lab_deps.specs.EdgesByRow.{HasMembersOf, found_by, found_in}
-use Rattle.lab_deps.proofs.SameMembers.{members_of, next_members}
-use Rattle.lab_deps.proofs.Walks.{all_walked}
+use Rattle.lab_deps.{specs.{Collected.{neighbours_at}, EdgesByRow.{HasMembersOf, found_by, found_in}}, proofs.{SameMembers.{members_of, next_members}, Walks.{all_walked}}}
 use Rattle.lab_deps.proofs.collect.edges_of_txns.Goals as goal
 
 pub loop-txn-preserved : goal.loop-txn-preserved

@@ -1,8 +1,6 @@
-use Rattle.std.proofs.Common.{◌++◌, drop}
-use Rattle.std.specs.List.{flat_map}
+use Rattle.std.{proofs.Common.{◌++◌, drop}, specs.List.{flat_map}}
 use Rattle.std.specs.FinMap as map
-use Rattle.lab_deps.specs.Collected.{neighbours_at}
-use Rattle.lab_deps.specs.EdgesByRow.{HasMembersOf, found_in}
+use Rattle.lab_deps.specs.{Collected.{neighbours_at}, EdgesByRow.{HasMembersOf, found_in}}
 use Rattle.lab_deps.proofs.collect.edges_of_txns.Given as goal
 
 -- the edges so far and those of the transactions that are left are all

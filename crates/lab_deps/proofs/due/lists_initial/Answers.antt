@@ -1,8 +1,6 @@
-use Rattle.std.proofs.Common.{◌≡◌, T, ◌∙◌, false, sym, ap, subst}
-use Rattle.std.specs.FinMap.{find, entries, entries_sorted, is_sorted, get-entries}
+use Rattle.std.{proofs.Common.{◌≡◌, T, ◌∙◌, false, sym, ap, subst}, specs.FinMap.{find, entries, entries_sorted, is_sorted, get-entries}}
 use Rattle.lab_table.specs.Row.{row_cmp}
-use Rattle.lab_deps.specs.Broken.{is_unlisted}
-use Rattle.lab_deps.specs.Passes.{first_value}
+use Rattle.lab_deps.specs.{Broken.{is_unlisted}, Passes.{first_value}}
 use Rattle.lab_deps.proofs.NearValues.{passed}
 use Rattle.lab_deps.proofs.Spans.{unlisted_within}
 use Rattle.lab_deps.proofs.DueRows.{listed_not_unlisted, seen_not_unlisted, unmatched_not_unlisted}

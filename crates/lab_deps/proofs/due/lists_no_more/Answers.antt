@@ -1,11 +1,7 @@
-use Rattle.std.proofs.Common.{◌≡◌, T, ◌∙◌, false, sym, ap, subst}
-use Rattle.std.specs.FinMap.{find, entries, entries_sorted, is_sorted, get-entries}
+use Rattle.std.{proofs.Common.{◌≡◌, T, ◌∙◌, false, sym, ap, subst}, specs.FinMap.{find, entries, entries_sorted, is_sorted, get-entries}}
 use Rattle.lab_table.specs.Row.{row_cmp}
-use Rattle.lab_deps.specs.Broken.{is_extra}
-use Rattle.lab_deps.proofs.NearValues.{passed}
-use Rattle.lab_deps.proofs.DueRows.{listed_not_extra, seen_not_extra}
+use Rattle.lab_deps.{specs.Broken.{is_extra}, proofs.{NearValues.{passed}, DueRows.{listed_not_extra, seen_not_extra}, due.lists_no_more.Goals.{else-not-is_same-via-then-not-is_same+else-not-is_seen, else-not-is_same-via-else-not-is_same}}}
 use Rattle.lab_deps.proofs.due.lists_no_more.Goals as goal
-use Rattle.lab_deps.proofs.due.lists_no_more.Goals.{else-not-is_same-via-then-not-is_same+else-not-is_seen, else-not-is_same-via-else-not-is_same}
 
 pub value_near-found-requires : goal.value_near-found-requires
 value_near-found-requires c = subst (λ es. T (is_sorted row_cmp es)) (sym (c.rows-initial.ensures ∙ ap entries c.initial.ensures)) (entries_sorted c.args.history.now.initial)

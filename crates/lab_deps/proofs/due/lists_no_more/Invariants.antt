@@ -1,7 +1,5 @@
-use Rattle.std.proofs.Common.{◌≡◌, drop}
-use Rattle.std.specs.FinMap.{entries}
-use Rattle.lab_deps.specs.Broken.{is_extra}
-use Rattle.lab_deps.specs.Passes.{first_value}
+use Rattle.std.{proofs.Common.{◌≡◌, drop}, specs.FinMap.{entries}}
+use Rattle.lab_deps.specs.{Broken.{is_extra}, Passes.{first_value}}
 use Rattle.lab_deps.proofs.due.lists_no_more.Given as goal
 
 -- the row is found among the entries that are left as among all

@@ -1,10 +1,7 @@
-use Rattle.std.proofs.Common.{T, ◌∙◌, sym, ap, subst}
-use Rattle.std.specs.FinMap.{find, entries_sorted, is_sorted, get-entries}
+use Rattle.std.{proofs.Common.{T, ◌∙◌, sym, ap, subst}, specs.FinMap.{find, entries_sorted, is_sorted, get-entries}}
 use Rattle.lab_table.specs.Row.{row_cmp}
-use Rattle.lab_deps.specs.Broken.{breaks_at}
+use Rattle.lab_deps.{specs.Broken.{breaks_at}, proofs.{NearValues.{passed}, DueRows.{seen_due}}}
 use Rattle.lab_deps.specs.declared.kind.OpFault.TheVariants as kind
-use Rattle.lab_deps.proofs.NearValues.{passed}
-use Rattle.lab_deps.proofs.DueRows.{seen_due}
 use Rattle.lab_deps.proofs.due.lists_seen.Goals as goal
 
 pub value_near-found-requires : goal.value_near-found-requires

@@ -1,7 +1,5 @@
-use Rattle.std.proofs.Common.{◌≡◌, ℕ, drop}
-use Rattle.std.specs.FinMap.{entries}
-use Rattle.lab_deps.specs.Broken.{breaks_at}
-use Rattle.lab_deps.specs.Passes.{first_value}
+use Rattle.std.{proofs.Common.{◌≡◌, ℕ, drop}, specs.FinMap.{entries}}
+use Rattle.lab_deps.specs.{Broken.{breaks_at}, Passes.{first_value}}
 use Rattle.lab_deps.specs.declared.kind.OpFault.TheVariants as kind
 use Rattle.lab_deps.proofs.due.lists_seen.Given as goal
 

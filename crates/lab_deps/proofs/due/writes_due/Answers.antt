@@ -1,7 +1,6 @@
 use Rattle.std.proofs.Common.{◌∙◌, sym, not, ap}
 use Rattle.lab_deps.specs.declared.kind.OpFault.TheVariants as kind
-use Rattle.lab_deps.proofs.BrokenRows.{none_breaks}
-use Rattle.lab_deps.proofs.DueRows.{reader_due, nothing_there}
+use Rattle.lab_deps.proofs.{BrokenRows.{none_breaks}, DueRows.{reader_due, nothing_there}}
 use Rattle.lab_deps.proofs.due.writes_due.Goals as goal
 
 pub returns-then-is_read_only : goal.returns-then-is_read_only

@@ -1,11 +1,8 @@
-use Rattle.std.proofs.Common.{T, sym, subst}
-use Rattle.std.specs.FinMap.{entries_sorted, is_sorted}
+use Rattle.std.{proofs.Common.{T, sym, subst}, specs.FinMap.{entries_sorted, is_sorted}}
 use Rattle.lab_table.specs.Row.{row_cmp}
 use Rattle.lab_history.proofs.NewStates.{new_states_sorted}
-use Rattle.lab_deps.specs.Broken.{is_broken}
+use Rattle.lab_deps.{specs.Broken.{is_broken}, proofs.{NearValues.{passed_row, item_in_map}, DueRows.{due_write}}}
 use Rattle.lab_deps.specs.declared.kind.OpFault.TheVariants as kind
-use Rattle.lab_deps.proofs.NearValues.{passed_row, item_in_map}
-use Rattle.lab_deps.proofs.DueRows.{due_write}
 use Rattle.lab_deps.proofs.due.writes_listed.Goals as goal
 
 pub value_near-found-requires : goal.value_near-found-requires

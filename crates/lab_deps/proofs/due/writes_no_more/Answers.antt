@@ -1,13 +1,7 @@
-use Rattle.std.proofs.Common.{T, ◌∙◌, not, sym, ap, subst}
-use Rattle.std.specs.FinMap.{find, entries, entries_sorted, is_sorted, get-entries}
-use Rattle.std.proofs.lemmas.List.{drop_all}
+use Rattle.std.{proofs.{Common.{T, ◌∙◌, not, sym, ap, subst}, lemmas.List.{drop_all}}, specs.FinMap.{find, entries, entries_sorted, is_sorted, get-entries}}
 use Rattle.lab_table.specs.Row.{row_cmp}
-use Rattle.lab_deps.specs.Broken.{is_broken}
-use Rattle.lab_deps.specs.Passes.{first_entry}
+use Rattle.lab_deps.{specs.{Broken.{is_broken}, Passes.{first_entry}}, proofs.{Rows.{first_states}, NearValues.{passed_row}, DueRows.{listed_due}}}
 use Rattle.lab_deps.specs.declared.kind.OpFault.TheVariants as kind
-use Rattle.lab_deps.proofs.Rows.{first_states}
-use Rattle.lab_deps.proofs.NearValues.{passed_row}
-use Rattle.lab_deps.proofs.DueRows.{listed_due}
 use Rattle.lab_deps.proofs.due.writes_no_more.Goals as goal
 
 pub value_near-found-requires : goal.value_near-found-requires

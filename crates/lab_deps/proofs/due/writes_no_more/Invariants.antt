@@ -1,6 +1,5 @@
 use Rattle.std.proofs.Common.{◌≡◌, drop}
-use Rattle.lab_deps.specs.Broken.{is_broken}
-use Rattle.lab_deps.specs.Passes.{first_entry}
+use Rattle.lab_deps.specs.{Broken.{is_broken}, Passes.{first_entry}}
 use Rattle.lab_deps.specs.declared.kind.OpFault.TheVariants as kind
 use Rattle.lab_deps.proofs.due.writes_no_more.Given as goal
 

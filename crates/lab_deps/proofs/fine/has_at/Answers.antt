@@ -1,9 +1,5 @@
-use Rattle.std.proofs.Common.{◌∙◌, refl, ap, sym, length, Some}
-use Rattle.std.specs.FinMap.{find}
-use Rattle.std.proofs.lemmas.Bool.{ltb-true}
-use Rattle.std.proofs.lemmas.Option.{slice_get_read}
-use Rattle.lab_table.specs.Row.{row_cmp}
-use Rattle.lab_table.proofs.Maps.{tested_same}
+use Rattle.std.{proofs.{Common.{◌∙◌, refl, ap, sym, length, Some}, lemmas.{Bool.{ltb-true}, Option.{slice_get_read}}}, specs.FinMap.{find}}
+use Rattle.lab_table.{specs.Row.{row_cmp}, proofs.Maps.{tested_same}}
 use Rattle.lab_deps.proofs.NearValues.{at_entry}
 use Rattle.lab_deps.proofs.fine.has_at.Goals as goal
 

@@ -1,6 +1,5 @@
 use Rattle.std.proofs.Common.{◌≡◌, [], ◌∷◌, ◌++◌, ◌*◌, length, sym, ap, ◌∙◌, subst, arith}
-use Rattle.lab_deps.specs.FrontSets.{AreFronts}
-use Rattle.lab_deps.proofs.Fronts.{fronts_more}
+use Rattle.lab_deps.{specs.FrontSets.{AreFronts}, proofs.Fronts.{fronts_more}}
 use Rattle.lab_deps.proofs.front_sets.add_front.Goals as goal
 
 pub returns-clause-fronts : goal.returns-clause-fronts

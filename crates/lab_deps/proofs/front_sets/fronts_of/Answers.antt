@@ -1,5 +1,4 @@
-use Rattle.std.proofs.Common.{arith}
-use Rattle.std.proofs.lemmas.Option.{slice_get-get_or}
+use Rattle.std.proofs.{Common.{arith}, lemmas.Option.{slice_get-get_or}}
 use Rattle.lab_deps.proofs.Fronts.{front_next}
 use Rattle.lab_deps.proofs.front_sets.fronts_of.Goals as goal
 

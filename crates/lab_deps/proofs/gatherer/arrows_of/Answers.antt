@@ -1,9 +1,5 @@
 use Rattle.std.proofs.Common.{[], ◌<◌, sym, ◌∙◌, subst}
-use Rattle.lab_deps.specs.KindBits.{Tells}
-use Rattle.lab_deps.specs.Scopes.{edges_in}
-use Rattle.lab_deps.proofs.ExactArrows.{exact_of}
-use Rattle.lab_deps.proofs.ExactGathering.{gathers_none, told_gathered}
-use Rattle.lab_deps.proofs.ScopedEdges.{are_edges}
+use Rattle.lab_deps.{specs.{KindBits.{Tells}, Scopes.{edges_in}}, proofs.{ExactArrows.{exact_of}, ExactGathering.{gathers_none, told_gathered}, ScopedEdges.{are_edges}}}
 use Rattle.lab_deps.proofs.gatherer.arrows_of.Goals as goal
 
 pub returns : goal.returns

@@ -1,6 +1,5 @@
 use Rattle.std.proofs.Common.{◌≡◌, None, drop}
-use Rattle.lab_deps.specs.LeastRow.{first_row, least_at}
-use Rattle.lab_deps.specs.Meetings.{meets}
+use Rattle.lab_deps.specs.{LeastRow.{first_row, least_at}, Meetings.{meets}}
 use Rattle.lab_deps.proofs.least.least_among.Given as goal
 
 -- the row so far and the operations that are left give the least of all

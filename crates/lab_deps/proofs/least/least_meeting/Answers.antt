@@ -1,9 +1,6 @@
-use Rattle.std.proofs.Common.{sym, subst}
-use Rattle.std.specs.List.Sorted.{IsStrictlySortedBy}
+use Rattle.std.{proofs.Common.{sym, subst}, specs.List.Sorted.{IsStrictlySortedBy}}
 use Rattle.lab_table.specs.Row.{row_cmp}
-use Rattle.lab_deps.specs.LeastRow.{IsLeastRow}
-use Rattle.lab_deps.specs.Meetings.{Meets, HasWritten}
-use Rattle.lab_deps.proofs.MetRows.{meeting_least}
+use Rattle.lab_deps.{specs.{LeastRow.{IsLeastRow}, Meetings.{Meets, HasWritten}}, proofs.MetRows.{meeting_least}}
 use Rattle.lab_deps.proofs.least.least_meeting.Goals as goal
 
 pub returns : goal.returns

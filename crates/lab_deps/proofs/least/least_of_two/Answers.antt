@@ -1,8 +1,5 @@
 use Rattle.std.proofs.Common.{sym, subst, ◌∙◌}
-use Rattle.lab_deps.specs.KindSets.{among}
-use Rattle.lab_deps.specs.LeastEdge.{fits, IsLeast}
-use Rattle.lab_deps.specs.Scopes.{edges_in}
-use Rattle.lab_deps.proofs.LeastOfAll.{installed_by, none_is_least, first_committed, second_committed, row_is_least}
+use Rattle.lab_deps.{specs.{KindSets.{among}, LeastEdge.{fits, IsLeast}, Scopes.{edges_in}}, proofs.LeastOfAll.{installed_by, none_is_least, first_committed, second_committed, row_is_least}}
 use Rattle.lab_deps.proofs.least.least_of_two.Goals as goal
 
 pub returns-in-None : goal.returns-in-None

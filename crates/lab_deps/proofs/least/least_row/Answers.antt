@@ -1,11 +1,6 @@
-use Rattle.std.proofs.Common.{sym, subst}
-use Rattle.std.proofs.lemmas.Result.{IfOk-weaker}
-use Rattle.lab_deps.specs.Edges.{Depends}
-use Rattle.lab_deps.specs.LeastRow.{IsLeastRow}
-use Rattle.lab_deps.specs.Meetings.{Meets}
-use Rattle.lab_deps.specs.declared.edge.Kind.TheVariants.{Write, ItemRead, PredicateRead, ItemAnti, PredicateAnti}
-use Rattle.lab_deps.proofs.LeastRows.{least_like}
-use Rattle.lab_deps.proofs.MetRows.{step_least, item_read_is, item_anti_is, predicate_read_is, predicate_anti_is, is_item_read, is_item_anti, is_predicate_read, is_predicate_anti}
+use Rattle.std.proofs.{Common.{sym, subst}, lemmas.Result.{IfOk-weaker}}
+use Rattle.lab_deps.specs.{Edges.{Depends}, LeastRow.{IsLeastRow}, Meetings.{Meets}, declared.edge.Kind.TheVariants.{Write, ItemRead, PredicateRead, ItemAnti, PredicateAnti}}
+use Rattle.lab_deps.proofs.{LeastRows.{least_like}, MetRows.{step_least, item_read_is, item_anti_is, predicate_read_is, predicate_anti_is, is_item_read, is_item_anti, is_predicate_read, is_predicate_anti}}
 use Rattle.lab_deps.proofs.least.least_row.Goals as goal
 
 pub returns-in-Write : goal.returns-in-Write

@@ -1,5 +1,4 @@
-use Rattle.std.proofs.Common.{◌∙◌, sym, ap}
-use Rattle.std.proofs.lemmas.Bool.{ltb-true, eqb-true}
+use Rattle.std.proofs.{Common.{◌∙◌, sym, ap}, lemmas.Bool.{ltb-true, eqb-true}}
 use Rattle.lab_history.specs.Version.{find_txn}
 use Rattle.lab_deps.proofs.KeptTxns.{txn_at}
 use Rattle.lab_deps.proofs.lookup.txn_of.Goals as goal

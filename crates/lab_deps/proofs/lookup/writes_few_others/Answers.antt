@@ -1,6 +1,4 @@
-use Rattle.std.proofs.Common.{◌∙◌, sym, ap}
-use Rattle.std.specs.Prelude.{is_none}
-use Rattle.std.specs.FinMap.{find, get-entries}
+use Rattle.std.{proofs.Common.{◌∙◌, sym, ap}, specs.{Prelude.{is_none}, FinMap.{find, get-entries}}}
 use Rattle.lab_table.specs.Row.{row_cmp}
 use Rattle.lab_deps.proofs.LastOperations.{none_among}
 use Rattle.lab_deps.proofs.lookup.writes_few_others.Goals as goal

@@ -1,9 +1,6 @@
-use Rattle.std.proofs.Common.{T, ◌∙◌, sym, ap, subst}
-use Rattle.std.specs.Prelude.{option_map}
-use Rattle.std.specs.FinMap.{find, entries_sorted, is_sorted, get-entries}
+use Rattle.std.{proofs.Common.{T, ◌∙◌, sym, ap, subst}, specs.{Prelude.{option_map}, FinMap.{find, entries_sorted, is_sorted, get-entries}}}
 use Rattle.lab_table.specs.Row.{row_cmp}
-use Rattle.lab_history.specs.VersionName.{state_value}
-use Rattle.lab_history.proofs.NewStates.{new_states_sorted, find_states}
+use Rattle.lab_history.{specs.VersionName.{state_value}, proofs.NewStates.{new_states_sorted, find_states}}
 use Rattle.lab_deps.proofs.lookup.written_near.Goals as goal
 
 pub value_near-found-requires : goal.value_near-found-requires

@@ -1,6 +1,4 @@
-use Rattle.std.proofs.Common.{T, sym, ap, ◌∙◌, subst}
-use Rattle.std.specs.Prelude.{is_some}
-use Rattle.std.specs.FinMap.{find, entries_sorted, is_sorted, get-entries}
+use Rattle.std.{proofs.Common.{T, sym, ap, ◌∙◌, subst}, specs.{Prelude.{is_some}, FinMap.{find, entries_sorted, is_sorted, get-entries}}}
 use Rattle.lab_table.specs.Row.{row_cmp}
 use Rattle.lab_deps.proofs.meeting.lists.Goals as goal
 

@@ -1,6 +1,4 @@
-use Rattle.std.proofs.Common.{T, sym, ap, ◌∙◌, subst}
-use Rattle.std.specs.Prelude.{unwrap_or}
-use Rattle.std.specs.FinMap.{find, entries_sorted, is_sorted, get-entries}
+use Rattle.std.{proofs.Common.{T, sym, ap, ◌∙◌, subst}, specs.{Prelude.{unwrap_or}, FinMap.{find, entries_sorted, is_sorted, get-entries}}}
 use Rattle.lab_table.specs.Row.{row_cmp}
 use Rattle.lab_history.specs.declared.operation.VersionName.TheVariants.{Initial}
 use Rattle.lab_deps.proofs.meeting.viewed.Goals as goal

@@ -1,5 +1,4 @@
-use Rattle.std.proofs.Common.{◌∙◌, sym, ap}
-use Rattle.std.specs.Prelude.{option_map}
+use Rattle.std.{proofs.Common.{◌∙◌, sym, ap}, specs.Prelude.{option_map}}
 use Rattle.lab_table.specs.Row.{numbered}
 use Rattle.lab_deps.proofs.Beyond.{beyond}
 use Rattle.lab_deps.proofs.near.entry_within.Goals as goal

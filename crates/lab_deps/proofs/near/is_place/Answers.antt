@@ -1,9 +1,7 @@
-use Rattle.std.proofs.Common.{◌≤◌, ◌-◌, length, sym, ap, ◌∙◌, arith}
-use Rattle.std.proofs.lemmas.List.{get_or_default}
+use Rattle.std.proofs.{Common.{◌≤◌, ◌-◌, length, sym, ap, ◌∙◌, arith}, lemmas.List.{get_or_default}}
 use Rattle.lab_table.specs.Running.{comes_after}
-use Rattle.lab_deps.proofs.NearPlaces.{place_is}
+use Rattle.lab_deps.proofs.{NearPlaces.{place_is}, near.is_place.Goals.{else-place-entries-2-via-then-place-entries-2+else-follows, else-place-entries-2-via-else-place-entries-2}}
 use Rattle.lab_deps.proofs.near.is_place.Goals as goal
-use Rattle.lab_deps.proofs.near.is_place.Goals.{else-place-entries-2-via-then-place-entries-2+else-follows, else-place-entries-2-via-else-place-entries-2}
 
 pub returns-else-place-eq0 : goal.returns-else-place-eq0
 returns-else-place-eq0 g c after =

@@ -1,5 +1,4 @@
-use Rattle.std.proofs.Common.{◌∙◌, ap, sym, Some, None, cond}
-use Rattle.std.proofs.lemmas.Bool.{ltb-true, ltb-false}
+use Rattle.std.proofs.{Common.{◌∙◌, ap, sym, Some, None, cond}, lemmas.Bool.{ltb-true, ltb-false}}
 use Rattle.lab_table.proofs.Searching.{found_nothing, found_entry}
 use Rattle.lab_deps.proofs.near.value_at.Goals as goal
 

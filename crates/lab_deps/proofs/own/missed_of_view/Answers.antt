@@ -1,11 +1,7 @@
-use Rattle.std.proofs.Common.{◌≡◌, T, ◌∙◌, false, sym, ap, subst}
-use Rattle.std.specs.FinMap.{find, entries_sorted, is_sorted, get-entries}
+use Rattle.std.{proofs.Common.{◌≡◌, T, ◌∙◌, false, sym, ap, subst}, specs.FinMap.{find, entries_sorted, is_sorted, get-entries}}
 use Rattle.lab_table.specs.Row.{row_cmp}
-use Rattle.lab_deps.specs.Broken.{is_missed}
-use Rattle.lab_deps.proofs.MissedViews.{other_seen, same_seen}
-use Rattle.lab_deps.proofs.NearValues.{passed_row, item_in_map}
+use Rattle.lab_deps.{specs.Broken.{is_missed}, proofs.{MissedViews.{other_seen, same_seen}, NearValues.{passed_row, item_in_map}, own.missed_of_view.Goals.{then-is_of+else-not-is_same, else-not-is_same-via-then-not-is_same+else-is_missed, else-not-is_same-via-else-not-is_same, else-is_of}}}
 use Rattle.lab_deps.proofs.own.missed_of_view.Goals as goal
-use Rattle.lab_deps.proofs.own.missed_of_view.Goals.{then-is_of+else-not-is_same, else-not-is_same-via-then-not-is_same+else-is_missed, else-not-is_same-via-else-not-is_same, else-is_of}
 
 pub value_near-found-requires : goal.value_near-found-requires
 value_near-found-requires c = subst (λ es. T (is_sorted row_cmp es)) (sym c.entries.ensures) (entries_sorted c.args.op.now.view)

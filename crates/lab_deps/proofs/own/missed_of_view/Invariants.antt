@@ -1,7 +1,5 @@
-use Rattle.std.proofs.Common.{◌≡◌, drop}
-use Rattle.std.specs.FinMap.{entries}
-use Rattle.lab_deps.specs.Passes.{first_entry}
-use Rattle.lab_deps.specs.Broken.{is_missed}
+use Rattle.std.{proofs.Common.{◌≡◌, drop}, specs.FinMap.{entries}}
+use Rattle.lab_deps.specs.{Passes.{first_entry}, Broken.{is_missed}}
 use Rattle.lab_deps.proofs.own.missed_of_view.Given as goal
 
 -- the row is found among the entries that are left as among all

@@ -1,10 +1,5 @@
-use Rattle.std.proofs.Common.{◌≡◌, None, not, ◌∙◌, sym, ap, rules}
-use Rattle.std.specs.Option.{option_copied}
-use Rattle.std.specs.FinMap.{entries}
-use Rattle.lab_deps.specs.Broken.{is_missed}
-use Rattle.lab_deps.specs.Passes.{first_entry, least, missed_row}
-use Rattle.lab_deps.proofs.DueRows.{nothing_there}
-use Rattle.lab_deps.proofs.MissedViews.{seen_again}
+use Rattle.std.{proofs.Common.{◌≡◌, None, not, ◌∙◌, sym, ap, rules}, specs.{Option.{option_copied}, FinMap.{entries}}}
+use Rattle.lab_deps.{specs.{Broken.{is_missed}, Passes.{first_entry, least, missed_row}}, proofs.{DueRows.{nothing_there}, MissedViews.{seen_again}}}
 use Rattle.lab_deps.proofs.own.sees_again.Goals as goal
 
 pub returns-then-equals-clause-own : goal.returns-then-equals-clause-own

@@ -1,8 +1,6 @@
-use Rattle.std.proofs.Common.{false, ◌||◌, sym, ap, ◌∙◌}
-use Rattle.std.proofs.lemmas.Bool.{not-true}
+use Rattle.std.proofs.{Common.{false, ◌||◌, sym, ap, ◌∙◌}, lemmas.Bool.{not-true}}
 use Rattle.lab_table.specs.Statement.{may_match}
-use Rattle.lab_deps.proofs.SeenRows.{unlooked}
-use Rattle.lab_deps.proofs.SteadyRows.{steady_row}
+use Rattle.lab_deps.proofs.{SeenRows.{unlooked}, SteadyRows.{steady_row}}
 use Rattle.lab_deps.proofs.relevant_rows.passes_by.Goals as goal
 
 pub returns-then-is_steady-clause-nothing : goal.returns-then-is_steady-clause-nothing

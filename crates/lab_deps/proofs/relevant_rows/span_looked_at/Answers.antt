@@ -1,6 +1,4 @@
-use Rattle.std.proofs.Common.{◌≡◌, T, None, sym, subst, arith}
-use Rattle.std.specs.Prelude.{slice_index_or}
-use Rattle.std.specs.FinMap.{find, entries_sorted, is_sorted}
+use Rattle.std.{proofs.Common.{◌≡◌, T, None, sym, subst, arith}, specs.{Prelude.{slice_index_or}, FinMap.{find, entries_sorted, is_sorted}}}
 use Rattle.lab_table.specs.Row.{row_cmp}
 use Rattle.lab_deps.proofs.LookedSpans.{unlooked_row}
 use Rattle.lab_deps.proofs.relevant_rows.span_looked_at.Goals as goal

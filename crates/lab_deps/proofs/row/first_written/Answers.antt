@@ -1,5 +1,4 @@
-use Rattle.std.proofs.Common.{◌∙◌}
-use Rattle.std.specs.FinMap.{entries}
+use Rattle.std.{proofs.Common.{◌∙◌}, specs.FinMap.{entries}}
 use Rattle.lab_deps.proofs.Rows.{first_states}
 use Rattle.lab_deps.proofs.row.first_written.Goals as goal
 

@@ -1,5 +1,4 @@
-use Rattle.std.proofs.Common.{◌≡◌, ◌<◌, ℕ, suc, Some}
-use Rattle.std.specs.Prelude.{slice_get}
+use Rattle.std.{proofs.Common.{◌≡◌, ◌<◌, ℕ, suc, Some}, specs.Prelude.{slice_get}}
 use Rattle.lab_deps.proofs.turning.are_rising.Given as goal
 
 abbrev pub invariant-loop-index : goal.invariant-loop-index

@@ -1,6 +1,4 @@
-use Rattle.std.proofs.Common.{rules}
-use Rattle.std.specs.Prelude.{nat_lt}
-use Rattle.std.proofs.lemmas.List.Sorted.{IsPartitionPoint-from_clause}
+use Rattle.std.{proofs.{Common.{rules}, lemmas.List.Sorted.{IsPartitionPoint-from_clause}}, specs.Prelude.{nat_lt}}
 use Rattle.lab_deps.proofs.RisingPlaces.{cut_at}
 use Rattle.lab_deps.proofs.turning.cut.Goals as goal
 

@@ -1,6 +1,4 @@
-use Rattle.std.proofs.Common.{sym, ◌∙◌}
-use Rattle.std.specs.Cmp.{booleans_Decides}
-use Rattle.std.proofs.lemmas.Slice.Eq.{slice_eq-Decides}
+use Rattle.std.{proofs.{Common.{sym, ◌∙◌}, lemmas.Slice.Eq.{slice_eq-Decides}}, specs.Cmp.{booleans_Decides}}
 use Rattle.lab_deps.proofs.turnings.is_by.Goals as goal
 
 pub returns : goal.returns

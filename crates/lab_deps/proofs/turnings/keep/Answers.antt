@@ -1,8 +1,5 @@
-use Rattle.std.proofs.Common.{◌≡◌, sym, ap, ◌∙◌, subst}
-use Rattle.std.specs.Prelude.{IfSome}
-use Rattle.lab_deps.specs.KeptTurnings.{classes_of, AreTurnings}
-use Rattle.lab_deps.specs.Turnings.{IsTurning, class_in}
-use Rattle.lab_deps.proofs.Classes.{kept_more}
+use Rattle.std.{proofs.Common.{◌≡◌, sym, ap, ◌∙◌, subst}, specs.Prelude.{IfSome}}
+use Rattle.lab_deps.{specs.{KeptTurnings.{classes_of, AreTurnings}, Turnings.{IsTurning, class_in}}, proofs.Classes.{kept_more}}
 use Rattle.lab_deps.proofs.turnings.keep.Goals as goal
 
 pub returns-in_ok-push-in-Some : goal.returns-in_ok-push-in-Some

@@ -1,8 +1,5 @@
-use Rattle.std.proofs.Common.{map, ap, ◌∙◌, subst}
-use Rattle.std.specs.Prelude.{is_some, IfOk, IfSome}
-use Rattle.lab_deps.specs.Edges.{differ}
-use Rattle.lab_deps.specs.Turnings.{IsTurning, class_in}
-use Rattle.lab_deps.specs.declared.versions.Version.{Version}
+use Rattle.std.{proofs.Common.{map, ap, ◌∙◌, subst}, specs.Prelude.{is_some, IfOk, IfSome}}
+use Rattle.lab_deps.specs.{Edges.{differ}, Turnings.{IsTurning, class_in}, declared.versions.Version.{Version}}
 use Rattle.lab_deps.proofs.turnings.presence_of.Goals as goal
 
 pub returns : goal.returns

@@ -1,5 +1,4 @@
-use Rattle.std.proofs.Common.{length, refl}
-use Rattle.std.proofs.lemmas.Option.{slice_get_read}
+use Rattle.std.proofs.{Common.{length, refl}, lemmas.Option.{slice_get_read}}
 use Rattle.lab_deps.proofs.turnings.turning_by.Goals as goal
 
 pub returns-then-is_by : goal.returns-then-is_by

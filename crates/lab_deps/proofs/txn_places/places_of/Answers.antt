@@ -1,8 +1,5 @@
-use Rattle.std.proofs.Common.{◌≡◌, ◌+◌, ◌∷◌, [], ◌++◌, take, drop, sym, ap, ◌∙◌, subst}
-use Rattle.std.proofs.lemmas.List.{drop_more, take_more}
-use Rattle.lab_deps.specs.KindBits.{place, IsNumbering}
-use Rattle.lab_deps.specs.Numbering.{placed_behind}
-use Rattle.lab_deps.proofs.Numbered.{numbered_next}
+use Rattle.std.proofs.{Common.{◌≡◌, ◌+◌, ◌∷◌, [], ◌++◌, take, drop, sym, ap, ◌∙◌, subst}, lemmas.List.{drop_more, take_more}}
+use Rattle.lab_deps.{specs.{KindBits.{place, IsNumbering}, Numbering.{placed_behind}}, proofs.Numbered.{numbered_next}}
 use Rattle.lab_deps.proofs.txn_places.places_of.Goals as goal
 
 pub loop-index-preserved : goal.loop-index-preserved

@@ -1,9 +1,5 @@
-use Rattle.std.proofs.Common.{sym, subst, ◌∙◌}
-use Rattle.std.specs.Prelude.{IfSome}
-use Rattle.lab_deps.specs.FaultOrder.{IsFirstRead}
-use Rattle.lab_deps.specs.Soundness.{Stands}
-use Rattle.lab_deps.specs.declared.fault.LocalFault.TheVariants.{AbortedRead}
-use Rattle.lab_deps.proofs.UncommittedReads.{aborted_stands, aborted_first, none_aborted}
+use Rattle.std.{proofs.Common.{sym, subst, ◌∙◌}, specs.Prelude.{IfSome}}
+use Rattle.lab_deps.{specs.{FaultOrder.{IsFirstRead}, Soundness.{Stands}, declared.fault.LocalFault.TheVariants.{AbortedRead}}, proofs.UncommittedReads.{aborted_stands, aborted_first, none_aborted}}
 use Rattle.lab_deps.proofs.uncommitted.first_aborted_read.Goals as goal
 
 pub returns-clause-found : goal.returns-clause-found

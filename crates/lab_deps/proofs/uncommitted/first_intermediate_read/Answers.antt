@@ -1,9 +1,5 @@
-use Rattle.std.proofs.Common.{sym, subst, ◌∙◌}
-use Rattle.std.specs.Prelude.{IfSome}
-use Rattle.lab_deps.specs.FaultOrder.{IsFirstRead}
-use Rattle.lab_deps.specs.Soundness.{Stands}
-use Rattle.lab_deps.specs.declared.fault.LocalFault.TheVariants.{IntermediateRead}
-use Rattle.lab_deps.proofs.UncommittedReads.{intermediate_stands, intermediate_first, none_intermediate}
+use Rattle.std.{proofs.Common.{sym, subst, ◌∙◌}, specs.Prelude.{IfSome}}
+use Rattle.lab_deps.{specs.{FaultOrder.{IsFirstRead}, Soundness.{Stands}, declared.fault.LocalFault.TheVariants.{IntermediateRead}}, proofs.UncommittedReads.{intermediate_stands, intermediate_first, none_intermediate}}
 use Rattle.lab_deps.proofs.uncommitted.first_intermediate_read.Goals as goal
 
 pub returns-clause-found : goal.returns-clause-found

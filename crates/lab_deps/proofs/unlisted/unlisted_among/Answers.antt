@@ -1,9 +1,6 @@
-use Rattle.std.proofs.Common.{ℤ, Option, List, [], ◌∷◌, ◌++◌, take, sym, ap, ◌∙◌}
-use Rattle.std.specs.FinMap.{entries}
-use Rattle.std.proofs.lemmas.List.{take_more}
+use Rattle.std.{proofs.{Common.{ℤ, Option, List, [], ◌∷◌, ◌++◌, take, sym, ap, ◌∙◌}, lemmas.List.{take_more}}, specs.FinMap.{entries}}
 use Rattle.lab_table.specs.Row.{Row}
-use Rattle.lab_deps.specs.Passes.{first_value, is_unlisted_among, least}
-use Rattle.lab_deps.proofs.NamedIds.{none_among, one_more}
+use Rattle.lab_deps.{specs.Passes.{first_value, is_unlisted_among, least}, proofs.NamedIds.{none_among, one_more}}
 use Rattle.lab_deps.proofs.unlisted.unlisted_among.Goals as goal
 
 pub loop-number-init : goal.loop-number-init

@@ -1,5 +1,4 @@
-use Rattle.std.proofs.Common.{◌≡◌, take}
-use Rattle.std.specs.FinMap.{entries}
+use Rattle.std.{proofs.Common.{◌≡◌, take}, specs.FinMap.{entries}}
 use Rattle.lab_deps.specs.Passes.{first_value, is_unlisted_among}
 use Rattle.lab_deps.proofs.unlisted.unlisted_among.Given as goal
 

@@ -1,5 +1,4 @@
-use Rattle.std.proofs.Common.{T, Some, None, cond, sym, ap, ◌∙◌, subst}
-use Rattle.std.specs.FinMap.{entries, entries_sorted, is_sorted}
+use Rattle.std.{proofs.Common.{T, Some, None, cond, sym, ap, ◌∙◌, subst}, specs.FinMap.{entries, entries_sorted, is_sorted}}
 use Rattle.lab_table.specs.Row.{row_cmp, numbered}
 use Rattle.lab_deps.proofs.NamedIds.{at_entry}
 use Rattle.lab_deps.proofs.unlisted.unlisted_at.Goals as goal

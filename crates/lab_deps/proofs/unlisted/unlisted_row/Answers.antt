@@ -1,6 +1,5 @@
 use Rattle.std.proofs.Common.{sym, ◌∙◌}
-use Rattle.lab_deps.proofs.NamedIds.{among_all}
-use Rattle.lab_deps.proofs.RuledOut.{unlisted_at_row}
+use Rattle.lab_deps.proofs.{NamedIds.{among_all}, RuledOut.{unlisted_at_row}}
 use Rattle.lab_deps.proofs.unlisted.unlisted_row.Goals as goal
 
 pub returns-in-Some : goal.returns-in-Some

@@ -1,7 +1,5 @@
-use Rattle.std.proofs.Common.{◌++◌, ◌∙◌, sym, ap}
-use Rattle.std.proofs.lemmas.List.{append-nil, drop_all}
-use Rattle.lab_deps.specs.Meetings.{named_in}
-use Rattle.lab_deps.proofs.WrittenRows.{named_states}
+use Rattle.std.proofs.{Common.{◌++◌, ◌∙◌, sym, ap}, lemmas.List.{append-nil, drop_all}}
+use Rattle.lab_deps.{specs.Meetings.{named_in}, proofs.WrittenRows.{named_states}}
 use Rattle.lab_deps.proofs.written.add_rows.Goals as goal
 
 pub returns : goal.returns

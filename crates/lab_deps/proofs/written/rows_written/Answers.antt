@@ -1,10 +1,5 @@
-use Rattle.std.proofs.Common.{sym, subst}
-use Rattle.std.specs.Prelude.{Contains}
-use Rattle.std.proofs.lemmas.List.Filters.{dedup_is}
-use Rattle.std.proofs.lemmas.List.Kept.{Contains-dedup, IsStrictlySortedBy-dedup}
-use Rattle.std.proofs.lemmas.List.Sorted.{Contains-permutation}
-use Rattle.lab_table.specs.Row.{rows_equiv, rows_total, rows_tested}
-use Rattle.lab_table.proofs.Maps.{tested_same}
+use Rattle.std.{proofs.{Common.{sym, subst}, lemmas.List.{Filters.{dedup_is}, Kept.{Contains-dedup, IsStrictlySortedBy-dedup}, Sorted.{Contains-permutation}}}, specs.Prelude.{Contains}}
+use Rattle.lab_table.{specs.Row.{rows_equiv, rows_total, rows_tested}, proofs.Maps.{tested_same}}
 use Rattle.lab_deps.proofs.WrittenRows.{written_there}
 use Rattle.lab_deps.proofs.written.rows_written.Goals as goal
 

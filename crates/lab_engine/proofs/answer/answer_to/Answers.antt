@@ -1,6 +1,4 @@
-use Rattle.lab_engine.proofs.Common.{Answers, ap, AreWaits, asked, conflict_fault, IfOk, MayAsk, MayCommit, refl, Refused, Run, Situation, subst, sym}
-use Rattle.lab_engine.proofs.Describing.{running_txn, running_none}
-use Rattle.lab_engine.proofs.Answering.{gives, may_ask, conflict_none, conflict_some, ran}
+use Rattle.lab_engine.proofs.{Common.{Answers, ap, AreWaits, asked, conflict_fault, IfOk, MayAsk, MayCommit, refl, Refused, Run, Situation, subst, sym}, Describing.{running_txn, running_none}, Answering.{gives, may_ask, conflict_none, conflict_some, ran}}
 use Rattle.lab_engine.proofs.answer.answer_to.Goals as goal
 
 pub returns-in_default-clause-answer : goal.returns-in_default-clause-answer

@@ -1,5 +1,4 @@
-use Rattle.lab_engine.proofs.Common.{ap, arith, get_or, get_or_default_zero, has, length, List, refl, subst, sym, ℕ, ◌&&◌, ◌+◌, ◌-◌, ◌<◌, ◌∙◌, ◌≡◌}
-use Rattle.lab_engine.proofs.WaitLayers.{GoesOn, goes_on_next, some_common}
+use Rattle.lab_engine.proofs.{Common.{ap, arith, get_or, get_or_default_zero, has, length, List, refl, subst, sym, ℕ, ◌&&◌, ◌+◌, ◌-◌, ◌<◌, ◌∙◌, ◌≡◌}, WaitLayers.{GoesOn, goes_on_next, some_common}}
 use Rattle.lab_engine.proofs.circle.circle_by.Goals as goal
 
 -- what is said of the layer that is read

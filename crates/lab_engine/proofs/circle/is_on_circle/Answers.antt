@@ -1,6 +1,4 @@
-use Rattle.lab_engine.proofs.Common.{ap, both_ways, eq-eqb, IsRound, IsTrue, List, none_of, not, or_left, refl, subst, sym, ℕ, ◌↔◌, ◌∙◌}
-use Rattle.lab_engine.proofs.Walks.{waited_for}
-use Rattle.lab_engine.proofs.WaitLayers.{found_round, round_found}
+use Rattle.lab_engine.proofs.{Common.{ap, both_ways, eq-eqb, IsRound, IsTrue, List, none_of, not, or_left, refl, subst, sym, ℕ, ◌↔◌, ◌∙◌}, Walks.{waited_for}, WaitLayers.{found_round, round_found}}
 use Rattle.lab_engine.proofs.circle.is_on_circle.Goals as goal
 
 pub returns-then-is_none : goal.returns-then-is_none

@@ -1,5 +1,4 @@
-use Rattle.std.proofs.Common.{◌-◌, ◌<◌, get_or, length, ◌∙◌, arith, length-set}
-use Rattle.std.proofs.lemmas.Grind.{get_or_default_zero}
+use Rattle.std.proofs.{Common.{◌-◌, ◌<◌, get_or, length, ◌∙◌, arith, length-set}, lemmas.Grind.{get_or_default_zero}}
 use Rattle.lab_engine.proofs.WaitLayers.{layers_first, layers_more}
 use Rattle.lab_engine.proofs.circle.layers_to.Goals as goal
 

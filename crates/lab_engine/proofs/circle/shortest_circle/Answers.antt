@@ -1,6 +1,5 @@
 use Rattle.std.proofs.Common.{◌≤◌, length, refl, sym, subst, ap, arith}
-use Rattle.lab_engine.specs.WaitsFor.{IsRound}
-use Rattle.lab_engine.proofs.WaitLayers.{least_round, shortest_round, no_round}
+use Rattle.lab_engine.{specs.WaitsFor.{IsRound}, proofs.WaitLayers.{least_round, shortest_round, no_round}}
 use Rattle.lab_engine.proofs.circle.shortest_circle.Goals as goal
 
 pub returns-in_ok-circle_by-in-Some-clause-found : goal.returns-in_ok-circle_by-in-Some-clause-found

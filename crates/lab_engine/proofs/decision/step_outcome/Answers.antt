@@ -1,6 +1,4 @@
-use Rattle.std.proofs.Common.{sym, ap, ◌∙◌, inl, true≢false}
-use Rattle.std.specs.Prelude.{is_some}
-use Rattle.std.proofs.lemmas.Result.{IfOk-weaker}
+use Rattle.std.{proofs.{Common.{sym, ap, ◌∙◌, inl, true≢false}, lemmas.Result.{IfOk-weaker}}, specs.Prelude.{is_some}}
 use Rattle.lab_engine.proofs.Answering.{at_ease}
 use Rattle.lab_engine.proofs.decision.step_outcome.Goals as goal
 

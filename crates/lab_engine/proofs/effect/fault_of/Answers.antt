@@ -1,5 +1,4 @@
-use Rattle.lab_engine.proofs.Common.{fails, false, IsEffectFault, MatchOption, Row, subst, sym, ◌∙◌, ◌≡◌}
-use Rattle.lab_engine.proofs.FailingRows.{all_run, update_fails, insert_fails}
+use Rattle.lab_engine.proofs.{Common.{fails, false, IsEffectFault, MatchOption, Row, subst, sym, ◌∙◌, ◌≡◌}, FailingRows.{all_run, update_fails, insert_fails}}
 use Rattle.lab_engine.proofs.effect.fault_of.Goals as goal
 
 pub returns-in_err-id-clause-fault : goal.returns-in_err-id-clause-fault

@@ -1,5 +1,4 @@
-use Rattle.lab_engine.proofs.Common.{ap, from_sorted, get, get-from_sorted, insert_is, row_cmp, sym, [], ◌∙◌}
-use Rattle.lab_engine.proofs.Effects.{lists_matched}
+use Rattle.lab_engine.proofs.{Common.{ap, from_sorted, get, get-from_sorted, insert_is, row_cmp, sym, [], ◌∙◌}, Effects.{lists_matched}}
 use Rattle.lab_engine.proofs.effect.rows_of.Goals as goal
 
 pub returns-in-Some : goal.returns-in-Some

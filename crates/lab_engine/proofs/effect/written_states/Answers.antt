@@ -1,5 +1,4 @@
-use Rattle.lab_engine.proofs.Common.{IfOk-weaker, sym, ◌∙◌}
-use Rattle.lab_engine.proofs.Effects.{change_sorted, change_found}
+use Rattle.lab_engine.proofs.{Common.{IfOk-weaker, sym, ◌∙◌}, Effects.{change_sorted, change_found}}
 use Rattle.lab_engine.proofs.effect.written_states.Goals as goal
 
 pub returns-else-is_read_only-clause-sorted : goal.returns-else-is_read_only-clause-sorted

@@ -1,5 +1,4 @@
-use Rattle.lab_engine.specs.Gathered.{committed}
-use Rattle.lab_engine.proofs.TxnsAfterEvents.{set_by}
+use Rattle.lab_engine.{specs.Gathered.{committed}, proofs.TxnsAfterEvents.{set_by}}
 use Rattle.lab_engine.proofs.gathering.commit_by.Goals as goal
 
 pub returns-in-Some : goal.returns-in-Some

@@ -1,5 +1,4 @@
-use Rattle.lab_engine.proofs.Common.{op_of, with_ops}
-use Rattle.lab_engine.proofs.TxnsAfterEvents.{set_by}
+use Rattle.lab_engine.proofs.{Common.{op_of, with_ops}, TxnsAfterEvents.{set_by}}
 use Rattle.lab_engine.proofs.gathering.run_by.Goals as goal
 
 pub returns-in_ok-run : goal.returns-in_ok-run

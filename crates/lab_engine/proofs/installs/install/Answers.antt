@@ -1,5 +1,4 @@
-use Rattle.lab_engine.proofs.Common.{ap, Bor, cond, GatheredTxn, installs_by, is_some, numbers_of, Option, option_map, sym, [], ◌++◌, ◌∙◌, ◌∷◌}
-use Rattle.lab_engine.proofs.Grouping.{noted}
+use Rattle.lab_engine.proofs.{Common.{ap, Bor, cond, GatheredTxn, installs_by, is_some, numbers_of, Option, option_map, sym, [], ◌++◌, ◌∙◌, ◌∷◌}, Grouping.{noted}}
 use Rattle.lab_engine.proofs.installs.install.Goals as goal
 
 pub returns-clause-installs : goal.returns-clause-installs

@@ -1,6 +1,5 @@
-use Rattle.lab_engine.proofs.Common.{answers_always, ap, get, groups_from, IsSortedByKey, row_cmp, rules, subst, sym, [], ◌∙◌}
+use Rattle.lab_engine.proofs.{Common.{answers_always, ap, get, groups_from, IsSortedByKey, row_cmp, rules, subst, sym, [], ◌∙◌}, Grouping.{groups_sorted, groups_found}}
 use Rattle.lab_history.specs.Installed.{Installed}
-use Rattle.lab_engine.proofs.Grouping.{groups_sorted, groups_found}
 use Rattle.lab_engine.proofs.installs.installed_of.Goals as goal
 
 pub new-requires : goal.new-requires

@@ -1,5 +1,4 @@
-use Rattle.lab_engine.proofs.Common.{ap, get, get-empty, row_cmp, ◌∙◌}
-use Rattle.lab_engine.specs.Sight.{Listed}
+use Rattle.lab_engine.{proofs.Common.{ap, get, get-empty, row_cmp, ◌∙◌}, specs.Sight.{Listed}}
 use Rattle.lab_engine.proofs.installs.last_versions.Goals as goal
 
 pub loop-index-init : goal.loop-index-init

@@ -1,7 +1,4 @@
-use Rattle.lab_engine.proofs.Common.{arith, length-reverse, on_ok_weaker, past_of, sym, ◌∙◌, ◌∷◌}
-use Rattle.lab_engine.specs.Sessions.{all_sessions}
-use Rattle.lab_engine.proofs.EndPlaces.{fewer_active, few_active}
-use Rattle.lab_engine.proofs.KeptCommits.{room_after, room_after_end}
+use Rattle.lab_engine.{proofs.{Common.{arith, length-reverse, on_ok_weaker, past_of, sym, ◌∙◌, ◌∷◌}, EndPlaces.{fewer_active, few_active}, KeptCommits.{room_after, room_after_end}}, specs.Sessions.{all_sessions}}
 use Rattle.lab_engine.proofs.journal.reserve_place.Goals as goal
 
 pub returns-then-ends_transaction-clause-next : goal.returns-then-ends_transaction-clause-next

@@ -1,5 +1,4 @@
-use Rattle.lab_engine.proofs.Common.{ap, get, ◌∙◌}
-use Rattle.lab_engine.proofs.Overlaid.{names_sorted, names_found}
+use Rattle.lab_engine.proofs.{Common.{ap, get, ◌∙◌}, Overlaid.{names_sorted, names_found}}
 use Rattle.lab_engine.proofs.reading.view_seen.Goals as goal
 
 pub new-requires : goal.new-requires

@@ -1,5 +1,4 @@
-use Rattle.lab_engine.proofs.Common.{Agree, ap, cond, list_any, None, pending_in, row_eq, subst, ◌&&◌, ◌==◌, ◌∙◌}
-use Rattle.lab_engine.proofs.SessionStates.{all_settled, none_settled}
+use Rattle.lab_engine.proofs.{Common.{Agree, ap, cond, list_any, None, pending_in, row_eq, subst, ◌&&◌, ◌==◌, ◌∙◌}, SessionStates.{all_settled, none_settled}}
 use Rattle.lab_engine.proofs.session_state.give_up.Goals as goal
 
 pub returns-in-Some-clause-pending : goal.returns-in-Some-clause-pending

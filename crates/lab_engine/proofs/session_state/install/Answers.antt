@@ -1,5 +1,4 @@
-use Rattle.lab_engine.proofs.Common.{Agree, ap, chain_in, cond, list_any, longer, None, pending_in, row_eq, subst, ◌&&◌, ◌==◌, ◌∙◌}
-use Rattle.lab_engine.proofs.SessionStates.{all_settled, none_settled, installs_all, installs_none}
+use Rattle.lab_engine.proofs.{Common.{Agree, ap, chain_in, cond, list_any, longer, None, pending_in, row_eq, subst, ◌&&◌, ◌==◌, ◌∙◌}, SessionStates.{all_settled, none_settled, installs_all, installs_none}}
 use Rattle.lab_engine.proofs.session_state.install.Goals as goal
 
 pub returns-in-Some-clause-chain : goal.returns-in-Some-clause-chain

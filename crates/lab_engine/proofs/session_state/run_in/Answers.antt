@@ -1,5 +1,4 @@
-use Rattle.lab_engine.proofs.Common.{active_after, Agree, ap, asked, Command, cond, keeps_statements, Listed, None, pending_in, Some, subst, sym, ◌∙◌}
-use Rattle.lab_engine.proofs.SessionStates.{runs_agree}
+use Rattle.lab_engine.proofs.{Common.{active_after, Agree, ap, asked, Command, cond, keeps_statements, Listed, None, pending_in, Some, subst, sym, ◌∙◌}, SessionStates.{runs_agree}}
 use Rattle.lab_engine.proofs.session_state.run_in.Goals as goal
 
 pub returns-in-Some-clause-txn : goal.returns-in-Some-clause-txn

@@ -1,6 +1,5 @@
 use Rattle.std.proofs.Common.{refl, sym, subst, ap, is_some, ◌∙◌}
-use Rattle.lab_engine.specs.Situation.{DescribesSession, HasRoom, HoldsOutcome}
-use Rattle.lab_engine.proofs.States.{described_there, own_there, room_at, sessions_stay, states_go_on, running_there}
+use Rattle.lab_engine.{specs.Situation.{DescribesSession, HasRoom, HoldsOutcome}, proofs.States.{described_there, own_there, room_at, sessions_stay, states_go_on, running_there}}
 use Rattle.lab_engine.proofs.situation.advance_session.Goals as goal
 
 pub take_in-requires-clause-few : goal.take_in-requires-clause-few

@@ -1,5 +1,4 @@
-use Rattle.lab_engine.proofs.Common.{ap, DescribesSession, HasPlaces, on_ok_weaker, refl, subst, sym, ◌∙◌}
-use Rattle.lab_engine.proofs.States.{sessions_stay, states_stay, running_put}
+use Rattle.lab_engine.proofs.{Common.{ap, DescribesSession, HasPlaces, on_ok_weaker, refl, subst, sym, ◌∙◌}, States.{sessions_stay, states_stay, running_put}}
 use Rattle.lab_engine.proofs.situation.reserve_places.Goals as goal
 
 pub returns-clause-sessions : goal.returns-clause-sessions

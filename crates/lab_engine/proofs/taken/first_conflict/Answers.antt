@@ -1,8 +1,5 @@
-use Rattle.lab_engine.proofs.Common.{chain_in, first_since, List, Option, Row, subst, sym, take, ℕ, ◌+◌, ◌∙◌}
-use Rattle.lab_engine.specs.Taken.{IsLeastTaken}
-use Rattle.lab_engine.proofs.LeastTaken.{least_new, least_untaken, least_behind}
+use Rattle.lab_engine.{proofs.{Common.{chain_in, first_since, List, Option, Row, subst, sym, take, ℕ, ◌+◌, ◌∙◌}, LeastTaken.{least_new, least_untaken, least_behind}, taken.first_conflict.Goals.{then-is_before+in-Some, then-is_before+in_default, else-is_before}}, specs.Taken.{IsLeastTaken}}
 use Rattle.lab_engine.proofs.taken.first_conflict.Goals as goal
-use Rattle.lab_engine.proofs.taken.first_conflict.Goals.{then-is_before+in-Some, then-is_before+in_default, else-is_before}
 
 pub loop-row-preserved : goal.loop-row-preserved
 loop-row-preserved c =

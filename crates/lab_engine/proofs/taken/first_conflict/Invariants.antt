@@ -1,5 +1,4 @@
-use Rattle.lab_engine.proofs.Common.{chain_in, first_since, take}
-use Rattle.lab_engine.specs.Taken.{IsLeastTaken}
+use Rattle.lab_engine.{proofs.Common.{chain_in, first_since, take}, specs.Taken.{IsLeastTaken}}
 use Rattle.lab_engine.proofs.taken.first_conflict.Given as goal
 
 -- the least of the rows so far

@@ -1,5 +1,4 @@
-use Rattle.lab_engine.proofs.Common.{ap, arith, drop, drop_more, merged, sym, take, without_row, [], ◌++◌, ◌+◌, ◌∙◌, ◌∷◌, ◌≡◌}
-use Rattle.lab_engine.proofs.Merging.{merge_step}
+use Rattle.lab_engine.proofs.{Common.{ap, arith, drop, drop_more, merged, sym, take, without_row, [], ◌++◌, ◌+◌, ◌∙◌, ◌∷◌, ◌≡◌}, Merging.{merge_step}}
 use Rattle.lab_engine.proofs.version.merged_entries.Goals as goal
 
 pub loop-entry-preserved : goal.loop-entry-preserved

@@ -1,5 +1,4 @@
-use Rattle.lab_engine.proofs.Common.{AreBlockers, subst, sym}
-use Rattle.lab_engine.proofs.Waiting.{all_passed, others_block, blockers_all}
+use Rattle.lab_engine.proofs.{Common.{AreBlockers, subst, sym}, Waiting.{all_passed, others_block, blockers_all}}
 use Rattle.lab_engine.proofs.waits.blockers.Goals as goal
 
 pub returns : goal.returns

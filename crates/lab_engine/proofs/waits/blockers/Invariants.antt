@@ -1,5 +1,4 @@
-use Rattle.lab_engine.proofs.Common.{filter, has, take, ◌≡◌}
-use Rattle.lab_engine.proofs.Rising.{sessions_of}
+use Rattle.lab_engine.proofs.{Common.{filter, has, take, ◌≡◌}, Rising.{sessions_of}}
 use Rattle.lab_engine.proofs.waits.blockers.Given as goal
 
 -- of the sessions so far, those that block the statement

@@ -1,6 +1,4 @@
-use Rattle.lab_engine.proofs.Common.{ap, AreWaits, list_any, subst, sym, ◌==◌, ◌∙◌}
-use Rattle.lab_engine.proofs.Circles.{deadlock_is}
-use Rattle.lab_engine.proofs.Waiting.{waits_with}
+use Rattle.lab_engine.proofs.{Common.{ap, AreWaits, list_any, subst, sym, ◌==◌, ◌∙◌}, Circles.{deadlock_is}, Waiting.{waits_with}}
 use Rattle.lab_engine.proofs.waits.deadlock.Goals as goal
 
 pub returns : goal.returns

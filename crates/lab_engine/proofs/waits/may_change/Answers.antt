@@ -1,6 +1,4 @@
-use Rattle.lab_engine.proofs.Common.{ap, both_ways, inl, inr, is_over, subst, sym, WaitsOn, ◌∙◌, ◌⊎◌}
-use Rattle.lab_engine.proofs.AfterReads.{Unasked}
-use Rattle.lab_engine.proofs.WaitsAfter.{LeavesWaiter, leaves_waiter, same_waits}
+use Rattle.lab_engine.proofs.{Common.{ap, both_ways, inl, inr, is_over, subst, sym, WaitsOn, ◌∙◌, ◌⊎◌}, AfterReads.{Unasked}, WaitsAfter.{LeavesWaiter, leaves_waiter, same_waits}}
 use Rattle.lab_engine.proofs.waits.may_change.Goals as goal
 
 pub returns-in-Rows : goal.returns-in-Rows

@@ -1,7 +1,4 @@
-use Rattle.lab_engine.proofs.Common.{both_ways, get_or, none_some, SessionState, sym, ◌∙◌}
-use Rattle.lab_engine.proofs.Describing.{nobody_waits}
-use Rattle.lab_engine.proofs.Waiting.{stands_at, all_passed, described_at}
-use Rattle.lab_engine.proofs.Retrying.{state_retryable, state_released, none_step, none_retryable, least_retryable}
+use Rattle.lab_engine.proofs.{Common.{both_ways, get_or, none_some, SessionState, sym, ◌∙◌}, Describing.{nobody_waits}, Waiting.{stands_at, all_passed, described_at}, Retrying.{state_retryable, state_released, none_step, none_retryable, least_retryable}}
 use Rattle.lab_engine.proofs.waits.retryable.Goals as goal
 
 pub returns-then-nobody_waits : goal.returns-then-nobody_waits

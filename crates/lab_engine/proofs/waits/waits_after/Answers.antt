@@ -1,6 +1,4 @@
-use Rattle.lab_engine.proofs.Common.{both_ways, get_or, none_some, refl, SessionState, sym, ◌∙◌, ◌∷◌}
-use Rattle.lab_engine.proofs.Describing.{nobody_waits}
-use Rattle.lab_engine.proofs.Waiting.{stands_at, all_passed, described_at, waits_step, waits_all}
+use Rattle.lab_engine.proofs.{Common.{both_ways, get_or, none_some, refl, SessionState, sym, ◌∙◌, ◌∷◌}, Describing.{nobody_waits}, Waiting.{stands_at, all_passed, described_at, waits_step, waits_all}}
 use Rattle.lab_engine.proofs.waits.waits_after.Goals as goal
 
 pub returns-then-nobody_waits : goal.returns-then-nobody_waits

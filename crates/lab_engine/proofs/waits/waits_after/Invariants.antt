@@ -1,5 +1,4 @@
-use Rattle.lab_engine.proofs.Common.{AreWaits, Describes, IsLegal, Past, take, ◌∷◌}
-use Rattle.lab_engine.proofs.Waiting.{AreWaitsOf}
+use Rattle.lab_engine.proofs.{Common.{AreWaits, Describes, IsLegal, Past, take, ◌∷◌}, Waiting.{AreWaitsOf}}
 use Rattle.lab_engine.proofs.waits.waits_after.Given as goal
 
 -- what the sessions so far wait for

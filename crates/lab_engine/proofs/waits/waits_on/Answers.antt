@@ -1,5 +1,4 @@
-use Rattle.lab_engine.proofs.Common.{BlockedBy, has, IsTrue, subst, sym, ◌↔◌, ◌∙◌}
-use Rattle.lab_engine.proofs.Waiting.{running_txn, others_block, waits_on_blocking}
+use Rattle.lab_engine.proofs.{Common.{BlockedBy, has, IsTrue, subst, sym, ◌↔◌, ◌∙◌}, Waiting.{running_txn, others_block, waits_on_blocking}}
 use Rattle.lab_engine.proofs.waits.waits_on.Goals as goal
 
 pub returns : goal.returns

@@ -1,5 +1,4 @@
-use Rattle.std.proofs.Common.{sym, ap, ◌∙◌, length, ◌==◌}
-use Rattle.std.specs.FinMap.{len-entries}
+use Rattle.std.{proofs.Common.{sym, ap, ◌∙◌, length, ◌==◌}, specs.FinMap.{len-entries}}
 use Rattle.lab_history.proofs.CountedEntries.{length_new_states}
 use Rattle.lab_engine.proofs.waits.wrote_nothing.Goals as goal
 

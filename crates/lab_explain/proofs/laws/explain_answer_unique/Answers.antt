@@ -1,7 +1,5 @@
-use Rattle.lab_streams.proofs.ToldFiles.{one_told}
-use Rattle.lab_streams.specs.declared.reporting.Format.TheVariants.{Lines}
-use Rattle.lab_explain.specs.Answer.{Explains}
-use Rattle.lab_explain.proofs.OneExplanation.{one_explanation}
+use Rattle.lab_streams.{proofs.ToldFiles.{one_told}, specs.declared.reporting.Format.TheVariants.{Lines}}
+use Rattle.lab_explain.{specs.Answer.{Explains}, proofs.OneExplanation.{one_explanation}}
 use Rattle.lab_explain.proofs.laws.explain_answer_unique.Goals as goal
 
 pub returns : goal.returns

@@ -1,5 +1,4 @@
-use Rattle.std.proofs.Common.{◌≡◌, None, drop}
-use Rattle.std.specs.Prelude.{option_map}
+use Rattle.std.{proofs.Common.{◌≡◌, None, drop}, specs.Prelude.{option_map}}
 use Rattle.lab_judge.specs.Runs.{span_of, spans_of}
 use Rattle.lab_explain.specs.Places.{last_before}
 use Rattle.lab_explain.proofs.places.last_before.Given as goal

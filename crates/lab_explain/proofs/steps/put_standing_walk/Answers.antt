@@ -1,7 +1,5 @@
-use Rattle.std.proofs.Common.{◌≡◌, ◌++◌, sym, ap, ◌∙◌, append-nil, drop, true, rules}
-use Rattle.std.specs.Prelude.{is_none}
-use Rattle.lab_explain.specs.Steps.{walk_sentences}
-use Rattle.lab_explain.proofs.Standing.{nothing_stands}
+use Rattle.std.{proofs.Common.{◌≡◌, ◌++◌, sym, ap, ◌∙◌, append-nil, drop, true, rules}, specs.Prelude.{is_none}}
+use Rattle.lab_explain.{specs.Steps.{walk_sentences}, proofs.Standing.{nothing_stands}}
 use Rattle.lab_explain.proofs.steps.put_standing_walk.Goals as goal
 
 pub returns-then-is_none : goal.returns-then-is_none

@@ -1,6 +1,5 @@
 use Rattle.std.proofs.Common.{◌≡◌, ◌++◌, drop}
-use Rattle.lab_explain.specs.Lines.{standing}
-use Rattle.lab_explain.specs.Steps.{walk_sentences}
+use Rattle.lab_explain.specs.{Lines.{standing}, Steps.{walk_sentences}}
 use Rattle.lab_explain.proofs.steps.put_standing_walk.Given as goal
 
 abbrev pub invariant-loop-edge : goal.invariant-loop-edge

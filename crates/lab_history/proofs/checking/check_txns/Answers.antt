@@ -1,12 +1,7 @@
-use Rattle.std.proofs.Common.{◌≡◌, ◌≤◌, ◌<◌, ◌+◌, inr, [], length, take, sym, ap, ◌∙◌, arith}
-use Rattle.std.proofs.lemmas.Grind.{common_steps}
-use Rattle.std.specs.Ordering.{nat_cmp}
-use Rattle.std.specs.BTreeSet.{contains}
-use Rattle.lab_history.specs.HistoryRules.{operations}
-use Rattle.lab_history.specs.FirstPartsFault.{ops_checked, txns_checked}
+use Rattle.std.{proofs.{Common.{◌≡◌, ◌≤◌, ◌<◌, ◌+◌, inr, [], length, take, sym, ap, ◌∙◌, arith}, lemmas.Grind.{common_steps}}, specs.{Ordering.{nat_cmp}, BTreeSet.{contains}}}
+use Rattle.lab_history.{specs.{HistoryRules.{operations}, FirstPartsFault.{ops_checked, txns_checked}}, proofs.CheckedTxns.{repeated, too_many, operations_decide, operations_here, walk_stops, walk_goes, was_there, was_absent, gives_fault}}
 use Rattle.lab_history.specs.declared.fault.FileFault.TheVariants as fault
 use Rattle.lab_history.specs.declared.fault.Limit.TheVariants as limit
-use Rattle.lab_history.proofs.CheckedTxns.{repeated, too_many, operations_decide, operations_here, walk_stops, walk_goes, was_there, was_absent, gives_fault}
 use Rattle.lab_history.proofs.checking.check_txns.Goals as goal
 
 pub returns-then-not-branch : goal.returns-then-not-branch

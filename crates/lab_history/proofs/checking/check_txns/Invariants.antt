@@ -1,9 +1,5 @@
-use Rattle.std.proofs.Common.{◌≡◌, ◌≤◌, ℕ, ◌==◌, [], take, drop, length}
-use Rattle.std.specs.List.{list_any}
-use Rattle.std.specs.Ordering.{nat_cmp}
-use Rattle.std.specs.BTreeSet.{contains}
-use Rattle.lab_history.specs.HistoryRules.{operations}
-use Rattle.lab_history.specs.FirstPartsFault.{txns_checked}
+use Rattle.std.{proofs.Common.{◌≡◌, ◌≤◌, ℕ, ◌==◌, [], take, drop, length}, specs.{List.{list_any}, Ordering.{nat_cmp}, BTreeSet.{contains}}}
+use Rattle.lab_history.specs.{HistoryRules.{operations}, FirstPartsFault.{txns_checked}}
 use Rattle.lab_history.proofs.checking.check_txns.Given as goal
 
 abbrev pub invariant-loop-index : goal.invariant-loop-index

@@ -1,9 +1,6 @@
-use Rattle.std.proofs.Common.{◌≡◌, ◌+◌, IfSome, sym, subst, ◌∙◌, arith}
-use Rattle.std.specs.List.{sum_by}
+use Rattle.std.{proofs.Common.{◌≡◌, ◌+◌, IfSome, sym, subst, ◌∙◌, arith}, specs.List.{sum_by}}
 use Rattle.lab_table.proofs.Tests.{some_of}
-use Rattle.lab_history.specs.HistoryRules.{named_rows}
-use Rattle.lab_history.specs.IdRanges.{rows_in}
-use Rattle.lab_history.proofs.FewIds.{few_in_ranges}
+use Rattle.lab_history.{specs.{HistoryRules.{named_rows}, IdRanges.{rows_in}}, proofs.FewIds.{few_in_ranges}}
 use Rattle.lab_history.proofs.id_range.are_few_at_a_glance.Goals as goal
 
 pub returns-then-is_some : goal.returns-then-is_some

@@ -1,6 +1,4 @@
-use Rattle.std.proofs.Common.{arith, ap}
-use Rattle.std.specs.List.{sum_by}
-use Rattle.std.proofs.lemmas.List.{take_all}
+use Rattle.std.{proofs.{Common.{arith, ap}, lemmas.List.{take_all}}, specs.List.{sum_by}}
 use Rattle.lab_history.specs.IdRanges.{rows_in}
 use Rattle.lab_history.proofs.id_range.room_beside.Goals as goal
 

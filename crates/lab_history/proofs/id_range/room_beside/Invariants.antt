@@ -1,5 +1,4 @@
-use Rattle.std.proofs.Common.{◌≡◌, ◌+◌, take}
-use Rattle.std.specs.List.{sum_by}
+use Rattle.std.{proofs.Common.{◌≡◌, ◌+◌, take}, specs.List.{sum_by}}
 use Rattle.lab_history.specs.IdRanges.{rows_in}
 use Rattle.lab_history.proofs.id_range.room_beside.Given as goal
 

@@ -1,10 +1,6 @@
-use Rattle.std.proofs.Common.{◌≡◌, List, [], length, Some, sym, ap, ◌∙◌}
-use Rattle.std.specs.Prelude.{nat_le}
-use Rattle.std.specs.FinMap.{entries, keys}
+use Rattle.std.{proofs.Common.{◌≡◌, List, [], length, Some, sym, ap, ◌∙◌}, specs.{Prelude.{nat_le}, FinMap.{entries, keys}}}
 use Rattle.lab_table.specs.Row.{Row}
-use Rattle.lab_history.specs.RunningCounts.{with_rows, only_if, txns_within}
-use Rattle.lab_history.proofs.RowsMet.{keys_empty}
-use Rattle.lab_history.proofs.IdsWithin.{many_on_the_way, all_met}
+use Rattle.lab_history.{specs.RunningCounts.{with_rows, only_if, txns_within}, proofs.{RowsMet.{keys_empty}, IdsWithin.{many_on_the_way, all_met}}}
 use Rattle.lab_history.proofs.ids.count_few.Goals as goal
 
 pub returns-then-not-branch : goal.returns-then-not-branch

@@ -1,7 +1,5 @@
-use Rattle.std.proofs.Common.{◌++◌, ◌∙◌, sym, ap}
-use Rattle.std.proofs.lemmas.List.{append-nil, drop_all}
-use Rattle.lab_history.specs.Index.{written_by}
-use Rattle.lab_history.proofs.LastWrites.{written_states}
+use Rattle.std.proofs.{Common.{◌++◌, ◌∙◌, sym, ap}, lemmas.List.{append-nil, drop_all}}
+use Rattle.lab_history.{specs.Index.{written_by}, proofs.LastWrites.{written_states}}
 use Rattle.lab_history.proofs.index.add_writes.Goals as goal
 
 pub returns : goal.returns

@@ -1,6 +1,5 @@
 use Rattle.std.proofs.Common.{◌≡◌, ◌++◌, drop, ◌≤◌, length}
-use Rattle.lab_history.specs.HistoryRules.{operations}
-use Rattle.lab_history.specs.Index.{written}
+use Rattle.lab_history.specs.{HistoryRules.{operations}, Index.{written}}
 use Rattle.lab_history.proofs.index.last_writes_of.Given as goal
 
 abbrev pub invariant-loop-txn : goal.invariant-loop-txn

@@ -1,9 +1,6 @@
-use Rattle.std.proofs.Common.{◌≤◌, ◌-◌, ◌∙◌, length, ap, sym, arith}
-use Rattle.std.specs.Ordering.{is_lt}
-use Rattle.std.proofs.lemmas.List.{get_or_default}
-use Rattle.lab_history.proofs.Halving.{place_is}
+use Rattle.std.{proofs.{Common.{◌≤◌, ◌-◌, ◌∙◌, length, ap, sym, arith}, lemmas.List.{get_or_default}}, specs.Ordering.{is_lt}}
+use Rattle.lab_history.proofs.{Halving.{place_is}, keyed.is_place.Goals.{else-place-entries-2-via-then-place-entries-2+else-is_lt, else-place-entries-2-via-else-place-entries-2}}
 use Rattle.lab_history.proofs.keyed.is_place.Goals as goal
-use Rattle.lab_history.proofs.keyed.is_place.Goals.{else-place-entries-2-via-then-place-entries-2+else-is_lt, else-place-entries-2-via-else-place-entries-2}
 
 pub returns-then-place-eq0-clause-point : goal.returns-then-place-eq0-clause-point
 returns-then-place-eq0-clause-point g c none =

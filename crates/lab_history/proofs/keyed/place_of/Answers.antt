@@ -1,5 +1,4 @@
-use Rattle.std.proofs.Common.{rules}
-use Rattle.std.proofs.lemmas.List.Sorted.{IsPartitionPoint-from_clause}
+use Rattle.std.proofs.{Common.{rules}, lemmas.List.Sorted.{IsPartitionPoint-from_clause}}
 use Rattle.lab_history.proofs.Halving.{below, parted}
 use Rattle.lab_history.proofs.keyed.place_of.Goals as goal
 

@@ -1,7 +1,4 @@
-use Rattle.std.proofs.Common.{◌∙◌, ap, sym, Some, None, cond}
-use Rattle.std.proofs.lemmas.Bool.{ltb-true, ltb-false}
-use Rattle.std.specs.Option.{option_copied}
-use Rattle.std.specs.Ordering.{is_eq}
+use Rattle.std.{proofs.{Common.{◌∙◌, ap, sym, Some, None, cond}, lemmas.Bool.{ltb-true, ltb-false}}, specs.{Option.{option_copied}, Ordering.{is_eq}}}
 use Rattle.lab_history.proofs.Halving.{found_nothing, found_entry}
 use Rattle.lab_history.proofs.keyed.value_here.Goals as goal
 

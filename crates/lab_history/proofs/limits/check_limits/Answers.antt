@@ -1,8 +1,5 @@
-use Rattle.std.proofs.Common.{◌≤◌, ◌<◌, ◌∙◌, inr, sym, ap}
-use Rattle.std.proofs.lemmas.Bool.{leb-true, leb-false}
-use Rattle.lab_history.specs.HistoryRules.{named_tables, distinct_tables, named_rows, distinct_rows}
-use Rattle.lab_history.specs.RunningCounts.{txns_counted}
-use Rattle.lab_history.proofs.LimitsKept.{entries_within, entries_over, ids_over, tables_over}
+use Rattle.std.proofs.{Common.{◌≤◌, ◌<◌, ◌∙◌, inr, sym, ap}, lemmas.Bool.{leb-true, leb-false}}
+use Rattle.lab_history.{specs.{HistoryRules.{named_tables, distinct_tables, named_rows, distinct_rows}, RunningCounts.{txns_counted}}, proofs.LimitsKept.{entries_within, entries_over, ids_over, tables_over}}
 use Rattle.lab_history.proofs.limits.check_limits.Goals as goal
 
 pub returns-then-not-has_few_tables : goal.returns-then-not-has_few_tables

@@ -1,6 +1,5 @@
 use Rattle.std.proofs.Common.{◌∙◌, sym, ap, length}
-use Rattle.lab_history.specs.RunningCounts.{counted}
-use Rattle.lab_history.proofs.CountedEntries.{length_new_states, counts_met}
+use Rattle.lab_history.{specs.RunningCounts.{counted}, proofs.CountedEntries.{length_new_states, counts_met}}
 use Rattle.lab_history.proofs.limits.count_op.Goals as goal
 
 pub returns-clause-value : goal.returns-clause-value

@@ -1,5 +1,4 @@
-use Rattle.std.proofs.Common.{◌≡◌, drop}
-use Rattle.std.specs.FinMap.{is_sorted}
+use Rattle.std.{proofs.Common.{◌≡◌, drop}, specs.FinMap.{is_sorted}}
 use Rattle.lab_table.specs.Row.{row_cmp}
 use Rattle.lab_history.proofs.Rising.{rises_after}
 use Rattle.lab_history.proofs.order.rises.Given as goal

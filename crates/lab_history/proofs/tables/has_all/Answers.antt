@@ -1,5 +1,4 @@
-use Rattle.std.proofs.Common.{◌≡◌, sym, ap, ◌∙◌}
-use Rattle.std.specs.Cmp.Lexicographic.{bytes_decides}
+use Rattle.std.{proofs.Common.{◌≡◌, sym, ap, ◌∙◌}, specs.Cmp.Lexicographic.{bytes_decides}}
 use Rattle.lab_table.proofs.OneTable.{all_are}
 use Rattle.lab_history.proofs.CountedTables.{one_met}
 use Rattle.lab_history.proofs.tables.has_all.Goals as goal

@@ -1,6 +1,5 @@
 use Rattle.std.proofs.Common.{is_some, ap, ◌∙◌}
-use Rattle.lab_history.specs.RunningTables.{all_within}
-use Rattle.lab_history.proofs.CountedTables.{few_if_met, seen}
+use Rattle.lab_history.{specs.RunningTables.{all_within}, proofs.CountedTables.{few_if_met, seen}}
 use Rattle.lab_history.proofs.tables.has_few_tables.Goals as goal
 
 pub returns : goal.returns

@@ -1,5 +1,4 @@
-use Rattle.std.proofs.Common.{T, sym, subst}
-use Rattle.std.specs.FinMap.{entries_sorted, is_sorted}
+use Rattle.std.{proofs.Common.{T, sym, subst}, specs.FinMap.{entries_sorted, is_sorted}}
 use Rattle.lab_table.specs.Row.{row_cmp}
 use Rattle.lab_history.proofs.tables.with_all.Goals as goal
 

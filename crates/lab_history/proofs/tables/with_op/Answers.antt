@@ -1,10 +1,6 @@
-use Rattle.std.proofs.Common.{T, ◌∙◌, sym, ap, subst}
-use Rattle.std.specs.Prelude.{option_and_then}
-use Rattle.std.specs.FinMap.{entries, entries_sorted, is_sorted}
+use Rattle.std.{proofs.Common.{T, ◌∙◌, sym, ap, subst}, specs.{Prelude.{option_and_then}, FinMap.{entries, entries_sorted, is_sorted}}}
 use Rattle.lab_table.specs.Row.{row_cmp}
-use Rattle.lab_history.specs.RunningTables.{rows_within}
-use Rattle.lab_history.proofs.NewStates.{new_states_sorted}
-use Rattle.lab_history.proofs.CountedTables.{states_met}
+use Rattle.lab_history.{specs.RunningTables.{rows_within}, proofs.{NewStates.{new_states_sorted}, CountedTables.{states_met}}}
 use Rattle.lab_history.proofs.tables.with_op.Goals as goal
 
 pub with_rows-requires : goal.with_rows-requires

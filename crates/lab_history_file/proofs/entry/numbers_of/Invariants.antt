@@ -1,7 +1,6 @@
 use Rattle.std.proofs.Common.{◌≡◌, []}
 use Rattle.serde_json.specs.View.{items_view}
-use Rattle.lab_history_file.specs.Entries.{items_from, installer_in}
-use Rattle.lab_history_file.proofs.ItemsRead.{read_on}
+use Rattle.lab_history_file.{specs.Entries.{items_from, installer_in}, proofs.ItemsRead.{read_on}}
 use Rattle.lab_history_file.proofs.entry.numbers_of.Given as goal
 
 abbrev pub invariant-loop-place : goal.invariant-loop-place

@@ -1,5 +1,4 @@
-use Rattle.lab_history_file.proofs.FileIsRead.{file_is_read}
-use Rattle.lab_history_file.proofs.ReadIsFile.{read_is_file}
+use Rattle.lab_history_file.proofs.{FileIsRead.{file_is_read}, ReadIsFile.{read_is_file}}
 use Rattle.lab_history_file.proofs.laws.history_is_read_from_its_file.Goals as goal
 
 pub returns : goal.returns

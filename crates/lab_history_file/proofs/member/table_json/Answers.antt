@@ -1,5 +1,4 @@
-use Rattle.std.proofs.Common.{true≢false, sym, subst}
-use Rattle.std.specs.Prelude.{IsUtf8}
+use Rattle.std.{proofs.Common.{true≢false, sym, subst}, specs.Prelude.{IsUtf8}}
 use Rattle.lab_history_file.proofs.TableNames.{name_is_utf8}
 use Rattle.lab_history_file.proofs.member.table_json.Goals as goal
 

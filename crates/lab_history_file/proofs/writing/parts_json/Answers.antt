@@ -1,7 +1,5 @@
-use Rattle.std.proofs.Common.{sym, subst}
-use Rattle.std.specs.List.{All}
-use Rattle.lab_history.specs.HistoryRules.{OpKeeps}
-use Rattle.lab_history.specs.declared.transaction.Txn.{Txn}
+use Rattle.std.{proofs.Common.{sym, subst}, specs.List.{All}}
+use Rattle.lab_history.specs.{HistoryRules.{OpKeeps}, declared.transaction.Txn.{Txn}}
 use Rattle.lab_history_file.proofs.WrittenLists.{txns_pass}
 use Rattle.lab_history_file.proofs.writing.parts_json.Goals as goal
 

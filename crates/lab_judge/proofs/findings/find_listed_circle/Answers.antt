@@ -1,16 +1,7 @@
-use Rattle.std.proofs.Common.{sym, subst, ◌∙◌}
-use Rattle.std.specs.Prelude.{Contains}
-use Rattle.std.proofs.lemmas.Result.{IfOk-weaker}
-use Rattle.lab_judge.specs.Graphs.{IsGraphOf}
-use Rattle.lab_deps.specs.KindSets.{among}
-use Rattle.lab_deps.specs.declared.kinds.TheConstants.Kinds.{WRITES}
-use Rattle.lab_deps.proofs.NamedKinds.{writes_named}
-use Rattle.lab_judge.specs.Judgement.{FindsWalk}
-use Rattle.lab_judge.specs.LeastWalks.{IsBackWalk, FindsDue}
-use Rattle.lab_judge.specs.Openings.{HasEdgesOf, IsClosedOf}
-use Rattle.lab_judge.proofs.WalkKinds.{finds_g0, has_writes}
+use Rattle.std.{proofs.{Common.{sym, subst, ◌∙◌}, lemmas.Result.{IfOk-weaker}}, specs.Prelude.{Contains}}
+use Rattle.lab_judge.{specs.{Graphs.{IsGraphOf}, Judgement.{FindsWalk}, LeastWalks.{IsBackWalk, FindsDue}, Openings.{HasEdgesOf, IsClosedOf}}, proofs.{WalkKinds.{finds_g0, has_writes}, SerialVerdicts.{all_have_ends}}}
+use Rattle.lab_deps.{specs.{KindSets.{among}, declared.kinds.TheConstants.Kinds.{WRITES}}, proofs.NamedKinds.{writes_named}}
 use Rattle.lab_judge.proofs.findings.find_listed_circle.Goals as goal
-use Rattle.lab_judge.proofs.SerialVerdicts.{all_have_ends}
 
 pub graph_of-requires-clause-numbers : goal.graph_of-requires-clause-numbers
 graph_of-requires-clause-numbers c = c.in_ok-table.ensures.numbers ∙ c.numbers.ensures

@@ -1,6 +1,5 @@
 use Rattle.std.proofs.Common.{refl}
-use Rattle.lab_judge.specs.Phenomena.{NoG1a, NoG1b}
-use Rattle.lab_judge.proofs.Levels.{none_aborted, none_intermediate}
+use Rattle.lab_judge.{specs.Phenomena.{NoG1a, NoG1b}, proofs.Levels.{none_aborted, none_intermediate}}
 use Rattle.lab_judge.proofs.findings.find_none.Goals as goal
 
 pub returns-clause-found : goal.returns-clause-found

@@ -1,16 +1,7 @@
-use Rattle.std.proofs.Common.{refl, sym, subst}
-use Rattle.std.specs.List.{All}
-use Rattle.lab_deps.specs.KindSets.{among, is_anti}
-use Rattle.lab_deps.specs.declared.kinds.TheConstants.Kinds.{WRITES, FLOW, ANTI, ITEM_ANTI}
-use Rattle.lab_deps.proofs.NamedKinds.{all_named, writes_named, flow_named, antis_named, item_antis_named}
-use Rattle.lab_judge.specs.Graphs.{HasEnds, IsGraphOf}
-use Rattle.lab_judge.specs.Judgement.{FindsWalk}
-use Rattle.lab_judge.specs.LeastWalks.{FindsDue, IsBackWalk, IsOpenedRound}
-use Rattle.lab_judge.specs.Openings.{AllowsAllOrNone, IsClosedOf, IsOpenedWalk}
-use Rattle.lab_judge.specs.Phenomena.{NoG1a, NoG1b, IsG0, IsG1c, IsGSingle, IsG2Item, IsG2}
-use Rattle.lab_judge.proofs.OpenedWalks.{any_beside, flow_beside}
-use Rattle.lab_judge.proofs.Levels.{none_aborted, none_intermediate}
-use Rattle.lab_judge.proofs.WalkKinds.{both_named, has_all, finds_g0, finds_g1c, finds_g_single, finds_g2_item, finds_g2}
+use Rattle.std.{proofs.Common.{refl, sym, subst}, specs.List.{All}}
+use Rattle.lab_deps.{specs.{KindSets.{among, is_anti}, declared.kinds.TheConstants.Kinds.{WRITES, FLOW, ANTI, ITEM_ANTI}}, proofs.NamedKinds.{all_named, writes_named, flow_named, antis_named, item_antis_named}}
+use Rattle.lab_judge.specs.{Graphs.{HasEnds, IsGraphOf}, Judgement.{FindsWalk}, LeastWalks.{FindsDue, IsBackWalk, IsOpenedRound}, Openings.{AllowsAllOrNone, IsClosedOf, IsOpenedWalk}, Phenomena.{NoG1a, NoG1b, IsG0, IsG1c, IsGSingle, IsG2Item, IsG2}}
+use Rattle.lab_judge.proofs.{OpenedWalks.{any_beside, flow_beside}, Levels.{none_aborted, none_intermediate}, WalkKinds.{both_named, has_all, finds_g0, finds_g1c, finds_g_single, finds_g2_item, finds_g2}}
 use Rattle.lab_judge.proofs.findings.find_walks.Goals as goal
 
 pub graph_among-requires-clause-ends : goal.graph_among-requires-clause-ends

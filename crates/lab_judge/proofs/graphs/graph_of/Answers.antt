@@ -1,10 +1,7 @@
-use Rattle.std.proofs.Common.{◌≡◌, ◌||◌, ℕ, length, sym, ap, subst, ◌∙◌, arith}
-use Rattle.std.specs.List.{list_any}
+use Rattle.std.{proofs.Common.{◌≡◌, ◌||◌, ℕ, length, sym, ap, subst, ◌∙◌, arith}, specs.List.{list_any}}
 use Rattle.lab_order.specs.Arrows.{has_arrow}
 use Rattle.lab_deps.specs.KindSets.{among}
-use Rattle.lab_judge.specs.Joining.{IsJoinable, lands}
-use Rattle.lab_judge.specs.declared.joining.Joining.TheVariants.{Transactions}
-use Rattle.lab_judge.proofs.JoinedGraphs.{is_graph}
+use Rattle.lab_judge.{specs.{Joining.{IsJoinable, lands}, declared.joining.Joining.TheVariants.{Transactions}}, proofs.JoinedGraphs.{is_graph}}
 use Rattle.lab_judge.proofs.graphs.graph_of.Goals as goal
 
 pub add_arrows-requires-clause-table : goal.add_arrows-requires-clause-table

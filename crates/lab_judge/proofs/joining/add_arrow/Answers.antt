@@ -1,10 +1,7 @@
-use Rattle.std.proofs.Common.{◌≡◌, ◌<◌, ◌==◌, ◌&&◌, ◌||◌, length, sym, ap, ◌∙◌, subst}
-use Rattle.std.specs.List.{list_any}
+use Rattle.std.{proofs.Common.{◌≡◌, ◌<◌, ◌==◌, ◌&&◌, ◌||◌, length, sym, ap, ◌∙◌, subst}, specs.List.{list_any}}
 use Rattle.lab_order.specs.Arrows.{has_arrow}
 use Rattle.lab_deps.specs.KindSets.{among}
-use Rattle.lab_judge.specs.Graphs.{ties}
-use Rattle.lab_judge.specs.Joining.{tail, head}
-use Rattle.lab_judge.proofs.Ties.{row_tied}
+use Rattle.lab_judge.{specs.{Graphs.{ties}, Joining.{tail, head}}, proofs.Ties.{row_tied}}
 use Rattle.lab_judge.proofs.joining.add_arrow.Goals as goal
 
 pub returns-in_ok-add-clause-arrows : goal.returns-in_ok-add-clause-arrows

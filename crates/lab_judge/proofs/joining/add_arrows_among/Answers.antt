@@ -1,8 +1,7 @@
 use Rattle.std.proofs.Common.{◌≡◌, ◌||◌, length, ap, ◌∙◌, arith}
 use Rattle.lab_order.specs.Arrows.{has_arrow}
 use Rattle.lab_deps.specs.KindSets.{among}
-use Rattle.lab_judge.specs.Joining.{landing, any_below}
-use Rattle.lab_judge.proofs.Landings.{landed_by_ends}
+use Rattle.lab_judge.{specs.Joining.{landing, any_below}, proofs.Landings.{landed_by_ends}}
 use Rattle.lab_judge.proofs.joining.add_arrows_among.Goals as goal
 
 pub returns-clause-arrows : goal.returns-clause-arrows

@@ -1,14 +1,8 @@
-use Rattle.std.proofs.Common.{◌≡◌, ◌<◌, ◌==◌, ◌&&◌, ◌||◌, ◌+◌, ℕ, Bool, length, sym, ap, ◌∙◌, arith}
-use Rattle.std.specs.List.{list_any}
+use Rattle.std.{proofs.Common.{◌≡◌, ◌<◌, ◌==◌, ◌&&◌, ◌||◌, ◌+◌, ℕ, Bool, length, sym, ap, ◌∙◌, arith}, specs.List.{list_any}}
 use Rattle.lab_order.specs.Arrows.{nodes_of, has_arrow}
 use Rattle.lab_deps.specs.KindSets.{among}
-use Rattle.lab_judge.specs.Graphs.{ties}
-use Rattle.lab_judge.specs.Joining.{landing, any_below}
-use Rattle.lab_judge.proofs.BareRows.{none_between, none_lands}
-use Rattle.lab_judge.proofs.Landings.{landed_more, landed_same}
-use Rattle.lab_judge.proofs.Ties.{row_tied}
+use Rattle.lab_judge.{specs.{Graphs.{ties}, Joining.{landing, any_below}}, proofs.{BareRows.{none_between, none_lands}, Landings.{landed_more, landed_same}, Ties.{row_tied}, joining.add_arrows_between.Goals.{then-meets+in_ok-add, else-meets}}}
 use Rattle.lab_judge.proofs.joining.add_arrows_between.Goals as goal
-use Rattle.lab_judge.proofs.joining.add_arrows_between.Goals.{then-meets+in_ok-add, else-meets}
 
 pub loop-to-preserved : goal.loop-to-preserved
 loop-to-preserved c =

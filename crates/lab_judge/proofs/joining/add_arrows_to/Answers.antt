@@ -1,10 +1,7 @@
-use Rattle.std.proofs.Common.{◌<◌, ◌≤◌, ◌||◌, length, ap, ◌∙◌, subst, arith}
-use Rattle.std.specs.List.{All, list_any}
-use Rattle.std.proofs.lemmas.List.{take_all}
+use Rattle.std.{proofs.{Common.{◌<◌, ◌≤◌, ◌||◌, length, ap, ◌∙◌, subst, arith}, lemmas.List.{take_all}}, specs.List.{All, list_any}}
 use Rattle.lab_order.specs.Arrows.{nodes_of, has_arrow, before}
 use Rattle.lab_deps.specs.KindSets.{among}
-use Rattle.lab_judge.specs.Joining.{landing}
-use Rattle.lab_judge.proofs.AmongArrows.{among_all}
+use Rattle.lab_judge.{specs.Joining.{landing}, proofs.AmongArrows.{among_all}}
 use Rattle.lab_judge.proofs.joining.add_arrows_to.Goals as goal
 
 pub returns-clause-arrows : goal.returns-clause-arrows

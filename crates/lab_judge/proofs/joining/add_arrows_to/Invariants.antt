@@ -1,5 +1,4 @@
-use Rattle.std.proofs.Common.{◌≡◌, ◌||◌, ℕ, take}
-use Rattle.std.specs.List.{list_any}
+use Rattle.std.{proofs.Common.{◌≡◌, ◌||◌, ℕ, take}, specs.List.{list_any}}
 use Rattle.lab_order.specs.Arrows.{nodes_of, has_arrow, before}
 use Rattle.lab_deps.specs.KindSets.{among}
 use Rattle.lab_judge.specs.Joining.{landing}

@@ -1,6 +1,5 @@
 use Rattle.std.proofs.Common.{subst}
-use Rattle.lab_judge.specs.Judgement.{RestsOnOrder}
-use Rattle.lab_judge.proofs.Excludes.{no_closed_walk}
+use Rattle.lab_judge.{specs.Judgement.{RestsOnOrder}, proofs.Excludes.{no_closed_walk}}
 use Rattle.lab_judge.proofs.judging.find_beside.Goals as goal
 
 pub find_none-requires-clause-forward : goal.find_none-requires-clause-forward

@@ -1,8 +1,5 @@
-use Rattle.std.proofs.Common.{subst}
-use Rattle.std.proofs.lemmas.Result.{IfOk-weaker}
-use Rattle.lab_judge.specs.Judgement.{IsExactJudgement}
-use Rattle.lab_judge.proofs.ExactJudgements.{yes_where, placed_where}
-use Rattle.lab_judge.proofs.PromisedReports.{recording_promised}
+use Rattle.std.proofs.{Common.{subst}, lemmas.Result.{IfOk-weaker}}
+use Rattle.lab_judge.{specs.Judgement.{IsExactJudgement}, proofs.{ExactJudgements.{yes_where, placed_where}, PromisedReports.{recording_promised}}}
 use Rattle.lab_judge.proofs.judging.judge_recording.Goals as goal
 
 pub returns-clause-promised : goal.returns-clause-promised

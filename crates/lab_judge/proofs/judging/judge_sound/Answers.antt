@@ -1,12 +1,6 @@
-use Rattle.std.proofs.Common.{◌↔◌, sym, subst, ◌∙◌}
-use Rattle.std.specs.Prelude.{Contains}
-use Rattle.lab_deps.specs.Edges.{IsEdge}
-use Rattle.lab_deps.specs.KindSets.{among}
-use Rattle.lab_deps.specs.declared.edge.Edge.{Edge}
-use Rattle.lab_deps.specs.declared.kinds.TheConstants.Kinds.{ALL}
-use Rattle.lab_judge.specs.Graphs.{IsGraphOf}
-use Rattle.lab_judge.proofs.Reports.{of_sound}
-use Rattle.lab_judge.proofs.SerialVerdicts.{all_have_ends}
+use Rattle.std.{proofs.Common.{◌↔◌, sym, subst, ◌∙◌}, specs.Prelude.{Contains}}
+use Rattle.lab_deps.specs.{Edges.{IsEdge}, KindSets.{among}, declared.{edge.Edge.{Edge}, kinds.TheConstants.Kinds.{ALL}}}
+use Rattle.lab_judge.{specs.Graphs.{IsGraphOf}, proofs.{Reports.{of_sound}, SerialVerdicts.{all_have_ends}}}
 use Rattle.lab_judge.proofs.judging.judge_sound.Goals as goal
 
 pub graph_of-requires-clause-numbers : goal.graph_of-requires-clause-numbers

@@ -1,5 +1,4 @@
-use Rattle.lab_judge.proofs.OneJudgement.{one_judgement}
-use Rattle.lab_judge.proofs.SpelledHistories.{one_of_file}
+use Rattle.lab_judge.proofs.{OneJudgement.{one_judgement}, SpelledHistories.{one_of_file}}
 use Rattle.lab_judge.proofs.laws.judgement_unique.Goals as goal
 
 pub returns : goal.returns

@@ -1,7 +1,6 @@
 use Rattle.std.proofs.Common.{ap, ◌∙◌, IfOk}
 use Rattle.rayon.proofs.ToStd.{slice-AllZip}
-use Rattle.lab_judge.specs.FileJudgement.{IsFileAnswer}
-use Rattle.lab_judge.proofs.Answered.{all_answers}
+use Rattle.lab_judge.{specs.FileJudgement.{IsFileAnswer}, proofs.Answered.{all_answers}}
 use Rattle.lab_judge.proofs.many.judge_all.Goals as goal
 
 pub returns-in-Ok-Ok : goal.returns-in-Ok-Ok

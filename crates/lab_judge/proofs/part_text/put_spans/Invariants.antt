@@ -1,6 +1,5 @@
 use Rattle.std.proofs.Common.{◌≡◌, ◌++◌, drop, flat_map}
-use Rattle.lab_judge.specs.ReportText.{span_text}
-use Rattle.lab_judge.specs.Runs.{spans_of}
+use Rattle.lab_judge.specs.{ReportText.{span_text}, Runs.{spans_of}}
 use Rattle.lab_judge.proofs.part_text.put_spans.Given as goal
 
 abbrev pub invariant-loop-txn : goal.invariant-loop-txn

@@ -1,14 +1,7 @@
-use Rattle.std.proofs.Common.{◌≡◌, ◌*◌, ◌||◌, ℕ, length, sym, ap, subst, ◌∙◌, arith}
-use Rattle.std.specs.List.{list_any}
+use Rattle.std.{proofs.Common.{◌≡◌, ◌*◌, ◌||◌, ℕ, length, sym, ap, subst, ◌∙◌, arith}, specs.List.{list_any}}
 use Rattle.lab_order.specs.Arrows.{has_arrow}
-use Rattle.lab_deps.specs.KindSets.{among}
-use Rattle.lab_judge.specs.Graphs.{IsGraphOf}
-use Rattle.lab_deps.specs.declared.kinds.TheConstants.Kinds.{ALL, FLOW, ANTI}
-use Rattle.lab_deps.proofs.NamedKinds.{flow_named, antis_named}
-use Rattle.lab_judge.specs.Joining.{IsJoinable, lands}
-use Rattle.lab_judge.specs.PlaceGraphs.{spans}
-use Rattle.lab_judge.specs.declared.joining.Joining.TheVariants.{StartToCommit, CommitToStart}
-use Rattle.lab_judge.proofs.JoinedGraphs.{is_place_graph}
+use Rattle.lab_deps.{specs.{KindSets.{among}, declared.kinds.TheConstants.Kinds.{ALL, FLOW, ANTI}}, proofs.NamedKinds.{flow_named, antis_named}}
+use Rattle.lab_judge.{specs.{Graphs.{IsGraphOf}, Joining.{IsJoinable, lands}, PlaceGraphs.{spans}, declared.joining.Joining.TheVariants.{StartToCommit, CommitToStart}}, proofs.JoinedGraphs.{is_place_graph}}
 use Rattle.lab_judge.proofs.place_graph.place_graph.Goals as goal
 
 pub add_arrows_among-requires-clause-table : goal.add_arrows_among-requires-clause-table

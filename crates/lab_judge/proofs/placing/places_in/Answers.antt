@@ -1,5 +1,4 @@
-use Rattle.std.proofs.Common.{◌∙◌}
-use Rattle.std.proofs.lemmas.List.{length-set}
+use Rattle.std.proofs.{Common.{◌∙◌}, lemmas.List.{length-set}}
 use Rattle.lab_judge.proofs.NodePlaces.{set_next, all_placed}
 use Rattle.lab_judge.proofs.placing.places_in.Goals as goal
 

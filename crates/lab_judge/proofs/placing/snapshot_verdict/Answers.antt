@@ -1,16 +1,7 @@
-use Rattle.std.proofs.Common.{◌≡◌, ◌∙◌, ◌<◌, ◌≤◌, ◌*◌, sym, ap, map, subst, length, arith}
-use Rattle.std.specs.List.{All, count_by}
-use Rattle.std.specs.Prelude.{◌==◌, ℕ, Contains, slice_index}
-use Rattle.lab_judge.specs.PlaceGraphs.{point_at, span_in}
-use Rattle.lab_judge.specs.LeastPlaces.{IsLower}
-use Rattle.lab_judge.specs.Places.{IsArrow, IsCircle}
-use Rattle.lab_order.specs.Knots.{IsBackCircle}
-use Rattle.lab_order.specs.Order.{IsOrdered, IsAnswered, position}
-use Rattle.lab_judge.proofs.GraphNodes.{within, circle_within, once_in}
-use Rattle.lab_judge.proofs.NodePlaces.{no_more}
-use Rattle.lab_judge.proofs.PointNodes.{circle_is, back_circle}
-use Rattle.lab_judge.proofs.SerialVerdicts.{all_have_ends}
-use Rattle.lab_judge.proofs.SnapshotVerdicts.{rests, runs, least_placing}
+use Rattle.std.{proofs.Common.{◌≡◌, ◌∙◌, ◌<◌, ◌≤◌, ◌*◌, sym, ap, map, subst, length, arith}, specs.{List.{All, count_by}, Prelude.{◌==◌, ℕ, Contains, slice_index}}}
+use Rattle.lab_judge.specs.{PlaceGraphs.{point_at, span_in}, LeastPlaces.{IsLower}, Places.{IsArrow, IsCircle}}
+use Rattle.lab_order.specs.{Knots.{IsBackCircle}, Order.{IsOrdered, IsAnswered, position}}
+use Rattle.lab_judge.proofs.{GraphNodes.{within, circle_within, once_in}, NodePlaces.{no_more}, PointNodes.{circle_is, back_circle}, SerialVerdicts.{all_have_ends}, SnapshotVerdicts.{rests, runs, least_placing}}
 use Rattle.lab_judge.proofs.placing.snapshot_verdict.Goals as goal
 use Rattle.lab_deps.proofs.Places.{times_count}
 

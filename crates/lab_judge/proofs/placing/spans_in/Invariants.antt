@@ -1,6 +1,5 @@
 use Rattle.std.proofs.Common.{◌≡◌, map, take}
-use Rattle.lab_judge.specs.Runs.{spans_of}
-use Rattle.lab_judge.specs.PlaceGraphs.{span_in}
+use Rattle.lab_judge.specs.{Runs.{spans_of}, PlaceGraphs.{span_in}}
 use Rattle.lab_judge.proofs.placing.spans_in.Given as goal
 
 -- the transactions so far

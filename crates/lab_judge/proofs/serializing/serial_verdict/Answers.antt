@@ -1,14 +1,7 @@
-use Rattle.std.proofs.Common.{◌∙◌, ◌<◌, sym, ap, map, slice_index, subst, length}
-use Rattle.std.specs.List.{All}
+use Rattle.std.{proofs.Common.{◌∙◌, ◌<◌, sym, ap, map, slice_index, subst, length}, specs.List.{All}}
 use Rattle.lab_order.specs.Order.{IsOrdered, IsAnswered}
-use Rattle.lab_deps.specs.KindSets.{among}
-use Rattle.lab_deps.specs.declared.kinds.TheConstants.Kinds.{ALL}
-use Rattle.lab_deps.proofs.NamedKinds.{all_named}
-use Rattle.lab_judge.specs.LeastWalks.{IsBackWalk}
-use Rattle.lab_judge.proofs.LeastWalks.{edge_graph, round_closed}
-use Rattle.lab_judge.proofs.GraphNodes.{within}
-use Rattle.lab_judge.proofs.SerialVerdicts.{all_have_ends, least_numbers, rests, runs}
-use Rattle.lab_judge.proofs.WalkKinds.{has_all}
+use Rattle.lab_deps.{specs.{KindSets.{among}, declared.kinds.TheConstants.Kinds.{ALL}}, proofs.NamedKinds.{all_named}}
+use Rattle.lab_judge.{specs.LeastWalks.{IsBackWalk}, proofs.{LeastWalks.{edge_graph, round_closed}, GraphNodes.{within}, SerialVerdicts.{all_have_ends, least_numbers, rests, runs}, WalkKinds.{has_all}}}
 use Rattle.lab_judge.proofs.serializing.serial_verdict.Goals as goal
 
 pub numbers_of-requires : goal.numbers_of-requires

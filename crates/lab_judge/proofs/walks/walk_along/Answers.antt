@@ -1,12 +1,6 @@
-use Rattle.std.proofs.Common.{◌≡◌, ◌∙◌, true, false, sym, subst, arith}
-use Rattle.std.specs.Prelude.{Contains, IfSome}
-use Rattle.std.specs.Ordering.{is_lt}
-use Rattle.std.proofs.lemmas.Option.{slice_get_within, same_Some}
-use Rattle.lab_deps.specs.EdgeOrder.{edge_cmp}
-use Rattle.lab_deps.specs.KindSets.{among}
-use Rattle.lab_deps.specs.declared.edge.Edge.{Edge}
-use Rattle.lab_judge.proofs.Joined.{next_tie, step, read}
-use Rattle.lab_judge.proofs.LeastWalks.{least_listed, steps_on, gone_along}
+use Rattle.std.{proofs.{Common.{◌≡◌, ◌∙◌, true, false, sym, subst, arith}, lemmas.Option.{slice_get_within, same_Some}}, specs.{Prelude.{Contains, IfSome}, Ordering.{is_lt}}}
+use Rattle.lab_deps.specs.{EdgeOrder.{edge_cmp}, KindSets.{among}, declared.edge.Edge.{Edge}}
+use Rattle.lab_judge.proofs.{Joined.{next_tie, step, read}, LeastWalks.{least_listed, steps_on, gone_along}}
 use Rattle.lab_judge.proofs.walks.walk_along.Goals as goal
 
 pub number-requires : goal.number-requires

@@ -1,9 +1,7 @@
 use Rattle.std.proofs.Common.{drop}
 use Rattle.lab_history.specs.History.{History}
 use Rattle.lab_deps.specs.KindSets.{among}
-use Rattle.lab_judge.specs.Graphs.{LeadsAlong}
-use Rattle.lab_judge.specs.Openings.{HasEdgesOf}
-use Rattle.lab_judge.proofs.LeastWalks.{LeadsOn}
+use Rattle.lab_judge.{specs.{Graphs.{LeadsAlong}, Openings.{HasEdgesOf}}, proofs.LeastWalks.{LeadsOn}}
 use Rattle.lab_judge.proofs.walks.walk_along.Given as goal
 
 -- a walk to where the way is now, and the rest of the way

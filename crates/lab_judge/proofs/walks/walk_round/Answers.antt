@@ -1,8 +1,6 @@
 use Rattle.std.proofs.Common.{◌∙◌, sym, subst}
 use Rattle.lab_deps.specs.KindSets.{among}
-use Rattle.lab_judge.specs.LeastWalks.{GoesRound}
-use Rattle.lab_judge.proofs.Joined.{round}
-use Rattle.lab_judge.proofs.LeastWalks.{gone_round}
+use Rattle.lab_judge.{specs.LeastWalks.{GoesRound}, proofs.{Joined.{round}, LeastWalks.{gone_round}}}
 use Rattle.lab_judge.proofs.walks.walk_round.Goals as goal
 
 pub walk_along-requires-clause-way : goal.walk_along-requires-clause-way

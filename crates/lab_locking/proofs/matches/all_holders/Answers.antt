@@ -1,9 +1,6 @@
 use Rattle.std.proofs.Common.{rules}
-use Rattle.lab_engine.proofs.Common.{list_any}
-use Rattle.lab_engine.specs.Rules.{HoldsMatch}
-use Rattle.lab_engine.proofs.Choosing.{others_are}
-use Rattle.lab_locking.specs.Matches.{matches_at}
-use Rattle.lab_locking.proofs.HeldMatches.{some_tells}
+use Rattle.lab_engine.{proofs.{Common.{list_any}, Choosing.{others_are}}, specs.Rules.{HoldsMatch}}
+use Rattle.lab_locking.{specs.Matches.{matches_at}, proofs.HeldMatches.{some_tells}}
 use Rattle.lab_locking.proofs.matches.all_holders.Goals as goal
 
 pub returns : goal.returns

@@ -1,9 +1,6 @@
 use Rattle.std.proofs.Common.{◌∙◌, sym, ap, rules}
-use Rattle.lab_engine.proofs.Common.{both_ways}
-use Rattle.lab_engine.specs.Rules.{HoldsMatch}
-use Rattle.lab_engine.proofs.Choosing.{others_are}
-use Rattle.lab_locking.specs.Matches.{matches_kept, matches_at}
-use Rattle.lab_locking.proofs.HeldMatches.{named_is, holds_none}
+use Rattle.lab_engine.{proofs.{Common.{both_ways}, Choosing.{others_are}}, specs.Rules.{HoldsMatch}}
+use Rattle.lab_locking.{specs.Matches.{matches_kept, matches_at}, proofs.HeldMatches.{named_is, holds_none}}
 use Rattle.lab_locking.proofs.matches.named_holders.Goals as goal
 
 pub returns-in-Some : goal.returns-in-Some

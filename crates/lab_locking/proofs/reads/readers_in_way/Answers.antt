@@ -1,8 +1,5 @@
 use Rattle.std.proofs.Common.{sym, refl, subst, ◌↔◌, IsTrue, true, rules}
-use Rattle.lab_engine.proofs.Common.{both_ways, none_of, IsOther, ⊤}
-use Rattle.lab_engine.specs.declared.event.Level.TheVariants.{Locking}
-use Rattle.lab_engine.specs.Rules.{HasRead}
-use Rattle.lab_engine.proofs.Choosing.{others_are}
+use Rattle.lab_engine.{proofs.{Common.{both_ways, none_of, IsOther, ⊤}, Choosing.{others_are}}, specs.{declared.event.Level.TheVariants.{Locking}, Rules.{HasRead}}}
 use Rattle.lab_locking.proofs.RowReaders.{named_reads, all_reads}
 use Rattle.lab_locking.proofs.reads.readers_in_way.Goals as goal
 

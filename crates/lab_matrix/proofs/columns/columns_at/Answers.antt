@@ -1,6 +1,4 @@
-use Rattle.std.proofs.Common.{◌+◌, drop, sym, subst, arith}
-use Rattle.std.proofs.lemmas.List.{drop_more, drop_all}
-use Rattle.std.proofs.lemmas.Result.{err_from_is_err_and}
+use Rattle.std.proofs.{Common.{◌+◌, drop, sym, subst, arith}, lemmas.{List.{drop_more, drop_all}, Result.{err_from_is_err_and}}}
 use Rattle.lab_matrix.proofs.AtLevels.{SoFar, none_so_far, next_so_far, all_so_far, refused_next, refusal_at, promises_kept_at}
 use Rattle.lab_matrix.proofs.columns.columns_at.Goals as goal
 

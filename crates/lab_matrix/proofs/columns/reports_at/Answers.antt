@@ -1,5 +1,4 @@
-use Rattle.std.proofs.Common.{refl}
-use Rattle.std.proofs.lemmas.Result.{err_from_is_err_and}
+use Rattle.std.proofs.{Common.{refl}, lemmas.Result.{err_from_is_err_and}}
 use Rattle.lab_matrix.specs.declared.name.CaseName.TheVariants as name
 use Rattle.lab_matrix.proofs.AtLevels.{each_report, promise_kept, under_first, under_next, first_at}
 use Rattle.lab_matrix.proofs.columns.reports_at.Goals as goal

@@ -1,7 +1,6 @@
 use Rattle.std.proofs.lemmas.Result.{err_from_is_err_and}
-use Rattle.lab_matrix.specs.Matrix.{level_of}
+use Rattle.lab_matrix.{specs.Matrix.{level_of}, proofs.CasePlays.{each_column, recorded, first_of_row, none_before, one_before, two_before}}
 use Rattle.lab_matrix.specs.declared.cells.Column.TheVariants as column
-use Rattle.lab_matrix.proofs.CasePlays.{each_column, recorded, first_of_row, none_before, one_before, two_before}
 use Rattle.lab_matrix.proofs.filling.row_of_case.Goals as goal
 
 pub returns-clause-row : goal.returns-clause-row

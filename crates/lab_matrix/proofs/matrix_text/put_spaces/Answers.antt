@@ -1,6 +1,5 @@
 use Rattle.std.proofs.Common.{◌≡◌, ◌-◌, ◌+◌, ◌++◌, sym, subst, arith}
-use Rattle.lab_matrix.specs.MatrixText.{spaces}
-use Rattle.lab_matrix.proofs.Padding.{space_more}
+use Rattle.lab_matrix.{specs.MatrixText.{spaces}, proofs.Padding.{space_more}}
 use Rattle.lab_matrix.proofs.matrix_text.put_spaces.Goals as goal
 
 pub loop-column-preserved : goal.loop-column-preserved

@@ -1,7 +1,6 @@
 use Rattle.std.proofs.Common.{None, sym, subst}
 use Rattle.lab_engine.proofs.Common.{list_any}
-use Rattle.lab_optimistic.specs.Reads.{IsLeast, is_last_read}
-use Rattle.lab_optimistic.proofs.LastReads.{IsLeastSoFar, all_left, at_end, before_begin, next_commit, none_left}
+use Rattle.lab_optimistic.{specs.Reads.{IsLeast, is_last_read}, proofs.LastReads.{IsLeastSoFar, all_left, at_end, before_begin, next_commit, none_left}}
 use Rattle.lab_optimistic.proofs.reads.any_read.Goals as goal
 
 pub loop-commit-init : goal.loop-commit-init

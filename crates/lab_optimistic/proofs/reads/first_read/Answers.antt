@@ -1,7 +1,6 @@
 use Rattle.std.proofs.Common.{sym, ap, subst, ◌∙◌, List}
 use Rattle.lab_engine.proofs.Common.{Statement, list_any}
-use Rattle.lab_optimistic.specs.Reads.{IsLeast, change_at, changes_at}
-use Rattle.lab_optimistic.proofs.FirstReads.{all_stand, first_found, found_by}
+use Rattle.lab_optimistic.{specs.Reads.{IsLeast, change_at, changes_at}, proofs.FirstReads.{all_stand, first_found, found_by}}
 use Rattle.lab_optimistic.proofs.reads.first_read.Goals as goal
 
 pub returns-in_default : goal.returns-in_default

@@ -1,6 +1,5 @@
 use Rattle.std.proofs.Common.{sym, ◌∙◌, ◌&&◌}
-use Rattle.lab_optimistic.specs.Reads.{changes_at, is_last}
-use Rattle.lab_optimistic.proofs.LeastRows.{least_one, least_none}
+use Rattle.lab_optimistic.{specs.Reads.{changes_at, is_last}, proofs.LeastRows.{least_one, least_none}}
 use Rattle.lab_optimistic.proofs.reads.last_read.Goals as goal
 
 pub returns-then-reads_last : goal.returns-then-reads_last

@@ -1,6 +1,5 @@
 use Rattle.std.proofs.Common.{◌≡◌, true, take}
-use Rattle.lab_engine.proofs.Common.{IsAsker, Past, Txn, keeps_commits, list_any}
-use Rattle.lab_engine.specs.declared.event.Level.{Level}
+use Rattle.lab_engine.{proofs.Common.{IsAsker, Past, Txn, keeps_commits, list_any}, specs.declared.event.Level.{Level}}
 use Rattle.lab_optimistic.specs.Reads.{IsLeast, changes_at}
 use Rattle.lab_optimistic.proofs.reads.least_of.Given as goal
 

@@ -1,8 +1,6 @@
-use Rattle.std.proofs.Common.{◌+◌, sym, subst, take, arith}
-use Rattle.std.proofs.lemmas.List.{take_all}
+use Rattle.std.proofs.{Common.{◌+◌, sym, subst, take, arith}, lemmas.List.{take_all}}
 use Rattle.lab_engine.proofs.Common.{list_any}
-use Rattle.lab_optimistic.specs.Reads.{IsLeast, is_last_read}
-use Rattle.lab_optimistic.proofs.LeastRows.{least_more}
+use Rattle.lab_optimistic.{specs.Reads.{IsLeast, is_last_read}, proofs.LeastRows.{least_more}}
 use Rattle.lab_optimistic.proofs.reads.read_of.Goals as goal
 
 pub loop-row-preserved : goal.loop-row-preserved

@@ -1,5 +1,4 @@
-use Rattle.lab_order.specs.Path.{IsShortestPath}
-use Rattle.lab_order.proofs.Least.{one_least}
+use Rattle.lab_order.{specs.Path.{IsShortestPath}, proofs.Least.{one_least}}
 use Rattle.lab_order.proofs.laws.least_path_unique.Goals as goal
 
 pub returns : goal.returns

@@ -1,8 +1,6 @@
 use Rattle.std.proofs.Common.{◌≡◌, ◌+◌, refl, sym, subst, true, false, get_or, rules, arith}
-use Rattle.lab_order.specs.Placing.{is_marked}
-use Rattle.lab_order.proofs.LeastUnplaced.{IsLeastUnplaced, past_placed, past_unplaced, least_of_all, none_of_all}
+use Rattle.lab_order.{specs.Placing.{is_marked}, proofs.{LeastUnplaced.{IsLeastUnplaced, past_placed, past_unplaced, least_of_all, none_of_all}, ordering.least_unplaced_among.Goals.{then-not-placed-node, else-not-placed-node}}}
 use Rattle.lab_order.proofs.ordering.least_unplaced_among.Goals as goal
-use Rattle.lab_order.proofs.ordering.least_unplaced_among.Goals.{then-not-placed-node, else-not-placed-node}
 
 pub loop-node-preserved : goal.loop-node-preserved
 loop-node-preserved c =

@@ -1,7 +1,5 @@
-use Rattle.std.proofs.Common.{◌≡◌, ℕ, cond, length}
-use Rattle.std.specs.Prelude.{nat_lt}
-use Rattle.lab_order.specs.Arrows.{before}
-use Rattle.lab_order.specs.Counts.{waits_of}
+use Rattle.std.{proofs.Common.{◌≡◌, ℕ, cond, length}, specs.Prelude.{nat_lt}}
+use Rattle.lab_order.specs.{Arrows.{before}, Counts.{waits_of}}
 use Rattle.lab_order.proofs.successors.counts_before.Given as goal
 
 -- the nodes so far are counted

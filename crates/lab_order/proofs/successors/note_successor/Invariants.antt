@@ -1,5 +1,4 @@
-use Rattle.std.proofs.Common.{◌≡◌, ◌+◌, ℕ, cond, length, take}
-use Rattle.std.specs.Prelude.{◌==◌}
+use Rattle.std.{proofs.Common.{◌≡◌, ◌+◌, ℕ, cond, length, take}, specs.Prelude.{◌==◌}}
 use Rattle.lab_order.specs.Counts.{how_often, after}
 use Rattle.lab_order.proofs.successors.note_successor.Given as goal
 

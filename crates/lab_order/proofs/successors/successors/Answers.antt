@@ -1,9 +1,5 @@
-use Rattle.std.proofs.Common.{◌≡◌, ◌∙◌, ◌+◌, ℕ, cond, sym, ap, subst, arith, length}
-use Rattle.std.specs.Prelude.{◌==◌, nat_lt}
-use Rattle.std.proofs.lemmas.List.{with_items_is}
-use Rattle.lab_order.specs.Arrows.{before}
-use Rattle.lab_order.specs.Counts.{how_often, after}
-use Rattle.lab_order.proofs.Transposed.{noted_next, noted_all}
+use Rattle.std.{proofs.{Common.{◌≡◌, ◌∙◌, ◌+◌, ℕ, cond, sym, ap, subst, arith, length}, lemmas.List.{with_items_is}}, specs.Prelude.{◌==◌, nat_lt}}
+use Rattle.lab_order.{specs.{Arrows.{before}, Counts.{how_often, after}}, proofs.Transposed.{noted_next, noted_all}}
 use Rattle.lab_order.proofs.successors.successors.Goals as goal
 
 pub loop-node-preserved : goal.loop-node-preserved

@@ -1,7 +1,5 @@
-use Rattle.std.proofs.Common.{◌≡◌, ℕ, cond, length}
-use Rattle.std.specs.Prelude.{nat_lt}
-use Rattle.lab_order.specs.Arrows.{nodes_of, before}
-use Rattle.lab_order.specs.Counts.{how_often, after}
+use Rattle.std.{proofs.Common.{◌≡◌, ℕ, cond, length}, specs.Prelude.{nat_lt}}
+use Rattle.lab_order.specs.{Arrows.{nodes_of, before}, Counts.{how_often, after}}
 use Rattle.lab_order.proofs.successors.successors.Given as goal
 
 -- the arrows to the nodes so far are noted

@@ -1,5 +1,4 @@
-use Rattle.std.proofs.Common.{◌≡◌, ℕ, cond, ◌&&◌}
-use Rattle.std.specs.Prelude.{◌==◌, nat_lt}
+use Rattle.std.{proofs.Common.{◌≡◌, ℕ, cond, ◌&&◌}, specs.Prelude.{◌==◌, nat_lt}}
 use Rattle.lab_order.specs.Counts.{how_often, waits_of}
 use Rattle.lab_order.proofs.successors.waiting_for_none.Given as goal
 

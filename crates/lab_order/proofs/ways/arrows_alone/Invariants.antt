@@ -1,8 +1,6 @@
-use Rattle.std.proofs.Common.{◌≡◌, ◌||◌, ◌==◌, ◌<◌, ℕ, length}
-use Rattle.std.specs.List.{All, list_any}
+use Rattle.std.{proofs.Common.{◌≡◌, ◌||◌, ◌==◌, ◌<◌, ℕ, length}, specs.List.{All, list_any}}
 use Rattle.lab_sets.specs.Sets.{room, room_for}
-use Rattle.lab_order.specs.Arrows.{nodes_of, before}
-use Rattle.lab_order.specs.Ways.{leads_by}
+use Rattle.lab_order.specs.{Arrows.{nodes_of, before}, Ways.{leads_by}}
 use Rattle.lab_order.proofs.ways.arrows_alone.Given as goal
 
 -- the sets of the nodes so far

@@ -1,6 +1,4 @@
-use Rattle.std.proofs.Common.{◌≡◌, ◌||◌, ◌&&◌, ◌<◌, ◌≤◌, ℕ, [], length}
-use Rattle.std.specs.Prelude.{slice_index_or}
-use Rattle.std.specs.List.{All}
+use Rattle.std.{proofs.Common.{◌≡◌, ◌||◌, ◌&&◌, ◌<◌, ◌≤◌, ℕ, [], length}, specs.{Prelude.{slice_index_or}, List.{All}}}
 use Rattle.lab_sets.specs.Sets.{has, room}
 use Rattle.lab_order.specs.Ways.{leads_by}
 use Rattle.lab_order.proofs.ways.lead_on.Given as goal

@@ -1,5 +1,4 @@
-use Rattle.std.proofs.Common.{◌≡◌, ◌||◌, ◌==◌, ℕ, take}
-use Rattle.std.specs.List.{list_any}
+use Rattle.std.{proofs.Common.{◌≡◌, ◌||◌, ◌==◌, ℕ, take}, specs.List.{list_any}}
 use Rattle.lab_sets.specs.Sets.{has, room, room_for}
 use Rattle.lab_order.proofs.ways.set_of.Given as goal
 

@@ -1,7 +1,5 @@
-use Rattle.lab_streams.proofs.ToldFiles.{one_told}
-use Rattle.lab_streams.specs.declared.reporting.Format.TheVariants.{Lines}
-use Rattle.lab_page.specs.Answer.{Pages}
-use Rattle.lab_page.proofs.OnePage.{one_page}
+use Rattle.lab_streams.{proofs.ToldFiles.{one_told}, specs.declared.reporting.Format.TheVariants.{Lines}}
+use Rattle.lab_page.{specs.Answer.{Pages}, proofs.OnePage.{one_page}}
 use Rattle.lab_page.proofs.laws.page_answer_unique.Goals as goal
 
 pub returns : goal.returns

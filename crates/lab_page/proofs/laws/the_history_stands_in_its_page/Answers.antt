@@ -1,5 +1,4 @@
-use Rattle.std.proofs.Common.{length}
-use Rattle.std.proofs.lemmas.Bool.{le-leb}
+use Rattle.std.proofs.{Common.{length}, lemmas.Bool.{le-leb}}
 use Rattle.lab_evidence.specs.Scope.{scope_of}
 use Rattle.lab_overview.specs.Check.{file_of}
 use Rattle.lab_page.proofs.InHistory.{history_shown}

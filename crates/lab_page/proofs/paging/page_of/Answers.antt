@@ -1,5 +1,4 @@
-use Rattle.std.proofs.Common.{◌∙◌, ap}
-use Rattle.std.proofs.lemmas.Result.{IfOk-weaker}
+use Rattle.std.proofs.{Common.{◌∙◌, ap}, lemmas.Result.{IfOk-weaker}}
 use Rattle.lab_page.specs.Whole.{page_text}
 use Rattle.lab_page.proofs.paging.page_of.Goals as goal
 

@@ -1,5 +1,4 @@
-use Rattle.std.proofs.Common.{◌≡◌, ◌≤◌}
-use Rattle.std.specs.Prelude.{not}
+use Rattle.std.{proofs.Common.{◌≡◌, ◌≤◌}, specs.Prelude.{not}}
 use Rattle.lab_deps.specs.KindSets.{is_anti}
 use Rattle.lab_judge.specs.Phenomena.{is_write, is_item_anti}
 use Rattle.lab_parts.proofs.WholeKinds.{cycles, counted_cycles, circles}

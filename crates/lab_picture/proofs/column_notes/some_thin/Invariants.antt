@@ -1,5 +1,4 @@
-use Rattle.std.proofs.Common.{◌≡◌, drop}
-use Rattle.std.specs.List.{list_any}
+use Rattle.std.{proofs.Common.{◌≡◌, drop}, specs.List.{list_any}}
 use Rattle.lab_picture.specs.Columns.{is_thin}
 use Rattle.lab_picture.proofs.column_notes.some_thin.Given as goal
 

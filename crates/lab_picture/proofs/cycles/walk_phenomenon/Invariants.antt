@@ -1,6 +1,5 @@
 use Rattle.std.proofs.Common.{◌≡◌, ◌+◌, not, drop}
-use Rattle.lab_judge.specs.Phenomena.{count_kind, is_write, is_item_anti}
-use Rattle.lab_judge.specs.Places.{is_anti}
+use Rattle.lab_judge.specs.{Phenomena.{count_kind, is_write, is_item_anti}, Places.{is_anti}}
 use Rattle.lab_picture.proofs.cycles.walk_phenomenon.Given as goal
 
 -- what is counted so far, and what is left to count

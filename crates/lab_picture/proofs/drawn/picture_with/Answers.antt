@@ -1,7 +1,5 @@
-use Rattle.std.proofs.Common.{◌∙◌, ap}
-use Rattle.std.proofs.lemmas.Result.{IfOk-weaker}
-use Rattle.lab_picture.specs.Forward.{with_forward}
-use Rattle.lab_picture.specs.Svg.{svg_of}
+use Rattle.std.proofs.{Common.{◌∙◌, ap}, lemmas.Result.{IfOk-weaker}}
+use Rattle.lab_picture.specs.{Forward.{with_forward}, Svg.{svg_of}}
 use Rattle.lab_picture.proofs.drawn.picture_with.Goals as goal
 
 pub returns : goal.returns

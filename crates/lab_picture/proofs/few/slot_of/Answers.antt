@@ -1,6 +1,5 @@
 use Rattle.std.proofs.Common.{arith}
-use Rattle.lab_picture.specs.Few.{is_kept}
-use Rattle.lab_picture.proofs.DrawnCounts.{count_all}
+use Rattle.lab_picture.{specs.Few.{is_kept}, proofs.DrawnCounts.{count_all}}
 use Rattle.lab_picture.proofs.few.slot_of.Goals as goal
 
 pub overflow_add-found : goal.overflow_add-found

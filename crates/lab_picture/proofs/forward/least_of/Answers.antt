@@ -1,6 +1,4 @@
-use Rattle.lab_deps.specs.KindSets.{among}
-use Rattle.lab_deps.specs.declared.kinds.TheConstants.Kinds.{ALL}
-use Rattle.lab_deps.proofs.NamedKinds.{all_has}
+use Rattle.lab_deps.{specs.{KindSets.{among}, declared.kinds.TheConstants.Kinds.{ALL}}, proofs.NamedKinds.{all_has}}
 use Rattle.lab_picture.proofs.LeastOfPairs.{least_of_listed}
 use Rattle.lab_picture.proofs.forward.least_of.Goals as goal
 

@@ -1,8 +1,6 @@
-use Rattle.std.proofs.Common.{take}
-use Rattle.std.specs.Prelude.{◌↔◌, Contains}
+use Rattle.std.{proofs.Common.{take}, specs.Prelude.{◌↔◌, Contains}}
 use Rattle.lab_history.specs.History.{History}
-use Rattle.lab_deps.specs.Edges.{IsEdge}
-use Rattle.lab_deps.specs.declared.edge.Edge.{Edge}
+use Rattle.lab_deps.specs.{Edges.{IsEdge}, declared.edge.Edge.{Edge}}
 use Rattle.lab_picture.specs.Forward.{AreLeastOf}
 use Rattle.lab_picture.proofs.forward.least_of_all.Given as goal
 

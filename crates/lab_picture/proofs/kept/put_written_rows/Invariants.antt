@@ -1,7 +1,6 @@
 use Rattle.std.proofs.Common.{◌≡◌, ◌++◌, drop, map, filter}
 use Rattle.lab_history.specs.VersionName.{new_states}
-use Rattle.lab_picture.specs.Effect.{is_unlisted}
-use Rattle.lab_picture.specs.Kept.{told_written, kept_from}
+use Rattle.lab_picture.specs.{Effect.{is_unlisted}, Kept.{told_written, kept_from}}
 use Rattle.lab_picture.proofs.kept.put_written_rows.Given as goal
 
 abbrev pub invariant-loop-row : goal.invariant-loop-row

@@ -1,5 +1,4 @@
-use Rattle.std.proofs.Common.{◌≡◌, drop}
-use Rattle.std.specs.List.{list_any}
+use Rattle.std.{proofs.Common.{◌≡◌, drop}, specs.List.{list_any}}
 use Rattle.lab_history.specs.VersionName.{new_states}
 use Rattle.lab_picture.specs.Named.{is_named}
 use Rattle.lab_picture.proofs.kept.writes_named.Given as goal

@@ -1,5 +1,4 @@
-use Rattle.lab_picture.specs.Svg.{arrows_drawn}
-use Rattle.lab_picture.proofs.KeptRows.{at_both_ends}
+use Rattle.lab_picture.{specs.Svg.{arrows_drawn}, proofs.KeptRows.{at_both_ends}}
 use Rattle.lab_picture.proofs.laws.each_arrow_has_its_row_at_both_ends.Goals as goal
 
 pub returns : goal.returns

@@ -1,7 +1,5 @@
-use Rattle.lab_streams.proofs.ToldFiles.{one_told}
-use Rattle.lab_streams.specs.declared.reporting.Format.TheVariants.{Lines}
-use Rattle.lab_picture.specs.Picture.{Pictures}
-use Rattle.lab_picture.proofs.OnePicture.{one_picture}
+use Rattle.lab_streams.{proofs.ToldFiles.{one_told}, specs.declared.reporting.Format.TheVariants.{Lines}}
+use Rattle.lab_picture.{specs.Picture.{Pictures}, proofs.OnePicture.{one_picture}}
 use Rattle.lab_picture.proofs.laws.picture_answer_unique.Goals as goal
 
 pub returns : goal.returns

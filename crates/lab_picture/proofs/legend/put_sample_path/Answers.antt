@@ -1,5 +1,4 @@
-use Rattle.std.proofs.Common.{◌++◌, refl}
-use Rattle.std.specs.Prelude.{codes}
+use Rattle.std.{proofs.Common.{◌++◌, refl}, specs.Prelude.{codes}}
 use Rattle.lab_statement.proofs.Appended.{rest_appended}
 use Rattle.lab_picture.specs.Heading.{sample_end, sample_path}
 use Rattle.lab_picture.proofs.legend.put_sample_path.Goals as goal

@@ -1,6 +1,5 @@
 use Rattle.std.proofs.Common.{◌≡◌, ◌<◌, drop, length, ap, arith}
-use Rattle.lab_picture.specs.Lines.{lines_from}
-use Rattle.lab_picture.proofs.LineSteps.{none_at, counted}
+use Rattle.lab_picture.{specs.Lines.{lines_from}, proofs.LineSteps.{none_at, counted}}
 use Rattle.lab_picture.proofs.lines.count_lines.Goals as goal
 
 pub returns-then-rest-eq0-clause-value : goal.returns-then-rest-eq0-clause-value

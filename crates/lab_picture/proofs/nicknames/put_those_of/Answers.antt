@@ -1,9 +1,6 @@
-use Rattle.std.proofs.Common.{◌++◌, drop, filter}
-use Rattle.std.proofs.lemmas.List.{drop_all}
-use Rattle.std.proofs.lemmas.Result.{IfOk-equal}
+use Rattle.std.proofs.{Common.{◌++◌, drop, filter}, lemmas.{List.{drop_all}, Result.{IfOk-equal}}}
 use Rattle.lab_history.proofs.Appended.{appended}
-use Rattle.lab_picture.specs.Nicknames.{has_form, in_parentheses}
-use Rattle.lab_picture.proofs.SaidNames.{all_said}
+use Rattle.lab_picture.{specs.Nicknames.{has_form, in_parentheses}, proofs.SaidNames.{all_said}}
 use Rattle.lab_picture.proofs.nicknames.put_those_of.Goals as goal
 
 pub returns : goal.returns

@@ -1,6 +1,5 @@
 use Rattle.std.proofs.Common.{◌≡◌, ◌++◌, drop, filter}
-use Rattle.lab_picture.specs.Nicknames.{has_form}
-use Rattle.lab_picture.proofs.SaidNames.{names_behind}
+use Rattle.lab_picture.{specs.Nicknames.{has_form}, proofs.SaidNames.{names_behind}}
 use Rattle.lab_picture.proofs.nicknames.put_those_of.Given as goal
 
 abbrev pub invariant-loop-nickname : goal.invariant-loop-nickname

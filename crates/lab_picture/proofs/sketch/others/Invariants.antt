@@ -1,6 +1,4 @@
-use Rattle.std.proofs.Common.{◌≡◌, [], drop, filter, flat_map}
-use Rattle.std.specs.Prelude.{not, ◌==◌}
-use Rattle.std.specs.List.{list_any}
+use Rattle.std.{proofs.Common.{◌≡◌, [], drop, filter, flat_map}, specs.{Prelude.{not, ◌==◌}, List.{list_any}}}
 use Rattle.lab_picture.specs.Sketch.{with_columns, seen_writers}
 use Rattle.lab_picture.proofs.sketch.others.Given as goal
 

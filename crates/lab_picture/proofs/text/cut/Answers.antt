@@ -1,5 +1,4 @@
-use Rattle.std.proofs.Common.{◌+◌, ◌≤◌, length, arith}
-use Rattle.std.proofs.lemmas.List.{length-take}
+use Rattle.std.proofs.{Common.{◌+◌, ◌≤◌, length, arith}, lemmas.List.{length-take}}
 use Rattle.lab_picture.proofs.text.cut.Goals as goal
 
 pub returns-clause-within : goal.returns-clause-within

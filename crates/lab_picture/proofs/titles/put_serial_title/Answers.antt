@@ -1,8 +1,6 @@
-use Rattle.std.proofs.Common.{◌++◌, ap, sym, ◌∙◌}
-use Rattle.std.specs.Prelude.{codes}
+use Rattle.std.{proofs.Common.{◌++◌, ap, sym, ◌∙◌}, specs.Prelude.{codes}}
 use Rattle.lab_statement.proofs.Appended.{rest_appended}
-use Rattle.lab_picture.specs.Cycles.{walk_phenomenon}
-use Rattle.lab_picture.specs.Titles.{full_name, serial_title}
+use Rattle.lab_picture.specs.{Cycles.{walk_phenomenon}, Titles.{full_name, serial_title}}
 use Rattle.lab_picture.proofs.titles.put_serial_title.Goals as goal
 
 pub returns-in_ok-extend_from_slice-in-NoCycle : goal.returns-in_ok-extend_from_slice-in-NoCycle

@@ -1,6 +1,4 @@
-use Rattle.std.proofs.Common.{refl, sym, subst}
-use Rattle.std.specs.Prelude.{IsUtf8}
-use Rattle.std.proofs.lemmas.Str.{IsUtf8-append, IsUtf8-from_ascii}
+use Rattle.std.{proofs.{Common.{refl, sym, subst}, lemmas.Str.{IsUtf8-append, IsUtf8-from_ascii}}, specs.Prelude.{IsUtf8}}
 use Rattle.lab_statement.specs.Printed.{newline}
 use Rattle.lab_reports.proofs.AsciiTexts.{ascii_by}
 use Rattle.lab_reports.proofs.line.print_line.Goals as goal

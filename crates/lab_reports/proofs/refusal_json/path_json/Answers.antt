@@ -1,5 +1,4 @@
-use Rattle.std.proofs.Common.{rules, sym, subst, ◌∙◌}
-use Rattle.std.specs.Prelude.{IsUtf8}
+use Rattle.std.{proofs.Common.{rules, sym, subst, ◌∙◌}, specs.Prelude.{IsUtf8}}
 use Rattle.lab_reports.proofs.Paths.{path_is_utf8}
 use Rattle.lab_reports.proofs.refusal_json.path_json.Goals as goal
 

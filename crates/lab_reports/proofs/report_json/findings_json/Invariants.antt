@@ -1,7 +1,5 @@
-use Rattle.std.proofs.Common.{◌≡◌, drop}
-use Rattle.std.specs.Prelude.{fold}
-use Rattle.serde_json.specs.Data.{no_members}
-use Rattle.serde_json.specs.View.{members_view}
+use Rattle.std.{proofs.Common.{◌≡◌, drop}, specs.Prelude.{fold}}
+use Rattle.serde_json.specs.{Data.{no_members}, View.{members_view}}
 use Rattle.lab_reports.specs.Tree.{with_finding}
 use Rattle.lab_reports.proofs.report_json.findings_json.Given as goal
 

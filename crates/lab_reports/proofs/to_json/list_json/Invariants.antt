@@ -1,5 +1,4 @@
-use Rattle.std.proofs.Common.{take}
-use Rattle.std.specs.Prelude.{⊤}
+use Rattle.std.{proofs.Common.{take}, specs.Prelude.{⊤}}
 use Rattle.lab_history_file.proofs.WrittenLists.{Written}
 use Rattle.lab_reports.proofs.to_json.list_json.Given as goal
 

@@ -1,6 +1,4 @@
-use Rattle.lab_script.proofs.Common.{◌≡◌, ◌≤◌, length, refl, arith, nat_tests, err_from_is_err_and, commands_read, some_left, step_read}
-use Rattle.lab_script.proofs.CommandsTaken.{step_short}
-use Rattle.lab_script.proofs.StoppedLoops.{item_stops, item_ends, goes_on, some_more, no_more, commands_stop}
+use Rattle.lab_script.proofs.{Common.{◌≡◌, ◌≤◌, length, refl, arith, nat_tests, err_from_is_err_and, commands_read, some_left, step_read}, CommandsTaken.{step_short}, StoppedLoops.{item_stops, item_ends, goes_on, some_more, no_more, commands_stop}}
 use Rattle.lab_script.proofs.command.commands_into.Goals as goal
 
 pub loop-parser-smaller : goal.loop-parser-smaller

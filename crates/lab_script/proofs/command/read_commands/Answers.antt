@@ -1,5 +1,4 @@
-use Rattle.lab_script.proofs.Common.{Any, gives_of, on_ok_weaker}
-use Rattle.lab_script.proofs.CommandsTaken.{commands_give}
+use Rattle.lab_script.proofs.{Common.{Any, gives_of, on_ok_weaker}, CommandsTaken.{commands_give}}
 use Rattle.lab_script.proofs.command.read_commands.Goals as goal
 
 pub returns-in-Ok-clause-found : goal.returns-in-Ok-clause-found

@@ -1,5 +1,4 @@
-use Rattle.lab_script.proofs.Common.{arith}
-use Rattle.lab_script.proofs.LongTexts.{script_short, first_spell, fault_spelled}
+use Rattle.lab_script.proofs.{Common.{arith}, LongTexts.{script_short, first_spell, fault_spelled}}
 use Rattle.lab_script.proofs.laws.first_bytes_tell_a_script.Goals as goal
 
 pub returns : goal.returns

@@ -1,5 +1,4 @@
-use Rattle.lab_script.proofs.Common.{sym, ap, ◌∙◌, with_commands, script_tables}
-use Rattle.lab_script.proofs.FewTables.{tables_extended}
+use Rattle.lab_script.proofs.{Common.{sym, ap, ◌∙◌, with_commands, script_tables}, FewTables.{tables_extended}}
 use Rattle.lab_script.proofs.parse.add_commands.Goals as goal
 
 pub returns-clause-named : goal.returns-clause-named

@@ -1,6 +1,4 @@
-use Rattle.lab_script.proofs.Common.{sym, subst, ◌∙◌, List, ℕ, [], None, MatchResult, err_from_is_err_and, IsFaultOf}
-use Rattle.lab_script.proofs.FirstFault.{IsRead, IsReadTo, none_read, one_more_read, line_faults, whole_read, all_told}
-use Rattle.lab_script.proofs.TextLines.{text_lines}
+use Rattle.lab_script.proofs.{Common.{sym, subst, ◌∙◌, List, ℕ, [], None, MatchResult, err_from_is_err_and, IsFaultOf}, FirstFault.{IsRead, IsReadTo, none_read, one_more_read, line_faults, whole_read, all_told}, TextLines.{text_lines}}
 use Rattle.lab_script.proofs.parse.parse_script.Goals as goal
 
 pub loop-line-init : goal.loop-line-init

@@ -1,5 +1,4 @@
-use Rattle.lab_script.proofs.Common.{◌≡◌, tables_so_far}
-use Rattle.lab_script.proofs.FirstFault.{IsReadTo}
+use Rattle.lab_script.proofs.{Common.{◌≡◌, tables_so_far}, FirstFault.{IsReadTo}}
 use Rattle.lab_script.proofs.parse.parse_script.Given as goal
 
 abbrev pub invariant-loop-line : goal.invariant-loop-line

@@ -1,5 +1,4 @@
-use Rattle.lab_script.proofs.Common.{Some, None, sym, ap, subst, ◌∙◌, IfErr, OnOk, err_from_is_err_and, on_ok_weaker, Option, Script, LineSpells, IsFaultAt, ScriptFaultKind, first_fault}
-use Rattle.lab_script.proofs.ScriptLines.{tokenless_line, tokens_faulty, tokens_line}
+use Rattle.lab_script.proofs.{Common.{Some, None, sym, ap, subst, ◌∙◌, IfErr, OnOk, err_from_is_err_and, on_ok_weaker, Option, Script, LineSpells, IsFaultAt, ScriptFaultKind, first_fault}, ScriptLines.{tokenless_line, tokens_faulty, tokens_line}}
 use Rattle.lab_script.proofs.parse.read_line.Goals as goal
 
 pub returns-then-is_empty-clause-found : goal.returns-then-is_empty-clause-found

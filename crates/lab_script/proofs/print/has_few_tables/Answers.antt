@@ -1,5 +1,4 @@
-use Rattle.lab_script.proofs.Common.{◌<◌, [], length, ap, ◌∙◌, arith, with_rows, setup_tables, line_table}
-use Rattle.lab_script.proofs.FewTables.{all_longer}
+use Rattle.lab_script.proofs.{Common.{◌<◌, [], length, ap, ◌∙◌, arith, with_rows, setup_tables, line_table}, FewTables.{all_longer}}
 use Rattle.lab_script.proofs.print.has_few_tables.Goals as goal
 
 pub returns-else-add_all : goal.returns-else-add_all

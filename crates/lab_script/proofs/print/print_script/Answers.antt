@@ -1,5 +1,4 @@
-use Rattle.lab_script.proofs.Common.{◌≡◌, ℕ, List, ◌++◌, ap, ◌∙◌, printed_script}
-use Rattle.lab_script.proofs.PrintedScripts.{script_spells}
+use Rattle.lab_script.proofs.{Common.{◌≡◌, ℕ, List, ◌++◌, ap, ◌∙◌, printed_script}, PrintedScripts.{script_spells}}
 use Rattle.lab_script.proofs.print.print_script.Goals as goal
 
 pub returns-then-spell_script-clause-again : goal.returns-then-spell_script-clause-again

@@ -1,6 +1,4 @@
-use Rattle.lab_script.proofs.Common.{◌≡◌, sym, ap, subst, ◌∙◌, ℕ, ◌+◌, Bool, List, Line, nil_from_length, arith, TranscriptView, unprintable, transcript, sessions_in}
-use Rattle.lab_script.proofs.BrokenLimits.{broken_in, printed_all}
-use Rattle.lab_script.proofs.RemainingTranscript.{output_by, transaction_line}
+use Rattle.lab_script.proofs.{Common.{◌≡◌, sym, ap, subst, ◌∙◌, ℕ, ◌+◌, Bool, List, Line, nil_from_length, arith, TranscriptView, unprintable, transcript, sessions_in}, BrokenLimits.{broken_in, printed_all}, RemainingTranscript.{output_by, transaction_line}}
 use Rattle.lab_script.proofs.serial.run_serial.Goals as goal
 
 pub loop-line-preserved : goal.loop-line-preserved

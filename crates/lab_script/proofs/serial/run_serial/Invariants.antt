@@ -1,5 +1,4 @@
-use Rattle.lab_script.proofs.Common.{◌≡◌, ◌+◌, ◌≤◌, length, unprintable, sessions_in, transcript}
-use Rattle.lab_script.proofs.RemainingTranscript.{output_by}
+use Rattle.lab_script.proofs.{Common.{◌≡◌, ◌+◌, ◌≤◌, length, unprintable, sessions_in, transcript}, RemainingTranscript.{output_by}}
 use Rattle.lab_script.proofs.serial.run_serial.Given as goal
 
 abbrev pub invariant-loop-line : goal.invariant-loop-line

@@ -1,7 +1,5 @@
-use Rattle.lab_script.proofs.Common.{sym, ap, ◌∙◌, subst, List, ℤ, Row, TranscriptView}
-use Rattle.lab_table.specs.Running.{Gives}
-use Rattle.lab_table.specs.Statement.{run}
-use Rattle.lab_script.proofs.StatementLines.{line_of_rows, line_of_fault, with_rows, with_fault}
+use Rattle.lab_script.proofs.{Common.{sym, ap, ◌∙◌, subst, List, ℤ, Row, TranscriptView}, StatementLines.{line_of_rows, line_of_fault, with_rows, with_fault}}
+use Rattle.lab_table.specs.{Running.{Gives}, Statement.{run}}
 use Rattle.lab_script.proofs.serial.run_statement.Goals as goal
 
 pub returns-in-Ok-clause-text : goal.returns-in-Ok-clause-text

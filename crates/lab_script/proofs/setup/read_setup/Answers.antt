@@ -1,5 +1,4 @@
-use Rattle.lab_script.proofs.Common.{Any, gives_of, ok_behind}
-use Rattle.lab_script.proofs.SetupTaken.{setup_gives}
+use Rattle.lab_script.proofs.{Common.{Any, gives_of, ok_behind}, SetupTaken.{setup_gives}}
 use Rattle.lab_script.proofs.setup.read_setup.Goals as goal
 
 pub returns-in-Ok-clause-found : goal.returns-in-Ok-clause-found

@@ -1,6 +1,5 @@
-use Rattle.lab_script.proofs.Common.{length, suc, refl, arith, err_from_is_err_and, after, row_onto_read, rows_read}
+use Rattle.lab_script.proofs.{Common.{length, suc, refl, arith, err_from_is_err_and, after, row_onto_read, rows_read}, StoppedLoops.{item_stops, item_ends, goes_on}}
 use Rattle.lab_statement.specs.declared.token.Token.TheVariants as token
-use Rattle.lab_script.proofs.StoppedLoops.{item_stops, item_ends, goes_on}
 use Rattle.lab_script.proofs.setup.rows.Goals as goal
 
 pub loop-table-init : goal.loop-table-init

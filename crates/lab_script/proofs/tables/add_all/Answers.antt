@@ -1,5 +1,4 @@
-use Rattle.lab_script.proofs.Common.{◌+◌, ◌<◌, ◌∷◌, drop, length, sym, ap, subst, ◌∙◌, drop_more, with_any, with_all}
-use Rattle.lab_script.proofs.FewTables.{over_all}
+use Rattle.lab_script.proofs.{Common.{◌+◌, ◌<◌, ◌∷◌, drop, length, sym, ap, subst, ◌∙◌, drop_more, with_any, with_all}, FewTables.{over_all}}
 use Rattle.lab_script.proofs.tables.add_all.Goals as goal
 
 pub returns-then-not-add_any : goal.returns-then-not-add_any

@@ -1,6 +1,4 @@
-use Rattle.lab_script.proofs.Common.{◌+◌, ◌<◌, ◌∷◌, drop, length, sym, ap, subst, ◌∙◌, is_some, setup_table, token_table, with_named, drop_more, with_any}
-use Rattle.lab_script.specs.PassedTables.{setup_tables}
-use Rattle.lab_script.proofs.FewTables.{over_all}
+use Rattle.lab_script.{proofs.{Common.{◌+◌, ◌<◌, ◌∷◌, drop, length, sym, ap, subst, ◌∙◌, is_some, setup_table, token_table, with_named, drop_more, with_any}, FewTables.{over_all}}, specs.PassedTables.{setup_tables}}
 use Rattle.lab_script.proofs.tables.add_setup_tokens.Goals as goal
 
 pub returns-then-not-add_any : goal.returns-then-not-add_any

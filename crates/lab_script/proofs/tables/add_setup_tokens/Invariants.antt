@@ -1,5 +1,4 @@
-use Rattle.lab_script.proofs.Common.{◌≡◌, drop, with_named, with_setup_tokens}
-use Rattle.lab_script.specs.PassedTables.{setup_tables}
+use Rattle.lab_script.{proofs.Common.{◌≡◌, drop, with_named, with_setup_tokens}, specs.PassedTables.{setup_tables}}
 use Rattle.lab_script.proofs.tables.add_setup_tokens.Given as goal
 
 abbrev pub invariant-loop-token : goal.invariant-loop-token

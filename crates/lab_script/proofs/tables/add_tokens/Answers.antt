@@ -1,5 +1,4 @@
-use Rattle.lab_script.proofs.Common.{◌+◌, ◌<◌, ◌∷◌, drop, length, sym, ap, subst, ◌∙◌, is_behind_set, statement_table, statement_tables, with_named, drop_more, with_any}
-use Rattle.lab_script.proofs.FewTables.{over_all}
+use Rattle.lab_script.proofs.{Common.{◌+◌, ◌<◌, ◌∷◌, drop, length, sym, ap, subst, ◌∙◌, is_behind_set, statement_table, statement_tables, with_named, drop_more, with_any}, FewTables.{over_all}}
 use Rattle.lab_script.proofs.tables.add_tokens.Goals as goal
 
 pub returns-then-not-add_any : goal.returns-then-not-add_any

@@ -1,9 +1,6 @@
-use Rattle.std.proofs.Common.{[], refl, arith, subst, get_or}
-use Rattle.std.specs.Option.{IsSomeAnd}
-use Rattle.lab_table.specs.Sessions.{all_sessions}
-use Rattle.lab_table.proofs.SessionOrder.{session_at, none_yet, one_more}
-use Rattle.lab_session.specs.Seats.{placed_calls}
-use Rattle.lab_session.specs.Compared.{Says}
+use Rattle.std.{proofs.Common.{[], refl, arith, subst, get_or}, specs.Option.{IsSomeAnd}}
+use Rattle.lab_table.{specs.Sessions.{all_sessions}, proofs.SessionOrder.{session_at, none_yet, one_more}}
+use Rattle.lab_session.specs.{Seats.{placed_calls}, Compared.{Says}}
 use Rattle.lab_session.proofs.close.differing.Goals as goal
 
 pub loop-session-init : goal.loop-session-init

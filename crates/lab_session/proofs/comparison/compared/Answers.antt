@@ -1,12 +1,6 @@
-use Rattle.std.proofs.Common.{◌+◌, List, sym, subst, ap, ◌∙◌, drop, inl, inr}
-use Rattle.std.specs.Option.{IsSomeAnd}
-use Rattle.std.proofs.lemmas.Bool.{cases_eq}
-use Rattle.lab_table.specs.Sessions.{of_session}
-use Rattle.lab_table.proofs.SessionOrder.{own_value, other_value}
-use Rattle.lab_session.specs.declared.seat.Call.{Call}
-use Rattle.lab_session.specs.Seats.{calls_behind, placed_calls}
-use Rattle.lab_session.specs.Compared.{Says}
-use Rattle.lab_session.proofs.Comparing.{behind_own, behind_other}
+use Rattle.std.{proofs.{Common.{◌+◌, List, sym, subst, ap, ◌∙◌, drop, inl, inr}, lemmas.Bool.{cases_eq}}, specs.Option.{IsSomeAnd}}
+use Rattle.lab_table.{specs.Sessions.{of_session}, proofs.SessionOrder.{own_value, other_value}}
+use Rattle.lab_session.{specs.{declared.seat.Call.{Call}, Seats.{calls_behind, placed_calls}, Compared.{Says}}, proofs.Comparing.{behind_own, behind_other}}
 use Rattle.lab_session.proofs.comparison.compared.Goals as goal
 
 pub loop-before-init : goal.loop-before-init

@@ -1,9 +1,7 @@
-use Rattle.std.proofs.Common.{ℕ, drop}
-use Rattle.std.specs.Option.{IsSomeAnd}
+use Rattle.std.{proofs.Common.{ℕ, drop}, specs.Option.{IsSomeAnd}}
 use Rattle.lab_table.specs.Sessions.{of_session}
 use Rattle.lab_script.specs.Ranges.{SessionInRange}
-use Rattle.lab_session.specs.Seats.{calls_behind, placed_calls}
-use Rattle.lab_session.specs.Compared.{Says}
+use Rattle.lab_session.specs.{Seats.{calls_behind, placed_calls}, Compared.{Says}}
 use Rattle.lab_session.proofs.comparison.compared.Given as goal
 
 -- each list beside the events so far

@@ -1,8 +1,5 @@
-use Rattle.std.proofs.Common.{refl, sym, subst, arith, inl, inr, get_or}
-use Rattle.std.specs.Option.{IsSomeAnd}
-use Rattle.std.proofs.lemmas.Bool.{cases_eq}
-use Rattle.lab_table.specs.Sessions.{all_sessions}
-use Rattle.lab_table.proofs.SessionOrder.{session_at, none_yet, own_value, other_value}
+use Rattle.std.{proofs.{Common.{refl, sym, subst, arith, inl, inr, get_or}, lemmas.Bool.{cases_eq}}, specs.Option.{IsSomeAnd}}
+use Rattle.lab_table.{specs.Sessions.{all_sessions}, proofs.SessionOrder.{session_at, none_yet, own_value, other_value}}
 use Rattle.lab_session.specs.Compared.{Says}
 use Rattle.lab_session.proofs.comparison.unwalked.Goals as goal
 

@@ -1,9 +1,6 @@
-use Rattle.std.proofs.Common.{List}
-use Rattle.std.specs.Option.{IsSomeAnd}
-use Rattle.lab_table.specs.Sessions.{of_session}
-use Rattle.lab_table.proofs.SessionOrder.{AllUpTo}
-use Rattle.lab_session.specs.declared.seat.Call.{Call}
-use Rattle.lab_session.specs.Compared.{Says}
+use Rattle.std.{proofs.Common.{List}, specs.Option.{IsSomeAnd}}
+use Rattle.lab_table.{specs.Sessions.{of_session}, proofs.SessionOrder.{AllUpTo}}
+use Rattle.lab_session.specs.{declared.seat.Call.{Call}, Compared.{Says}}
 use Rattle.lab_session.proofs.comparison.unwalked.Given as goal
 
 -- those of the sessions so far

@@ -1,6 +1,4 @@
-use Rattle.std.proofs.Common.{◌≡◌, take}
-use Rattle.std.specs.Prelude.{None}
-use Rattle.std.specs.List.{All}
+use Rattle.std.{proofs.Common.{◌≡◌, take}, specs.{Prelude.{None}, List.{All}}}
 use Rattle.lab_session.proofs.free.first_fault.Given as goal
 
 -- none so far

@@ -1,6 +1,5 @@
 use Rattle.lab_engine.specs.Journal.{EngineRun}
-use Rattle.lab_session.specs.Bench.{IsRunOf}
-use Rattle.lab_session.proofs.Filled.{some_full}
+use Rattle.lab_session.{specs.Bench.{IsRunOf}, proofs.Filled.{some_full}}
 use Rattle.lab_session.proofs.free.give_lines.Goals as goal
 
 pub returns-then-is_active-clause-full : goal.returns-then-is_active-clause-full

@@ -1,6 +1,5 @@
 use Rattle.std.proofs.Common.{◌≡◌, ◌≤◌, take, length}
-use Rattle.lab_session.specs.Play.{given_lines, commands_of}
-use Rattle.lab_session.specs.Free.{commands_in}
+use Rattle.lab_session.specs.{Play.{given_lines, commands_of}, Free.{commands_in}}
 use Rattle.lab_session.proofs.free.give_lines.Given as goal
 
 -- the session's lines so far

@@ -6,12 +6,10 @@ use denote.Param.{param}
 use denote.Param.Send.{param_send, sendable}
 use denote.Param.SendFields.{declared_send}
 use mir.Syntax.{named}
-use Rattle.std.proofs.Common.{List}
-use Rattle.std.proofs.Crossing.{crosses}
+use Rattle.std.proofs.{Common.{List}, Crossing.{crosses}}
 use Rattle.lab_session.proofs.lab.Lab.TheSendSync as lab
-use Rattle.lab_session.proofs.Sending.{ended_send, line_sync, seat_send}
+use Rattle.lab_session.proofs.{Sending.{ended_send, line_sync, seat_send}, free.play_each.Lts.{arg-12-2, of-24, name-32}}
 use Rattle.lab_session.proofs.free.play_each.Goals as goal
-use Rattle.lab_session.proofs.free.play_each.Lts.{arg-12-2, of-24, name-32}
 
 -- what a thread runs may go to it, as each of its captures may
 pub spawn_with-requires-send-F : goal.spawn_with-requires-send-F

@@ -1,7 +1,5 @@
-use Rattle.std.proofs.Common.{◌≡◌}
-use Rattle.std.specs.List.{All}
-use Rattle.lab_session.specs.Play.{given_lines}
-use Rattle.lab_session.specs.Free.{AllPlayed}
+use Rattle.std.{proofs.Common.{◌≡◌}, specs.List.{All}}
+use Rattle.lab_session.specs.{Play.{given_lines}, Free.{AllPlayed}}
 use Rattle.lab_session.proofs.free.play_each.Given as goal
 
 -- the promises are of these lines, and the idle seats have all that their sessions give

@@ -1,9 +1,6 @@
 use Rattle.std.proofs.Common.{List, sym, subst}
 use Rattle.lab_script.specs.declared.script.Line.{Line}
-use Rattle.lab_session.specs.Play.{given_lines}
-use Rattle.lab_session.specs.Closing.{AreClosed, IsLabCloseFault}
-use Rattle.lab_session.specs.Free.{AllPlayed, IsFreeFault}
-use Rattle.lab_session.proofs.FreePlays.{all_played, closed_played, unclosed_free}
+use Rattle.lab_session.{specs.{Play.{given_lines}, Closing.{AreClosed, IsLabCloseFault}, Free.{AllPlayed, IsFreeFault}}, proofs.FreePlays.{all_played, closed_played, unclosed_free}}
 use Rattle.lab_session.proofs.free.play_from.Goals as goal
 
 pub returns-in-Ok-close-clause-played : goal.returns-in-Ok-close-clause-played

@@ -1,7 +1,6 @@
 use Rattle.std.proofs.Common.{◌≡◌, ◌-◌, ◌+◌, refl, ◌∙◌, ap, map, arith}
 use Rattle.lab_table.proofs.SessionOrder.{session_at}
-use Rattle.lab_engine.specs.Recording.{numbers_from}
-use Rattle.lab_engine.proofs.GatheredNumbers.{each_next}
+use Rattle.lab_engine.{specs.Recording.{numbers_from}, proofs.GatheredNumbers.{each_next}}
 use Rattle.lab_session.specs.Seats.{new_seat}
 use Rattle.lab_session.proofs.lab.new_seats.Goals as goal
 

@@ -1,9 +1,7 @@
 use Rattle.std.proofs.Common.{List, sym, ap, subst, ◌∙◌}
 use Rattle.lab_script.specs.declared.script.Line.{Line}
-use Rattle.lab_engine.specs.Log.{past_of}
-use Rattle.lab_engine.specs.OverLimit.{IsRecordFault}
-use Rattle.lab_session.specs.Play.{given_lines, unclosed_fault, IsLegalPlay, IsScriptedFault}
-use Rattle.lab_session.proofs.Closings.{unrecorded_play_is}
+use Rattle.lab_engine.specs.{Log.{past_of}, OverLimit.{IsRecordFault}}
+use Rattle.lab_session.{specs.Play.{given_lines, unclosed_fault, IsLegalPlay, IsScriptedFault}, proofs.Closings.{unrecorded_play_is}}
 use Rattle.lab_session.proofs.scripted.play_script.Goals as goal
 
 pub returns-in-Err-into_recording-clause-fault : goal.returns-in-Err-into_recording-clause-fault

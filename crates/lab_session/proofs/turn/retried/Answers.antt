@@ -1,12 +1,6 @@
-use Rattle.std.proofs.Common.{rules, ◌≡◌, ◌≢◌, true, sym, subst, Some, None}
-use Rattle.std.specs.Prelude.{MatchOption}
-use Rattle.lab_engine.specs.Log.{past_of}
-use Rattle.lab_engine.specs.Recording.{is_answer, IsLeastRetryable, NoneRetryable}
-use Rattle.lab_session.specs.Seats.{Seated, GrowsBy}
-use Rattle.lab_session.specs.Turns.{IsRetried}
-use Rattle.lab_session.specs.Waiting.{TellsFull}
-use Rattle.lab_session.proofs.Filled.{tells_full}
-use Rattle.lab_session.proofs.Turning.{grown, not_least, not_told_busy, retry_answers}
+use Rattle.std.{proofs.Common.{rules, ◌≡◌, ◌≢◌, true, sym, subst, Some, None}, specs.Prelude.{MatchOption}}
+use Rattle.lab_engine.specs.{Log.{past_of}, Recording.{is_answer, IsLeastRetryable, NoneRetryable}}
+use Rattle.lab_session.{specs.{Seats.{Seated, GrowsBy}, Turns.{IsRetried}, Waiting.{TellsFull}}, proofs.{Filled.{tells_full}, Turning.{grown, not_least, not_told_busy, retry_answers}}}
 use Rattle.lab_session.proofs.turn.retried.Goals as goal
 
 pub returns-then-ne-clause-not_due : goal.returns-then-ne-clause-not_due

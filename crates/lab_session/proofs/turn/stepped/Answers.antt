@@ -1,16 +1,6 @@
-use Rattle.std.proofs.Common.{rules, ◌≡◌, ◌<◌, ◌+◌, length, true, false, refl, sym, subst, Some}
-use Rattle.std.proofs.lemmas.Bool.{both_ways}
-use Rattle.std.specs.Prelude.{IsSome}
-use Rattle.std.specs.Vec.{vec_capacity}
-use Rattle.lab_engine.specs.Log.{past_of, waiting}
-use Rattle.lab_engine.specs.Recording.{is_answer}
-use Rattle.lab_session.specs.declared.seat.Call.{Call}
-use Rattle.lab_session.specs.Seats.{Seated, GrowsBy}
-use Rattle.lab_session.specs.Turns.{IsStepped}
-use Rattle.lab_session.specs.Waiting.{TellsFull}
-use Rattle.lab_session.proofs.Filled.{tells_full}
-use Rattle.lab_session.proofs.Places.{placed, no_end}
-use Rattle.lab_session.proofs.Turning.{grown, unanswered_waits, unanswered_asks}
+use Rattle.std.{proofs.{Common.{rules, ◌≡◌, ◌<◌, ◌+◌, length, true, false, refl, sym, subst, Some}, lemmas.Bool.{both_ways}}, specs.{Prelude.{IsSome}, Vec.{vec_capacity}}}
+use Rattle.lab_engine.specs.{Log.{past_of, waiting}, Recording.{is_answer}}
+use Rattle.lab_session.{specs.{declared.seat.Call.{Call}, Seats.{Seated, GrowsBy}, Turns.{IsStepped}, Waiting.{TellsFull}}, proofs.{Filled.{tells_full}, Places.{placed, no_end}, Turning.{grown, unanswered_waits, unanswered_asks}}}
 use Rattle.lab_session.proofs.turn.stepped.Goals as goal
 
 pub returns-then-not-is_answered-clause-stepped : goal.returns-then-not-is_answered-clause-stepped

@@ -8,8 +8,7 @@ use Rattle.lab_table.proofs.number.Session.TheSendSync as session
 use Rattle.lab_table.proofs.predicate.Pred.TheLaws.TheKnot as predicate
 use Rattle.lab_table.specs.contracts.statement.Command as Command
 use Rattle.lab_engine.proofs.event.Outcome.TheSendSync as outcome
-use Rattle.lab_engine.specs.declared.engine.Engine.{Ghosts as Engine}
-use Rattle.lab_engine.proofs.Crosses.{journal}
+use Rattle.lab_engine.{specs.declared.engine.Engine.{Ghosts as Engine}, proofs.Crosses.{journal}}
 use Rattle.lab_session.specs.contracts.bench.Receipt as Receipt
 use Rattle.lab_session.specs.contracts.lab.Lab as Lab
 use Rattle.lab_session.proofs.lab.Lab.TheSendSync as lab_sync

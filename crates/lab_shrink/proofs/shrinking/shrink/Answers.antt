@@ -1,6 +1,5 @@
 use Rattle.std.proofs.Common.{subst}
-use Rattle.lab_shrink.specs.Smaller.{IsSmaller}
-use Rattle.lab_shrink.proofs.SmallerStill.{smaller_still}
+use Rattle.lab_shrink.{specs.Smaller.{IsSmaller}, proofs.SmallerStill.{smaller_still}}
 use Rattle.lab_shrink.proofs.shrinking.shrink.Goals as goal
 
 pub loop-round-preserved : goal.loop-round-preserved

@@ -1,9 +1,6 @@
-use Rattle.std.proofs.Common.{subst, IfSome}
-use Rattle.std.proofs.lemmas.Option.{IfSome_then}
-use Rattle.std.proofs.lemmas.Result.{IfOk-weaker}
+use Rattle.std.proofs.{Common.{subst, IfSome}, lemmas.{Option.{IfSome_then}, Result.{IfOk-weaker}}}
 use Rattle.lab_shrink.specs.Smaller.{IsSmaller}
-use Rattle.lab_shrink_commands.specs.Answer.{IsGoalOf}
-use Rattle.lab_shrink_commands.proofs.SmallerFiles.{smaller_file_is}
+use Rattle.lab_shrink_commands.{specs.Answer.{IsGoalOf}, proofs.SmallerFiles.{smaller_file_is}}
 use Rattle.lab_shrink_commands.proofs.shrinking.smaller_file.Goals as goal
 
 pub returns : goal.returns

@@ -1,5 +1,4 @@
-use Rattle.lab_statement.proofs.Common.{◌+◌, ◌∙◌, take_rest}
-use Rattle.lab_statement.proofs.Remarks.{no_cut, cut_there}
+use Rattle.lab_statement.proofs.{Common.{◌+◌, ◌∙◌, take_rest}, Remarks.{no_cut, cut_there}}
 use Rattle.lab_statement.proofs.line.code_and_remark.Goals as goal
 
 pub returns-in-None : goal.returns-in-None

@@ -1,6 +1,4 @@
-use Rattle.lab_statement.proofs.Common.{◌≡◌, ℕ, List, ◌++◌, ap, ◌∙◌, printed_statement}
-use Rattle.lab_statement.proofs.StatementRead.{spells_in}
-use Rattle.lab_statement.proofs.PrintedStatements.{statement_spells}
+use Rattle.lab_statement.proofs.{Common.{◌≡◌, ℕ, List, ◌++◌, ap, ◌∙◌, printed_statement}, StatementRead.{spells_in}, PrintedStatements.{statement_spells}}
 use Rattle.lab_statement.proofs.print.print_statement.Goals as goal
 
 pub returns-clause-again : goal.returns-clause-again

@@ -1,5 +1,4 @@
-use Rattle.lab_statement.proofs.Common.{◌≡◌, ◌∷◌, ◌++◌, [], ap, sym, ◌∙◌, arith, drop, codes, common_steps, drop_all, printed_row, printed_rows, rows_or}
-use Rattle.lab_statement.proofs.Joined.{all_joined, followed}
+use Rattle.lab_statement.proofs.{Common.{◌≡◌, ◌∷◌, ◌++◌, [], ap, sym, ◌∙◌, arith, drop, codes, common_steps, drop_all, printed_row, printed_rows, rows_or}, Joined.{all_joined, followed}}
 use Rattle.lab_statement.proofs.row_text.spell_list.Goals as goal
 
 pub returns : goal.returns

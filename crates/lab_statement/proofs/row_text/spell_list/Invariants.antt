@@ -1,5 +1,4 @@
-use Rattle.lab_statement.proofs.Common.{◌≡◌, ◌++◌, drop, printed_rows}
-use Rattle.lab_statement.proofs.Joined.{followed}
+use Rattle.lab_statement.proofs.{Common.{◌≡◌, ◌++◌, drop, printed_rows}, Joined.{followed}}
 use Rattle.lab_statement.proofs.row_text.spell_list.Given as goal
 
 abbrev pub invariant-loop-row : goal.invariant-loop-row

@@ -1,6 +1,4 @@
-use Rattle.lab_statement.proofs.Common.{◌≡◌, ◌+◌, ◌∷◌, ◌++◌, map, drop, drop_more, ap, sym, subst, ◌∙◌, arith, common_steps, Each, joined}
-use Rattle.lab_statement.proofs.Joined.{followed}
-use Rattle.lab_statement.proofs.PutTexts.{first_put, next_put, same_length}
+use Rattle.lab_statement.proofs.{Common.{◌≡◌, ◌+◌, ◌∷◌, ◌++◌, map, drop, drop_more, ap, sym, subst, ◌∙◌, arith, common_steps, Each, joined}, Joined.{followed}, PutTexts.{first_put, next_put, same_length}}
 use Rattle.lab_statement.proofs.spell.spell_all.Goals as goal
 
 pub loop-item-init : goal.loop-item-init

@@ -1,5 +1,4 @@
-use Rattle.lab_statement.proofs.Common.{◌≡◌, ◌++◌, drop, map, Each, joined}
-use Rattle.lab_statement.proofs.Joined.{followed}
+use Rattle.lab_statement.proofs.{Common.{◌≡◌, ◌++◌, drop, map, Each, joined}, Joined.{followed}}
 use Rattle.lab_statement.proofs.spell.spell_all.Given as goal
 
 abbrev pub invariant-loop-item : goal.invariant-loop-item

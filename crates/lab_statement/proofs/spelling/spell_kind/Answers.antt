@@ -1,5 +1,4 @@
-use Rattle.lab_statement.proofs.Common.{◌++◌, ap, codes, printed_kind, printed_row, printed_where}
-use Rattle.lab_statement.proofs.PutTexts.{puts_rest}
+use Rattle.lab_statement.proofs.{Common.{◌++◌, ap, codes, printed_kind, printed_row, printed_where}, PutTexts.{puts_rest}}
 use Rattle.lab_statement.proofs.spelling.spell_kind.Goals as goal
 
 pub returns-then-spell_both-clause-text : goal.returns-then-spell_both-clause-text

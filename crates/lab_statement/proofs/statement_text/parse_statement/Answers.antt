@@ -1,6 +1,4 @@
-use Rattle.lab_statement.proofs.Common.{List, sym, subst, ◌∙◌, Token, AreStatementTokens, IsStatementFault}
-use Rattle.lab_statement.proofs.StatementText.{text_spells, stop_fault}
-use Rattle.lab_statement.proofs.StatementRead.{spells_in, spells_once, fault_only, fault_read}
+use Rattle.lab_statement.proofs.{Common.{List, sym, subst, ◌∙◌, Token, AreStatementTokens, IsStatementFault}, StatementText.{text_spells, stop_fault}, StatementRead.{spells_in, spells_once, fault_only, fault_read}}
 use Rattle.lab_statement.proofs.statement_text.parse_statement.Goals as goal
 
 pub returns-in-Ok-clause-found : goal.returns-in-Ok-clause-found

@@ -1,5 +1,4 @@
-use Rattle.lab_statement.proofs.Common.{[], ◌++◌, ◌∙◌, ap, sym, arith, letters, tokens, tokens_from}
-use Rattle.lab_statement.proofs.Tokens.{blank_begins, comma_begins, digit_begins, mark_begins, placed, word_begins}
+use Rattle.lab_statement.proofs.{Common.{[], ◌++◌, ◌∙◌, ap, sym, arith, letters, tokens, tokens_from}, Tokens.{blank_begins, comma_begins, digit_begins, mark_begins, placed, word_begins}}
 use Rattle.lab_statement.proofs.token.tokens_into.Goals as goal
 
 pub loop-first-preserved-then-is_ascii_digit : goal.loop-first-preserved-then-is_ascii_digit

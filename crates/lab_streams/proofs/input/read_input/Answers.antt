@@ -1,6 +1,5 @@
 use Rattle.std.proofs.Common.{rules}
-use Rattle.lab_streams.specs.Input.{max_input_bytes}
-use Rattle.lab_streams.proofs.Taken.{takes_more, read_whole, read_out}
+use Rattle.lab_streams.{specs.Input.{max_input_bytes}, proofs.Taken.{takes_more, read_whole, read_out}}
 use Rattle.lab_streams.proofs.input.read_input.Goals as goal
 
 pub returns-in-End : goal.returns-in-End

@@ -1,7 +1,5 @@
-use Rattle.std.proofs.Common.{subst, ◌∙◌}
-use Rattle.std.specs.Io.KnownBytes.{Appends}
-use Rattle.lab_streams.proofs.Taken.{said_of_input}
-use Rattle.lab_streams.proofs.Unchanged.{kept, where_refused}
+use Rattle.std.{proofs.Common.{subst, ◌∙◌}, specs.Io.KnownBytes.{Appends}}
+use Rattle.lab_streams.proofs.{Taken.{said_of_input}, Unchanged.{kept, where_refused}}
 use Rattle.lab_streams.proofs.subcommand.answer_input.Goals as goal
 
 pub returns-clause-written : goal.returns-clause-written

@@ -1,6 +1,5 @@
 use Rattle.std.proofs.Common.{◌∙◌, sym}
-use Rattle.lab_table.specs.Row.{of_table}
-use Rattle.lab_table.proofs.OneTable.{all_are}
+use Rattle.lab_table.{specs.Row.{of_table}, proofs.OneTable.{all_are}}
 use Rattle.lab_table.proofs.by_row.are_in.Goals as goal
 
 pub returns-then-is_in : goal.returns-then-is_in

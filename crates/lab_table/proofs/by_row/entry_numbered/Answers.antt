@@ -1,10 +1,5 @@
-use Rattle.std.proofs.Common.{◌∙◌, ap, sym, Some, None, cond}
-use Rattle.std.proofs.lemmas.Bool.{ltb-true, ltb-false}
-use Rattle.std.specs.Prelude.{option_map}
-use Rattle.std.specs.Option.{option_copied}
-use Rattle.lab_table.specs.Row.{numbered}
-use Rattle.lab_table.proofs.Maps.{tested_same}
-use Rattle.lab_table.proofs.Searching.{found_nothing, found_entry}
+use Rattle.std.{proofs.{Common.{◌∙◌, ap, sym, Some, None, cond}, lemmas.Bool.{ltb-true, ltb-false}}, specs.{Prelude.{option_map}, Option.{option_copied}}}
+use Rattle.lab_table.{specs.Row.{numbered}, proofs.{Maps.{tested_same}, Searching.{found_nothing, found_entry}}}
 use Rattle.lab_table.proofs.by_row.entry_numbered.Goals as goal
 
 pub returns-in_err-entry : goal.returns-in_err-entry

@@ -1,8 +1,5 @@
-use Rattle.std.proofs.Common.{sym, ap, ◌∙◌}
-use Rattle.std.specs.Prelude.{nat_lt}
-use Rattle.std.specs.Ordering.{is_gt}
-use Rattle.lab_table.specs.Row.{Row, row_cmp, numbered}
-use Rattle.lab_table.proofs.RowOrder.{in_one_table, in_two_tables, behind_greater}
+use Rattle.std.{proofs.Common.{sym, ap, ◌∙◌}, specs.{Prelude.{nat_lt}, Ordering.{is_gt}}}
+use Rattle.lab_table.{specs.Row.{Row, row_cmp, numbered}, proofs.RowOrder.{in_one_table, in_two_tables, behind_greater}}
 use Rattle.lab_table.proofs.by_row.is_behind.Goals as goal
 
 pub returns-then-eq : goal.returns-then-eq

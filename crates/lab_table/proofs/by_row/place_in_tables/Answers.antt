@@ -1,8 +1,5 @@
-use Rattle.std.proofs.Common.{rules}
-use Rattle.std.proofs.lemmas.List.Sorted.{IsPartitionPoint-from_clause}
-use Rattle.lab_table.specs.Row.{numbered}
-use Rattle.lab_table.specs.Running.{comes_after}
-use Rattle.lab_table.proofs.Searching.{parted, point_is}
+use Rattle.std.proofs.{Common.{rules}, lemmas.List.Sorted.{IsPartitionPoint-from_clause}}
+use Rattle.lab_table.{specs.{Row.{numbered}, Running.{comes_after}}, proofs.Searching.{parted, point_is}}
 use Rattle.lab_table.proofs.by_row.place_in_tables.Goals as goal
 
 pub returns-clause-value : goal.returns-clause-value

@@ -1,6 +1,4 @@
-use Rattle.std.proofs.Common.{◌∙◌, ap, sym, Some, None, cond}
-use Rattle.std.proofs.lemmas.Bool.{ltb-true, ltb-false}
-use Rattle.std.specs.Option.{option_copied}
+use Rattle.std.{proofs.{Common.{◌∙◌, ap, sym, Some, None, cond}, lemmas.Bool.{ltb-true, ltb-false}}, specs.Option.{option_copied}}
 use Rattle.lab_table.proofs.Searching.{found_nothing, found_entry}
 use Rattle.lab_table.proofs.by_row.value_of.Goals as goal
 

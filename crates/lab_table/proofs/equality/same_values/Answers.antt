@@ -1,5 +1,4 @@
-use Rattle.std.proofs.lemmas.Bool.Decides.{Decides-int_eq}
-use Rattle.std.proofs.lemmas.Slice.Eq.{slice_eq-Decides}
+use Rattle.std.proofs.lemmas.{Bool.Decides.{Decides-int_eq}, Slice.Eq.{slice_eq-Decides}}
 use Rattle.lab_table.proofs.equality.same_values.Goals as goal
 
 pub returns : goal.returns

@@ -1,6 +1,4 @@
-use Rattle.std.proofs.Common.{rules}
-use Rattle.std.specs.Prelude.{not}
-use Rattle.std.proofs.lemmas.Fn.{filter_same}
+use Rattle.std.{proofs.{Common.{rules}, lemmas.Fn.{filter_same}}, specs.Prelude.{not}}
 use Rattle.lab_table.specs.Statement.{picks}
 use Rattle.lab_table.proofs.table.remove_each.Goals as goal
 

@@ -1,5 +1,4 @@
-use Rattle.std.proofs.Common.{◌∙◌, ap, sym, set, arith}
-use Rattle.std.proofs.lemmas.List.Edits.{map_over_more}
+use Rattle.std.proofs.{Common.{◌∙◌, ap, sym, set, arith}, lemmas.List.Edits.{map_over_more}}
 use Rattle.lab_table.specs.Running.{updated_row}
 use Rattle.lab_table.proofs.table.update_each.Goals as goal
 

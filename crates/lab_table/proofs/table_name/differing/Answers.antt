@@ -1,6 +1,4 @@
-use Rattle.std.proofs.Common.{◌^◌, ◌%◌, ap, ◌∙◌, arith, w8}
-use Rattle.std.proofs.lemmas.Simd.{tops_compared, length-zip2, mask_l-mod}
-use Rattle.std.specs.Simd.Lanes.{mask_l}
+use Rattle.std.{proofs.{Common.{◌^◌, ◌%◌, ap, ◌∙◌, arith, w8}, lemmas.Simd.{tops_compared, length-zip2, mask_l-mod}}, specs.Simd.Lanes.{mask_l}}
 use Rattle.lab_table.specs.Differences.{differ}
 use Rattle.lab_table.proofs.table_name.differing.Goals as goal
 

@@ -1,9 +1,7 @@
 use denote.Param.Send.{sendable}
-use Rattle.std.proofs.Common.{inl, sym, ◌∙◌}
-use Rattle.std.proofs.lemmas.Result.{IfErr-weaker}
+use Rattle.std.proofs.{Common.{inl, sym, ◌∙◌}, lemmas.Result.{IfErr-weaker}}
 use Rattle.lab_engine.proofs.Crosses.{journal}
-use Rattle.lab_session.specs.Play.{given_lines}
-use Rattle.lab_session.specs.Free.{IsFreeFault}
+use Rattle.lab_session.specs.{Play.{given_lines}, Free.{IsFreeFault}}
 use Rattle.lab_commands.proofs.PlayRefusals.{refused_at}
 use Rattle.lab_commands.proofs.free.FreePlayer.play.Goals as goal
 

@@ -1,10 +1,5 @@
-use Rattle.std.proofs.Common.{◌∙◌, ap, drop}
-use Rattle.std.specs.FinMap.{empty}
-use Rattle.lab_cut.specs.PartOf.{numbered}
-use Rattle.lab_cut.specs.Left.{left_of}
-use Rattle.lab_cut.specs.Kept.{new_numbers, last_writes}
-use Rattle.lab_cut.proofs.KeptSteps.{one_number, one_write, one_counted}
-use Rattle.lab_cut.proofs.Steps.{drop_one_more}
+use Rattle.std.{proofs.Common.{◌∙◌, ap, drop}, specs.FinMap.{empty}}
+use Rattle.lab_cut.{specs.{PartOf.{numbered}, Left.{left_of}, Kept.{new_numbers, last_writes}}, proofs.{KeptSteps.{one_number, one_write, one_counted}, Steps.{drop_one_more}}}
 use Rattle.lab_cut.proofs.kept.Kept.of.Goals as goal
 
 pub loop-index-preserved : goal.loop-index-preserved

@@ -1,8 +1,5 @@
-use Rattle.std.proofs.Common.{◌≡◌, ◌+◌, ◌≤◌, ◌++◌, drop}
-use Rattle.std.specs.FinMap.{empty}
-use Rattle.lab_cut.specs.PartOf.{numbered}
-use Rattle.lab_cut.specs.Left.{left_of}
-use Rattle.lab_cut.specs.Kept.{new_numbers, last_writes}
+use Rattle.std.{proofs.Common.{◌≡◌, ◌+◌, ◌≤◌, ◌++◌, drop}, specs.FinMap.{empty}}
+use Rattle.lab_cut.specs.{PartOf.{numbered}, Left.{left_of}, Kept.{new_numbers, last_writes}}
 use Rattle.lab_cut.proofs.kept.Kept.of.Given as goal
 
 abbrev pub invariant-loop-index : goal.invariant-loop-index

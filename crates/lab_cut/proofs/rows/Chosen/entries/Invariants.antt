@@ -1,5 +1,4 @@
-use Rattle.std.proofs.Common.{◌≡◌, ◌++◌, drop}
-use Rattle.std.specs.FinMap.Entries.{where_key}
+use Rattle.std.{proofs.Common.{◌≡◌, ◌++◌, drop}, specs.FinMap.Entries.{where_key}}
 use Rattle.lab_table.specs.Row.{row_cmp}
 use Rattle.lab_cut.specs.Chosen.{has}
 use Rattle.lab_cut.proofs.rows.Chosen.entries.Given as goal

@@ -1,11 +1,6 @@
-use Rattle.std.proofs.Common.{◌≡◌, ◌∙◌, ◌+◌, ◌∷◌, ◌||◌, drop, sym, ap}
-use Rattle.std.proofs.lemmas.List.{drop_more, drop_all}
-use Rattle.std.specs.Prelude.{is_some}
-use Rattle.std.specs.List.{list_any}
-use Rattle.std.specs.FinMap.{get, get-empty}
+use Rattle.std.{proofs.{Common.{◌≡◌, ◌∙◌, ◌+◌, ◌∷◌, ◌||◌, drop, sym, ap}, lemmas.List.{drop_more, drop_all}}, specs.{Prelude.{is_some}, List.{list_any}, FinMap.{get, get-empty}}}
 use Rattle.lab_table.specs.Row.{row_cmp, row_eq}
-use Rattle.lab_cut.specs.Chosen.{has}
-use Rattle.lab_cut.proofs.ChosenRows.{noted_alone, chosen_step}
+use Rattle.lab_cut.{specs.Chosen.{has}, proofs.ChosenRows.{noted_alone, chosen_step}}
 use Rattle.lab_cut.proofs.rows.Chosen.of.Goals as goal
 
 pub loop-row-init : goal.loop-row-init

@@ -1,5 +1,4 @@
-use Rattle.std.proofs.Common.{◌≡◌, ◌||◌, drop}
-use Rattle.std.specs.List.{list_any}
+use Rattle.std.{proofs.Common.{◌≡◌, ◌||◌, drop}, specs.List.{list_any}}
 use Rattle.lab_table.specs.Row.{Row, row_eq}
 use Rattle.lab_cut.specs.Chosen.{has}
 use Rattle.lab_cut.proofs.rows.Chosen.of.Given as goal

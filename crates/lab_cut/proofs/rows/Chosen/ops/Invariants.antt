@@ -1,6 +1,5 @@
 use Rattle.std.proofs.Common.{◌≡◌, ◌++◌, map, drop}
-use Rattle.lab_cut.specs.Chosen.{has}
-use Rattle.lab_cut.specs.InRows.{op_in_rows}
+use Rattle.lab_cut.specs.{Chosen.{has}, InRows.{op_in_rows}}
 use Rattle.lab_cut.proofs.rows.Chosen.ops.Given as goal
 
 abbrev pub invariant-loop-op : goal.invariant-loop-op

@@ -1,10 +1,6 @@
-use Rattle.std.proofs.Common.{◌∙◌, ap}
-use Rattle.std.specs.FinMap.{from_sorted}
-use Rattle.std.specs.FinMap.Entries.{where_key}
+use Rattle.std.{proofs.Common.{◌∙◌, ap}, specs.FinMap.{from_sorted, Entries.{where_key}}}
 use Rattle.lab_table.specs.Row.{row_cmp}
-use Rattle.lab_cut.specs.Chosen.{has}
-use Rattle.lab_cut.proofs.MadeEntries.{sorted_where}
-use Rattle.lab_cut.proofs.SameShape.{retained}
+use Rattle.lab_cut.{specs.Chosen.{has}, proofs.{MadeEntries.{sorted_where}, SameShape.{retained}}}
 use Rattle.lab_cut.proofs.rows.Chosen.rows.Goals as goal
 
 pub new-requires : goal.new-requires

@@ -1,6 +1,5 @@
 use Rattle.std.proofs.Common.{◌≡◌, ◌++◌, map, drop}
-use Rattle.lab_cut.specs.Chosen.{has}
-use Rattle.lab_cut.specs.InRows.{txn_in_rows}
+use Rattle.lab_cut.specs.{Chosen.{has}, InRows.{txn_in_rows}}
 use Rattle.lab_cut.proofs.rows.Chosen.txns.Given as goal
 
 abbrev pub invariant-loop-txn : goal.invariant-loop-txn

@@ -1,8 +1,5 @@
-use Rattle.std.proofs.Common.{refl, sym, ◌∙◌}
-use Rattle.std.proofs.lemmas.Option.{none-some, same_Some}
-use Rattle.std.proofs.Common.{subst}
-use Rattle.lab_deps.specs.CellGains.{IsOfSet, IsOfTableAt}
-use Rattle.lab_deps.proofs.CellsGained.{cells_none, cells_same}
+use Rattle.std.proofs.{Common.{refl, sym, ◌∙◌, subst}, lemmas.Option.{none-some, same_Some}}
+use Rattle.lab_deps.{specs.CellGains.{IsOfSet, IsOfTableAt}, proofs.CellsGained.{cells_none, cells_same}}
 use Rattle.lab_deps.proofs.arrows.Arrows.add_at.Goals as goal
 
 pub returns-in-None-clause-cells : goal.returns-in-None-clause-cells

@@ -1,9 +1,6 @@
-use Rattle.std.proofs.Common.{◌≡◌, true, cond, sym, ◌∙◌, subst, refl, arith}
-use Rattle.std.proofs.lemmas.Bool.{false≢true}
+use Rattle.std.proofs.{Common.{◌≡◌, true, cond, sym, ◌∙◌, subst, refl, arith}, lemmas.Bool.{false≢true}}
 use Rattle.lab_sets.specs.Sets.{has}
-use Rattle.lab_deps.specs.CellGains.{CellsGain, IsBetween, IsOfSet}
-use Rattle.lab_deps.proofs.CellsGained.{cells_none}
-use Rattle.lab_deps.proofs.TablesGained.{set_none, set_next}
+use Rattle.lab_deps.{specs.CellGains.{CellsGain, IsBetween, IsOfSet}, proofs.{CellsGained.{cells_none}, TablesGained.{set_none, set_next}}}
 use Rattle.lab_deps.proofs.arrows.Arrows.add_set.Goals as goal
 
 pub returns-then-is_bare-clause-cells : goal.returns-then-is_bare-clause-cells

@@ -1,6 +1,5 @@
 use Rattle.std.proofs.Common.{◌≡◌, ◌∙◌, subst, refl, arith}
-use Rattle.lab_deps.specs.CellGains.{CellsGain, IsOfTable, IsOfTableAt}
-use Rattle.lab_deps.proofs.TablesGained.{table_none, table_next}
+use Rattle.lab_deps.{specs.CellGains.{CellsGain, IsOfTable, IsOfTableAt}, proofs.TablesGained.{table_none, table_next}}
 use Rattle.lab_deps.proofs.arrows.Arrows.add_table.Goals as goal
 
 pub loop-one-init : goal.loop-one-init

@@ -1,7 +1,5 @@
-use Rattle.std.proofs.Common.{◌≡◌, ◌+◌, ◌*◌, [], ◌∷◌, ◌++◌, get_or, set, sym, ap, ◌∙◌, subst}
-use Rattle.std.specs.Prelude.{bit_or}
-use Rattle.lab_deps.specs.KindBits.{bit, place, cell_at, Tells}
-use Rattle.lab_deps.proofs.ToldKinds.{told_next}
+use Rattle.std.{proofs.Common.{◌≡◌, ◌+◌, ◌*◌, [], ◌∷◌, ◌++◌, get_or, set, sym, ap, ◌∙◌, subst}, specs.Prelude.{bit_or}}
+use Rattle.lab_deps.{specs.KindBits.{bit, place, cell_at, Tells}, proofs.ToldKinds.{told_next}}
 use Rattle.lab_deps.proofs.arrows.Arrows.mark_edge.Goals as goal
 
 pub returns-clause-told : goal.returns-clause-told

@@ -1,8 +1,6 @@
-use Rattle.std.proofs.Common.{◌≡◌, true, sym, ◌∙◌}
-use Rattle.std.proofs.lemmas.Bool.{false≢true}
+use Rattle.std.proofs.{Common.{◌≡◌, true, sym, ◌∙◌}, lemmas.Bool.{false≢true}}
 use Rattle.lab_sets.specs.Sets.{has}
-use Rattle.lab_deps.specs.CellGains.{IsBetween}
-use Rattle.lab_deps.proofs.CellsGained.{cells_none, cells_same}
+use Rattle.lab_deps.{specs.CellGains.{IsBetween}, proofs.CellsGained.{cells_none, cells_same}}
 use Rattle.lab_deps.proofs.arrows.Arrows.mark_in.Goals as goal
 
 pub returns-then-not-has-clause-cells : goal.returns-then-not-has-clause-cells

@@ -1,8 +1,5 @@
-use Rattle.std.proofs.Common.{◌≡◌, get_or, set, sym, ap, ◌∙◌, subst}
-use Rattle.std.specs.Prelude.{bit_or}
-use Rattle.lab_deps.specs.CellGains.{CellsGain}
-use Rattle.lab_deps.specs.KindBits.{bit}
-use Rattle.lab_deps.proofs.CellsGained.{cells_marked}
+use Rattle.std.{proofs.Common.{◌≡◌, get_or, set, sym, ap, ◌∙◌, subst}, specs.Prelude.{bit_or}}
+use Rattle.lab_deps.{specs.{CellGains.{CellsGain}, KindBits.{bit}}, proofs.CellsGained.{cells_marked}}
 use Rattle.lab_deps.proofs.arrows.Arrows.mark_pair.Goals as goal
 
 pub returns-clause-cells : goal.returns-clause-cells

@@ -1,5 +1,4 @@
-use Rattle.std.proofs.Common.{◌≡◌, ◌↔◌, true, sym, subst}
-use Rattle.std.specs.Prelude.{Contains}
+use Rattle.std.{proofs.Common.{◌≡◌, ◌↔◌, true, sym, subst}, specs.Prelude.{Contains}}
 use Rattle.lab_table.specs.Row.{Row}
 use Rattle.lab_deps.specs.KindBits.{has_bit, bits_of, edge_of}
 use Rattle.lab_deps.proofs.dependencies.Dependencies.kinds.Goals as goal

@@ -1,8 +1,5 @@
-use Rattle.std.proofs.Common.{subst}
-use Rattle.std.proofs.lemmas.Result.{IfOk-weaker}
-use Rattle.lab_deps.specs.KindSets.{among}
-use Rattle.lab_deps.specs.LeastEdge.{fits, IsLeast}
-use Rattle.lab_deps.proofs.LeastOfTwo.{found_there, found_from, found_to, found_kind, found_least, found_none}
+use Rattle.std.proofs.{Common.{subst}, lemmas.Result.{IfOk-weaker}}
+use Rattle.lab_deps.{specs.{KindSets.{among}, LeastEdge.{fits, IsLeast}}, proofs.LeastOfTwo.{found_there, found_from, found_to, found_kind, found_least, found_none}}
 use Rattle.lab_deps.proofs.dependencies.Dependencies.least.Goals as goal
 
 pub returns-clause-found : goal.returns-clause-found

@@ -1,6 +1,4 @@
-use Rattle.std.proofs.Common.{sym, subst}
-use Rattle.std.specs.Prelude.{Contains}
-use Rattle.std.proofs.lemmas.Result.{IfOk-weaker}
+use Rattle.std.{proofs.{Common.{sym, subst}, lemmas.Result.{IfOk-weaker}}, specs.Prelude.{Contains}}
 use Rattle.lab_deps.proofs.CollectedEdges.{collected_is_edge, edge_is_collected}
 use Rattle.lab_deps.proofs.dependencies.Dependencies.of.Goals as goal
 

@@ -1,6 +1,4 @@
-use Rattle.std.proofs.Common.{sym, subst}
-use Rattle.std.specs.Prelude.{Contains}
-use Rattle.std.proofs.lemmas.Result.{IfOk-weaker}
+use Rattle.std.{proofs.{Common.{sym, subst}, lemmas.Result.{IfOk-weaker}}, specs.Prelude.{Contains}}
 use Rattle.lab_deps.proofs.WriteEdges.{are_writes, writes_are}
 use Rattle.lab_deps.proofs.dependencies.Dependencies.of_writes.Goals as goal
 

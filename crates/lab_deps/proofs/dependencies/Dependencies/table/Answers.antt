@@ -1,8 +1,6 @@
-use Rattle.std.proofs.Common.{◌≡◌, ◌↔◌, true, subst}
-use Rattle.std.specs.Prelude.{Contains}
+use Rattle.std.{proofs.Common.{◌≡◌, ◌↔◌, true, subst}, specs.Prelude.{Contains}}
 use Rattle.lab_table.specs.Row.{Row}
-use Rattle.lab_deps.specs.ColumnRuns.{IsRun}
-use Rattle.lab_deps.specs.KindBits.{has_bit, bits_of, edge_of}
+use Rattle.lab_deps.specs.{ColumnRuns.{IsRun}, KindBits.{has_bit, bits_of, edge_of}}
 use Rattle.lab_deps.proofs.dependencies.Dependencies.table.Goals as goal
 
 pub invariant_of-result : goal.invariant_of-result

@@ -1,5 +1,4 @@
-use Rattle.std.proofs.Common.{◌≡◌, ◌+◌, ◌<◌, ℕ, Some}
-use Rattle.std.specs.Prelude.{slice_get}
+use Rattle.std.{proofs.Common.{◌≡◌, ◌+◌, ◌<◌, ℕ, Some}, specs.Prelude.{slice_get}}
 use Rattle.lab_deps.proofs.dependencies.table.start_of.Given as goal
 
 -- so far each follows the one before

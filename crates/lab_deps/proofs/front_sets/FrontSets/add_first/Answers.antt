@@ -1,8 +1,5 @@
-use Rattle.std.proofs.Common.{◌≡◌, ◌/◌, ◌*◌, Some, length, refl, sym, ap, ◌∙◌, subst, arith}
-use Rattle.std.specs.Prelude.{slice_get}
-use Rattle.std.proofs.lemmas.Option.{slice_get_read}
-use Rattle.lab_deps.specs.FrontSets.{IsFront}
-use Rattle.lab_deps.proofs.FrontGains.{gains_none}
+use Rattle.std.{proofs.{Common.{◌≡◌, ◌/◌, ◌*◌, Some, length, refl, sym, ap, ◌∙◌, subst, arith}, lemmas.Option.{slice_get_read}}, specs.Prelude.{slice_get}}
+use Rattle.lab_deps.{specs.FrontSets.{IsFront}, proofs.FrontGains.{gains_none}}
 use Rattle.lab_deps.proofs.front_sets.FrontSets.add_first.Goals as goal
 
 pub returns-then-count-eq0 : goal.returns-then-count-eq0

@@ -1,7 +1,5 @@
 use Rattle.std.proofs.Common.{◌⊎◌, true, false, subst, inl, inr}
-use Rattle.lab_deps.specs.CellGains.{CellsGain, IsOfTable}
-use Rattle.lab_deps.specs.declared.edge.Kind.TheVariants.{PredicateRead, PredicateAnti}
-use Rattle.lab_deps.proofs.CellsGained.{cells_then}
+use Rattle.lab_deps.{specs.{CellGains.{CellsGain, IsOfTable}, declared.edge.Kind.TheVariants.{PredicateRead, PredicateAnti}}, proofs.CellsGained.{cells_then}}
 use Rattle.lab_deps.proofs.gatherer.Gatherer.into_arrows.Goals as goal
 
 pub returns-clause-cells : goal.returns-clause-cells

@@ -1,11 +1,6 @@
-use Rattle.std.proofs.Common.{◌++◌, subst, append_assoc}
-use Rattle.std.proofs.lemmas.Result.{on_ok_weaker}
+use Rattle.std.proofs.{Common.{◌++◌, subst, append_assoc}, lemmas.Result.{on_ok_weaker}}
 use Rattle.lab_table.specs.Statement.{matches}
-use Rattle.lab_deps.specs.EdgesByRow.{walked, changes_along}
-use Rattle.lab_deps.specs.Gathering.{Gathers}
-use Rattle.lab_deps.specs.Turns.{items_of}
-use Rattle.lab_deps.proofs.AtTurns.{walked_by_changes}
-use Rattle.lab_deps.proofs.ExactGathering.{gathers_alike}
+use Rattle.lab_deps.{specs.{EdgesByRow.{walked, changes_along}, Gathering.{Gathers}, Turns.{items_of}}, proofs.{AtTurns.{walked_by_changes}, ExactGathering.{gathers_alike}}}
 use Rattle.lab_deps.proofs.gatherer.Gatherer.take_along.Goals as goal
 
 pub returns : goal.returns

@@ -1,8 +1,5 @@
 use Rattle.std.proofs.Common.{◌++◌, sym, subst}
-use Rattle.lab_deps.specs.EdgesByRow.{walked}
-use Rattle.lab_deps.specs.Gathering.{Gathers}
-use Rattle.lab_deps.specs.Turns.{items_of}
-use Rattle.lab_deps.proofs.ExactGathering.{gathers_walked}
+use Rattle.lab_deps.{specs.{EdgesByRow.{walked}, Gathering.{Gathers}, Turns.{items_of}}, proofs.ExactGathering.{gathers_walked}}
 use Rattle.lab_deps.proofs.gatherer.Gatherer.take_by_turning.Goals as goal
 
 pub returns : goal.returns

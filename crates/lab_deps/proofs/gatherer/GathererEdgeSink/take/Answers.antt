@@ -1,6 +1,5 @@
 use Rattle.std.proofs.Common.{◌∷◌, [], ◌++◌, sym, subst}
-use Rattle.lab_deps.specs.Gathering.{Gathers}
-use Rattle.lab_deps.proofs.Gathered.{gathers_edge}
+use Rattle.lab_deps.{specs.Gathering.{Gathers}, proofs.Gathered.{gathers_edge}}
 use Rattle.lab_deps.proofs.gatherer.GathererEdgeSink.take.Goals as goal
 
 pub returns : goal.returns

@@ -1,6 +1,4 @@
-use Rattle.std.proofs.Common.{subst}
-use Rattle.std.specs.Prelude.{IfSome}
-use Rattle.std.proofs.lemmas.Result.{on_ok_weaker}
+use Rattle.std.{proofs.{Common.{subst}, lemmas.Result.{on_ok_weaker}}, specs.Prelude.{IfSome}}
 use Rattle.lab_deps.specs.Turnings.{IsTurning, class_by}
 use Rattle.lab_deps.proofs.gatherer.GathererRowSink.take_walked.Goals as goal
 

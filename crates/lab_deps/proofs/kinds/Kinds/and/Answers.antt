@@ -1,7 +1,5 @@
-use Rattle.std.proofs.Common.{sym, ap, ◌∙◌, inl, inr}
-use Rattle.std.specs.Prelude.{bit_or}
-use Rattle.lab_deps.specs.KindBits.{has_bit}
-use Rattle.lab_deps.proofs.ToldKinds.{kinds_apart, bit_set, bit_other}
+use Rattle.std.{proofs.Common.{sym, ap, ◌∙◌, inl, inr}, specs.Prelude.{bit_or}}
+use Rattle.lab_deps.{specs.KindBits.{has_bit}, proofs.ToldKinds.{kinds_apart, bit_set, bit_other}}
 use Rattle.lab_deps.proofs.kinds.Kinds.and.Goals as goal
 
 pub returns-clause-more : goal.returns-clause-more

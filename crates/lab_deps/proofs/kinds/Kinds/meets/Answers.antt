@@ -1,5 +1,4 @@
-use Rattle.std.proofs.Common.{◌≡◌, ◌↔◌, true, not, nat_eq, sym, ap, ◌∙◌, subst}
-use Rattle.std.proofs.lemmas.Bool.{false≢true}
+use Rattle.std.proofs.{Common.{◌≡◌, ◌↔◌, true, not, nat_eq, sym, ap, ◌∙◌, subst}, lemmas.Bool.{false≢true}}
 use Rattle.lab_deps.proofs.SharedKinds.{IsShared, some_shared, none_shared}
 use Rattle.lab_deps.proofs.kinds.Kinds.meets.Goals as goal
 

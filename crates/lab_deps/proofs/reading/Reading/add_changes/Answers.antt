@@ -1,10 +1,6 @@
-use Rattle.std.proofs.Common.{◌≡◌, ◌+◌, ◌∷◌, drop, sym, ap, ◌∙◌, subst}
-use Rattle.std.proofs.lemmas.List.{drop_all, drop_more}
+use Rattle.std.proofs.{Common.{◌≡◌, ◌+◌, ◌∷◌, drop, sym, ap, ◌∙◌, subst}, lemmas.List.{drop_all, drop_more}}
 use Rattle.lab_table.specs.Statement.{matches}
-use Rattle.lab_deps.specs.Edges.{differ}
-use Rattle.lab_deps.specs.EdgesByRow.{change_by, changes_along}
-use Rattle.lab_deps.specs.Sinks.{Grows}
-use Rattle.lab_deps.proofs.Sinking.{Leads, leads_first, leads_on, leads_end}
+use Rattle.lab_deps.{specs.{Edges.{differ}, EdgesByRow.{change_by, changes_along}, Sinks.{Grows}}, proofs.Sinking.{Leads, leads_first, leads_on, leads_end}}
 use Rattle.lab_deps.proofs.reading.Reading.add_changes.Goals as goal
 
 pub loop-place-init : goal.loop-place-init

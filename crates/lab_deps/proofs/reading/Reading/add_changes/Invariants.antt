@@ -1,6 +1,5 @@
 use Rattle.std.proofs.Common.{drop}
-use Rattle.lab_deps.specs.EdgesByRow.{changes_along}
-use Rattle.lab_deps.proofs.Sinking.{Leads}
+use Rattle.lab_deps.{specs.EdgesByRow.{changes_along}, proofs.Sinking.{Leads}}
 use Rattle.lab_deps.proofs.reading.Reading.add_changes.Given as goal
 
 abbrev pub invariant-loop-place : goal.invariant-loop-place

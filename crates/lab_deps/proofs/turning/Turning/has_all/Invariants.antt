@@ -1,5 +1,4 @@
-use Rattle.std.proofs.Common.{◌≡◌, ◌⊎◌, ◌<◌, ℕ, suc}
-use Rattle.std.specs.Prelude.{Contains}
+use Rattle.std.{proofs.Common.{◌≡◌, ◌⊎◌, ◌<◌, ℕ, suc}, specs.Prelude.{Contains}}
 use Rattle.lab_deps.specs.Turnings.{class_in}
 use Rattle.lab_deps.proofs.turning.Turning.has_all.Given as goal
 

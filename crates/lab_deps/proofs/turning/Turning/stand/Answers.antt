@@ -1,5 +1,4 @@
-use Rattle.std.proofs.Common.{◌≡◌, inl, inr, subst, arith}
-use Rattle.std.proofs.lemmas.Bool.{cases_lt}
+use Rattle.std.proofs.{Common.{◌≡◌, inl, inr, subst, arith}, lemmas.Bool.{cases_lt}}
 use Rattle.lab_deps.specs.Turnings.{StandsAt, class_in}
 use Rattle.lab_deps.proofs.turning.Turning.stand.Goals as goal
 

@@ -1,6 +1,4 @@
-use Rattle.std.proofs.Common.{◌≡◌, length, Some, refl, sym, ap, ◌∙◌}
-use Rattle.std.specs.Prelude.{slice_get, option_map}
-use Rattle.std.proofs.lemmas.Option.{same_Some, slice_get-map, slice_get_read}
+use Rattle.std.{proofs.{Common.{◌≡◌, length, Some, refl, sym, ap, ◌∙◌}, lemmas.Option.{same_Some, slice_get-map, slice_get_read}}, specs.Prelude.{slice_get, option_map}}
 use Rattle.lab_table.specs.Statement.{matches}
 use Rattle.lab_deps.proofs.values.Values.answer.Goals as goal
 

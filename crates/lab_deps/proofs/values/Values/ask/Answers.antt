@@ -1,11 +1,6 @@
-use Rattle.std.proofs.Common.{◌≡◌, [], ◌∷◌, ◌++◌, Bool, false, map, refl, sym, ap, ◌∙◌}
-use Rattle.std.specs.Prelude.{slice_get}
-use Rattle.std.proofs.lemmas.Option.{same_Some}
-use Rattle.std.proofs.lemmas.Result.{on_ok_weaker}
-use Rattle.lab_table.specs.Statement.{matches}
-use Rattle.lab_table.specs.Table.{State}
-use Rattle.lab_deps.specs.Edges.{differ}
-use Rattle.lab_deps.proofs.AtTurns.{no_difference}
+use Rattle.std.{proofs.{Common.{◌≡◌, [], ◌∷◌, ◌++◌, Bool, false, map, refl, sym, ap, ◌∙◌}, lemmas.{Option.{same_Some}, Result.{on_ok_weaker}}}, specs.Prelude.{slice_get}}
+use Rattle.lab_table.specs.{Statement.{matches}, Table.{State}}
+use Rattle.lab_deps.{specs.Edges.{differ}, proofs.AtTurns.{no_difference}}
 use Rattle.lab_deps.proofs.values.Values.ask.Goals as goal
 
 pub returns-in_ok-push-in-Some : goal.returns-in_ok-push-in-Some

@@ -1,5 +1,4 @@
-use Rattle.std.proofs.Common.{◌≡◌, ◌<◌, ℕ, Some}
-use Rattle.std.specs.Prelude.{slice_get}
+use Rattle.std.{proofs.Common.{◌≡◌, ◌<◌, ℕ, Some}, specs.Prelude.{slice_get}}
 use Rattle.lab_deps.specs.declared.versions.Version.{Version}
 use Rattle.lab_deps.proofs.values.Values.fit.Given as goal
 

@@ -1,8 +1,5 @@
-use Rattle.std.proofs.Common.{subst}
-use Rattle.lab_deps.specs.EdgesByRow.{AreValuesOf}
-use Rattle.std.specs.Prelude.{IfSome}
-use Rattle.lab_deps.specs.KeptTurnings.{presences, AreTurnings}
-use Rattle.lab_deps.specs.Turnings.{IsTurning, class_in}
+use Rattle.std.{proofs.Common.{subst}, specs.Prelude.{IfSome}}
+use Rattle.lab_deps.specs.{EdgesByRow.{AreValuesOf}, KeptTurnings.{presences, AreTurnings}, Turnings.{IsTurning, class_in}}
 use Rattle.lab_deps.proofs.versions.Versions.of.Goals as goal
 
 pub invariant_of-result : goal.invariant_of-result

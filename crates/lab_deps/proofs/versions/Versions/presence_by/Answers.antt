@@ -1,9 +1,5 @@
-use Rattle.std.proofs.Common.{subst}
-use Rattle.std.specs.Prelude.{IfSome}
-use Rattle.lab_deps.specs.EdgesByRow.{Chain}
-use Rattle.lab_deps.specs.KeptTurnings.{presences}
-use Rattle.lab_deps.specs.Turnings.{IsTurning, class_in}
-use Rattle.lab_deps.proofs.Classes.{turning_by_presence}
+use Rattle.std.{proofs.Common.{subst}, specs.Prelude.{IfSome}}
+use Rattle.lab_deps.{specs.{EdgesByRow.{Chain}, KeptTurnings.{presences}, Turnings.{IsTurning, class_in}}, proofs.Classes.{turning_by_presence}}
 use Rattle.lab_deps.proofs.versions.Versions.presence_by.Goals as goal
 
 pub returns-then-matches_zero : goal.returns-then-matches_zero

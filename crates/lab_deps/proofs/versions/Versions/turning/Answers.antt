@@ -1,9 +1,5 @@
-use Rattle.std.proofs.Common.{◌≡◌, Some, sym, ap, ◌∙◌, subst}
-use Rattle.std.specs.Prelude.{slice_get}
-use Rattle.lab_deps.specs.EdgesByRow.{Chain, AreValuesOf}
-use Rattle.lab_deps.specs.KeptTurnings.{AreTurnings}
-use Rattle.lab_deps.specs.Turnings.{IsTurning, class_by}
-use Rattle.lab_deps.proofs.Classes.{some_weaker, turning_by_values}
+use Rattle.std.{proofs.Common.{◌≡◌, Some, sym, ap, ◌∙◌, subst}, specs.Prelude.{slice_get}}
+use Rattle.lab_deps.{specs.{EdgesByRow.{Chain, AreValuesOf}, KeptTurnings.{AreTurnings}, Turnings.{IsTurning, class_by}}, proofs.Classes.{some_weaker, turning_by_values}}
 use Rattle.lab_deps.proofs.versions.Versions.turning.Goals as goal
 
 pub returns : goal.returns

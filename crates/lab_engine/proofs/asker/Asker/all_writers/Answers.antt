@@ -1,7 +1,4 @@
-use Rattle.lab_engine.proofs.Common.{HoldsWrite, list_any, rules, seen_in, would_write}
-use Rattle.lab_engine.proofs.Choosing.{others_are}
-use Rattle.lab_engine.proofs.OtherWriters.{written_holds}
-use Rattle.lab_engine.proofs.SeenRows.{writes_is}
+use Rattle.lab_engine.proofs.{Common.{HoldsWrite, list_any, rules, seen_in, would_write}, Choosing.{others_are}, OtherWriters.{written_holds}, SeenRows.{writes_is}}
 use Rattle.lab_engine.proofs.asker.Asker.all_writers.Goals as goal
 
 pub returns : goal.returns

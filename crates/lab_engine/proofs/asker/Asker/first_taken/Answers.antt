@@ -1,6 +1,4 @@
-use Rattle.lab_engine.proofs.Common.{chain_in, first_since, subst}
-use Rattle.lab_engine.specs.Taken.{IsLeastTaken}
-use Rattle.lab_engine.proofs.TakenRows.{found_says}
+use Rattle.lab_engine.{proofs.{Common.{chain_in, first_since, subst}, TakenRows.{found_says}}, specs.Taken.{IsLeastTaken}}
 use Rattle.lab_engine.proofs.asker.Asker.first_taken.Goals as goal
 
 pub returns : goal.returns

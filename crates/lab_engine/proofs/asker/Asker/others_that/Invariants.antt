@@ -1,5 +1,4 @@
-use Rattle.lab_engine.proofs.Common.{Bool, drop, has, RunningTxn, ℕ, ◌||◌, ◌≡◌}
-use Rattle.lab_engine.specs.Chosen.{is_chosen}
+use Rattle.lab_engine.{proofs.Common.{Bool, drop, has, RunningTxn, ℕ, ◌||◌, ◌≡◌}, specs.Chosen.{is_chosen}}
 use Rattle.lab_engine.proofs.asker.Asker.others_that.Given as goal
 
 -- those so far, and those of the sessions that are left, are those of all

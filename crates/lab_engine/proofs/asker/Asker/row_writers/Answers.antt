@@ -1,6 +1,4 @@
-use Rattle.lab_engine.proofs.Common.{ap, both_ways, is_some, IsSome, pending_in, pending_kept, rules, sym, version_by, ◌∙◌}
-use Rattle.lab_engine.proofs.Choosing.{others_are}
-use Rattle.lab_engine.proofs.OtherWriters.{pending_wrote}
+use Rattle.lab_engine.proofs.{Common.{ap, both_ways, is_some, IsSome, pending_in, pending_kept, rules, sym, version_by, ◌∙◌}, Choosing.{others_are}, OtherWriters.{pending_wrote}}
 use Rattle.lab_engine.proofs.asker.Asker.row_writers.Goals as goal
 
 pub returns-in-Some : goal.returns-in-Some

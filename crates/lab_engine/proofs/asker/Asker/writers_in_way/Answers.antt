@@ -1,7 +1,4 @@
-use Rattle.lab_engine.proofs.Common.{both_ways, false, HoldsWrite, IsSome, IsTrue, seen, sym, version_by, would_write, ◌∙◌, ◌≡◌}
-use Rattle.lab_engine.proofs.Choosing.{others_same}
-use Rattle.lab_engine.proofs.OtherWriters.{unwritten_free, named_holds}
-use Rattle.lab_engine.proofs.SeenRows.{writes_is}
+use Rattle.lab_engine.proofs.{Common.{both_ways, false, HoldsWrite, IsSome, IsTrue, seen, sym, version_by, would_write, ◌∙◌, ◌≡◌}, Choosing.{others_same}, OtherWriters.{unwritten_free, named_holds}, SeenRows.{writes_is}}
 use Rattle.lab_engine.proofs.asker.Asker.writers_in_way.Goals as goal
 
 pub returns-then-would_write : goal.returns-then-would_write

@@ -1,6 +1,5 @@
-use Rattle.lab_engine.specs.Log.{past_of}
+use Rattle.lab_engine.{specs.Log.{past_of}, proofs.Gatherings.{nothing_gathered, front_legal, front_few, front_gathered}}
 use Rattle.std.proofs.Common.{take}
-use Rattle.lab_engine.proofs.Gatherings.{nothing_gathered, front_legal, front_few, front_gathered}
 use Rattle.lab_engine.proofs.gathering.Gathering.of.Goals as goal
 
 pub take_in-requires : goal.take_in-requires

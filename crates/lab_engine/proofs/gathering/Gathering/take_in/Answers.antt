@@ -1,5 +1,4 @@
-use Rattle.lab_engine.proofs.Common.{ap, cond, map, of_session, recorded, Some, txns_after, ◌==◌, ◌∙◌}
-use Rattle.lab_engine.proofs.Gatherings.{is_short, is_within, gathers_by}
+use Rattle.lab_engine.proofs.{Common.{ap, cond, map, of_session, recorded, Some, txns_after, ◌==◌, ◌∙◌}, Gatherings.{is_short, is_within, gathers_by}}
 use Rattle.lab_engine.proofs.gathering.Gathering.take_in.Goals as goal
 
 pub install-requires : goal.install-requires

@@ -1,5 +1,4 @@
-use Rattle.lab_engine.proofs.Common.{IsReady, length-reverse, subst, sym, vec_capacity, ◌+◌, ◌-◌, ◌≤◌}
-use Rattle.lab_engine.proofs.PendingVersions.{roomy_held}
+use Rattle.lab_engine.proofs.{Common.{IsReady, length-reverse, subst, sym, vec_capacity, ◌+◌, ◌-◌, ◌≤◌}, PendingVersions.{roomy_held}}
 use Rattle.lab_engine.proofs.row_state.RowState.hold.Goals as goal
 
 pub invariant_of-self : goal.invariant_of-self

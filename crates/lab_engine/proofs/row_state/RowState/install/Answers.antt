@@ -1,8 +1,5 @@
-use Rattle.std.proofs.Common.{◌≡◌, ◌<◌, ◌-◌, ◌∙◌, ap, sym, arith, length, get_or, None, Some}
-use Rattle.std.specs.Vec.{vec_capacity}
-use Rattle.lab_engine.specs.Kept.{pending_of}
-use Rattle.lab_engine.proofs.PendingVersions.{own_place, place_left, roomy_moved}
-use Rattle.lab_engine.proofs.row_state.RowState.install.Goals.{After-set}
+use Rattle.std.{proofs.Common.{◌≡◌, ◌<◌, ◌-◌, ◌∙◌, ap, sym, arith, length, get_or, None, Some}, specs.Vec.{vec_capacity}}
+use Rattle.lab_engine.{specs.Kept.{pending_of}, proofs.{PendingVersions.{own_place, place_left, roomy_moved}, row_state.RowState.install.Goals.{After-set}}}
 use Rattle.lab_engine.proofs.row_state.RowState.install.Goals as goal
 
 -- the version to be installed stands in the session's place

@@ -1,6 +1,5 @@
 use Rattle.std.specs.BTreeMap.{get}
-use Rattle.lab_engine.proofs.Common.{ap, chain_kept, cond, IsSome, kept_at, pending_kept, refl, row_cmp, Some, subst, ◌==◌, ◌∙◌}
-use Rattle.lab_engine.proofs.RowChanges.{changed_if, unchanged, ready_still}
+use Rattle.lab_engine.proofs.{Common.{ap, chain_kept, cond, IsSome, kept_at, pending_kept, refl, row_cmp, Some, subst, ◌==◌, ◌∙◌}, RowChanges.{changed_if, unchanged, ready_still}}
 use Rattle.lab_engine.proofs.row_states.RowStates.hold.Goals as goal
 
 pub returns-in-Some-clause-chain : goal.returns-in-Some-clause-chain

@@ -1,5 +1,4 @@
-use Rattle.lab_engine.proofs.Common.{ap, drop_all, get_or, IsReadyAt, pending_in, refl, Row, subst, sym, Written, ◌∙◌}
-use Rattle.lab_engine.proofs.RowWalks.{held, held_map, written_at}
+use Rattle.lab_engine.proofs.{Common.{ap, drop_all, get_or, IsReadyAt, pending_in, refl, Row, subst, sym, Written, ◌∙◌}, RowWalks.{held, held_map, written_at}}
 use Rattle.lab_engine.proofs.row_states.RowStates.hold_each.Goals as goal
 
 pub loop-entry-init : goal.loop-entry-init

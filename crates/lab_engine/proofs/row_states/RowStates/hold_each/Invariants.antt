@@ -1,5 +1,4 @@
-use Rattle.lab_engine.proofs.Common.{chain_in, drop, IsReadyAt, length, pending_in, Row, slice_index_or, Written, ℕ, ◌<◌, ◌≡◌}
-use Rattle.lab_engine.proofs.RowWalks.{held}
+use Rattle.lab_engine.proofs.{Common.{chain_in, drop, IsReadyAt, length, pending_in, Row, slice_index_or, Written, ℕ, ◌<◌, ◌≡◌}, RowWalks.{held}}
 use Rattle.lab_engine.proofs.row_states.RowStates.hold_each.Given as goal
 
 -- there is room in each row that is written, and the writes that are left lead to what all do

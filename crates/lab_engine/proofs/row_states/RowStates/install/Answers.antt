@@ -1,6 +1,5 @@
 use Rattle.std.specs.BTreeMap.{get}
-use Rattle.lab_engine.proofs.Common.{ap, chain_kept, cond, IsSome, kept_at, longer, None, pending_kept, refl, row_cmp, subst, sym, ◌==◌, ◌∙◌}
-use Rattle.lab_engine.proofs.RowChanges.{changed, changed_if, left, left_off}
+use Rattle.lab_engine.proofs.{Common.{ap, chain_kept, cond, IsSome, kept_at, longer, None, pending_kept, refl, row_cmp, subst, sym, ◌==◌, ◌∙◌}, RowChanges.{changed, changed_if, left, left_off}}
 use Rattle.lab_engine.proofs.row_states.RowStates.install.Goals as goal
 
 pub returns-in-Some-clause-chain : goal.returns-in-Some-clause-chain

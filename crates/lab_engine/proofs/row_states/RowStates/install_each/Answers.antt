@@ -1,5 +1,4 @@
-use Rattle.lab_engine.proofs.Common.{ap, chain_in, cond, drop, drop_more, eq-eqb, list_any, longer, None, pending_in, refl, row_eq, sym, ◌&&◌, ◌+◌, ◌==◌, ◌∙◌, ◌∷◌, ◌≡◌}
-use Rattle.lab_engine.proofs.RowWalks.{let_go, installed_once}
+use Rattle.lab_engine.proofs.{Common.{ap, chain_in, cond, drop, drop_more, eq-eqb, list_any, longer, None, pending_in, refl, row_eq, sym, ◌&&◌, ◌+◌, ◌==◌, ◌∙◌, ◌∷◌, ◌≡◌}, RowWalks.{let_go, installed_once}}
 use Rattle.lab_engine.proofs.row_states.RowStates.install_each.Goals as goal
 
 pub loop-row-preserved : goal.loop-row-preserved

@@ -1,6 +1,5 @@
 use Rattle.std.specs.BTreeMap.{get}
-use Rattle.lab_engine.proofs.Common.{ap, chain_kept, cond, is_eq, IsSome, kept_at, pending_kept, pending_of, refl, row_cmp, Some, subst, sym, ◌∙◌}
-use Rattle.lab_engine.proofs.RowChanges.{unchanged, ready_still, ready_in}
+use Rattle.lab_engine.proofs.{Common.{ap, chain_kept, cond, is_eq, IsSome, kept_at, pending_kept, pending_of, refl, row_cmp, Some, subst, sym, ◌∙◌}, RowChanges.{unchanged, ready_still, ready_in}}
 use Rattle.lab_engine.proofs.row_states.RowStates.reserve.Goals as goal
 
 pub returns-in-Some-clause-same : goal.returns-in-Some-clause-same

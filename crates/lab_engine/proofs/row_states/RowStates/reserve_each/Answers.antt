@@ -1,6 +1,4 @@
-use Rattle.lab_engine.proofs.Common.{ap, arith, cases_lt, get_or, get_or_default, inl, inr, IsReadyAt, Row, subst, Written, ◌∙◌, ◌≡◌}
-use Rattle.lab_engine.proofs.RowChanges.{same_then}
-use Rattle.lab_engine.proofs.RowWalks.{entry_of}
+use Rattle.lab_engine.proofs.{Common.{ap, arith, cases_lt, get_or, get_or_default, inl, inr, IsReadyAt, Row, subst, Written, ◌∙◌, ◌≡◌}, RowChanges.{same_then}, RowWalks.{entry_of}}
 use Rattle.lab_engine.proofs.row_states.RowStates.reserve_each.Goals as goal
 
 pub loop-entry-preserved : goal.loop-entry-preserved

@@ -1,6 +1,5 @@
 use Rattle.std.proofs.Common.{ap, ◌∙◌}
-use Rattle.lab_engine.specs.SessionBits.{has}
-use Rattle.lab_engine.proofs.SessionBits.{has_tested}
+use Rattle.lab_engine.{specs.SessionBits.{has}, proofs.SessionBits.{has_tested}}
 use Rattle.lab_engine.proofs.session_set.SessionSet.has.Goals as goal
 
 pub returns : goal.returns

@@ -1,6 +1,5 @@
 use Rattle.std.proofs.Common.{ap, ◌∙◌, ◌==◌, ◌||◌, arith}
-use Rattle.lab_engine.specs.SessionBits.{has}
-use Rattle.lab_engine.proofs.SessionBits.{has_inserted, sessions_inserted}
+use Rattle.lab_engine.{specs.SessionBits.{has}, proofs.SessionBits.{has_inserted, sessions_inserted}}
 use Rattle.lab_engine.proofs.session_set.SessionSet.insert.Goals as goal
 
 pub invariant_of-self : goal.invariant_of-self

@@ -1,6 +1,5 @@
 use Rattle.std.proofs.Common.{◌≡◌, ◌≤◌, ℕ, subst, None, false, IfSome, IsTrue}
-use Rattle.lab_engine.specs.SessionBits.{has}
-use Rattle.lab_engine.proofs.SessionBits.{least_some, least_least, least_none}
+use Rattle.lab_engine.{specs.SessionBits.{has}, proofs.SessionBits.{least_some, least_least, least_none}}
 use Rattle.lab_engine.proofs.session_set.SessionSet.least.Goals as goal
 
 pub returns-clause-some : goal.returns-clause-some

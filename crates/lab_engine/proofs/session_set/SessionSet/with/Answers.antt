@@ -1,6 +1,5 @@
 use Rattle.std.proofs.Common.{◌||◌, ap, ◌∙◌}
-use Rattle.lab_engine.specs.SessionBits.{has}
-use Rattle.lab_engine.proofs.SessionBits.{has_either, sessions_either}
+use Rattle.lab_engine.{specs.SessionBits.{has}, proofs.SessionBits.{has_either, sessions_either}}
 use Rattle.lab_engine.proofs.session_set.SessionSet.with.Goals as goal
 
 pub invariant_of-result : goal.invariant_of-result

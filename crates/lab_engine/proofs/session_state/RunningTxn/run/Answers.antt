@@ -1,6 +1,5 @@
 use Rattle.std.specs.FinMap as map
-use Rattle.lab_engine.proofs.Common.{has_written, is_none, is_some, refl, sym, ◌&&◌, ◌||◌, ◌∙◌}
-use Rattle.lab_engine.proofs.SessionStates.{runs_on}
+use Rattle.lab_engine.proofs.{Common.{has_written, is_none, is_some, refl, sym, ◌&&◌, ◌||◌, ◌∙◌}, SessionStates.{runs_on}}
 use Rattle.lab_engine.proofs.session_state.RunningTxn.run.Goals as goal
 
 pub returns-clause-txn : goal.returns-clause-txn

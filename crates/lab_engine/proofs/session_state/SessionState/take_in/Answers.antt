@@ -1,6 +1,4 @@
-use Rattle.lab_engine.proofs.Common.{active, Agree, ap, AreInstalled, AreWritten, keeps_statements, kept_of, None, option_map, Outcome, refl, Row, subst, sym, ◌∙◌}
-use Rattle.lab_engine.proofs.KeptCommits.{busy_apart, none_installed, rows_written}
-use Rattle.lab_engine.proofs.SessionStates.{follows, abandons}
+use Rattle.lab_engine.proofs.{Common.{active, Agree, ap, AreInstalled, AreWritten, keeps_statements, kept_of, None, option_map, Outcome, refl, Row, subst, sym, ◌∙◌}, KeptCommits.{busy_apart, none_installed, rows_written}, SessionStates.{follows, abandons}}
 use Rattle.lab_engine.proofs.session_state.SessionState.take_in.Goals as goal
 
 pub returns-in-Begun-clause-goes_on : goal.returns-in-Begun-clause-goes_on

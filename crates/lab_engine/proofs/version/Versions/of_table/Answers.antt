@@ -1,5 +1,4 @@
-use Rattle.lab_engine.proofs.Common.{ap, entries, entries_sorted, get, initial_entry, map, ◌∙◌}
-use Rattle.lab_engine.proofs.VersionLists.{initial_sorted, initial_found}
+use Rattle.lab_engine.proofs.{Common.{ap, entries, entries_sorted, get, initial_entry, map, ◌∙◌}, VersionLists.{initial_sorted, initial_found}}
 use Rattle.lab_engine.proofs.version.Versions.of_table.Goals as goal
 
 pub from_rising-requires : goal.from_rising-requires

@@ -1,5 +1,4 @@
-use Rattle.lab_engine.proofs.Common.{ap, entries, get, merged, ◌∙◌}
-use Rattle.lab_engine.proofs.Merging.{maps_sorted, maps_found}
+use Rattle.lab_engine.proofs.{Common.{ap, entries, get, merged, ◌∙◌}, Merging.{maps_sorted, maps_found}}
 use Rattle.lab_engine.proofs.version.Versions.overlaid_with.Goals as goal
 
 pub from_rising-requires : goal.from_rising-requires

@@ -1,5 +1,4 @@
-use Rattle.std.proofs.Common.{◌∙◌, ap}
-use Rattle.std.specs.FinMap.{get}
+use Rattle.std.{proofs.Common.{◌∙◌, ap}, specs.FinMap.{get}}
 use Rattle.lab_engine.proofs.Merging.{cover_found, under_found}
 use Rattle.lab_engine.proofs.version.Versions.overlay.Goals as goal
 

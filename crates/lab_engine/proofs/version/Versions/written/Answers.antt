@@ -1,5 +1,4 @@
-use Rattle.lab_engine.proofs.Common.{ap, entries_sorted, get, is_sorted, row_cmp, subst, sym, T, ◌∙◌}
-use Rattle.lab_engine.proofs.VersionLists.{written_sorted, written_found}
+use Rattle.lab_engine.proofs.{Common.{ap, entries_sorted, get, is_sorted, row_cmp, subst, sym, T, ◌∙◌}, VersionLists.{written_sorted, written_found}}
 use Rattle.lab_engine.proofs.version.Versions.written.Goals as goal
 
 pub from_rising-requires : goal.from_rising-requires

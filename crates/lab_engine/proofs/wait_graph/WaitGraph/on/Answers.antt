@@ -1,6 +1,5 @@
 use Rattle.std.proofs.Common.{ap, ◌∙◌}
-use Rattle.lab_engine.specs.WaitsFor.{waits_for}
-use Rattle.lab_engine.proofs.WaitGraphs.{own_set}
+use Rattle.lab_engine.{specs.WaitsFor.{waits_for}, proofs.WaitGraphs.{own_set}}
 use Rattle.lab_engine.proofs.wait_graph.WaitGraph.on.Goals as goal
 
 pub returns : goal.returns

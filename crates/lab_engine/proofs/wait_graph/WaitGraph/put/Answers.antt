@@ -1,5 +1,4 @@
-use Rattle.lab_engine.proofs.Common.{ap, cond, has, waits_for, ◌==◌, ◌∙◌}
-use Rattle.lab_engine.proofs.WaitGraphs.{put_set}
+use Rattle.lab_engine.proofs.{Common.{ap, cond, has, waits_for, ◌==◌, ◌∙◌}, WaitGraphs.{put_set}}
 use Rattle.lab_engine.proofs.wait_graph.WaitGraph.put.Goals as goal
 
 pub returns : goal.returns

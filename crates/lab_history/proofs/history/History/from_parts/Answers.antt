@@ -1,8 +1,5 @@
 use Rattle.std.proofs.Common.{⊎_elim, subst}
-use Rattle.lab_history.specs.Faults.{Gives}
-use Rattle.lab_history.specs.FirstPartsFault.{checked}
-use Rattle.lab_history.proofs.KeptParts.{checked_keeps, fault_breaks}
-use Rattle.lab_history.proofs.PartsFaults.{fault_true}
+use Rattle.lab_history.{specs.{Faults.{Gives}, FirstPartsFault.{checked}}, proofs.{KeptParts.{checked_keeps, fault_breaks}, PartsFaults.{fault_true}}}
 use Rattle.lab_history.proofs.history.History.from_parts.Goals as goal
 
 pub assembled-requires : goal.assembled-requires

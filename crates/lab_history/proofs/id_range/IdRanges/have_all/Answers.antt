@@ -1,13 +1,7 @@
-use Rattle.std.proofs.Common.{◌≡◌, T, Bool, true, ◌&&◌, sym, ap, subst, ◌∙◌}
-use Rattle.std.specs.List.{list_all}
-use Rattle.std.proofs.lemmas.Bool.{and_from}
-use Rattle.std.specs.FinMap.{entries, entries_sorted, is_sorted}
+use Rattle.std.{proofs.{Common.{◌≡◌, T, Bool, true, ◌&&◌, sym, ap, subst, ◌∙◌}, lemmas.Bool.{and_from}}, specs.{List.{list_all}, FinMap.{entries, entries_sorted, is_sorted}}}
 use Rattle.lab_table.specs.Row.{Row, row_cmp}
-use Rattle.lab_history.specs.HistoryRules.{op_rows}
-use Rattle.lab_history.specs.IdRanges.{have_row}
-use Rattle.lab_history.proofs.NamedRows.{all_pass}
+use Rattle.lab_history.{specs.{HistoryRules.{op_rows}, IdRanges.{have_row}}, proofs.{NamedRows.{all_pass}, id_range.IdRanges.have_all.Goals.{then-have_rows, else-have_rows, then-have_txns, else-have_txns}}}
 use Rattle.lab_history.proofs.id_range.IdRanges.have_all.Goals as goal
-use Rattle.lab_history.proofs.id_range.IdRanges.have_all.Goals.{then-have_rows, else-have_rows, then-have_txns, else-have_txns}
 
 pub have_rows-requires : goal.have_rows-requires
 have_rows-requires c = subst (λ es. T (is_sorted row_cmp es)) (sym c.rows.ensures) (entries_sorted c.args.parts.now.initial)

@@ -1,12 +1,7 @@
-use Rattle.std.proofs.Common.{T, Bool, sym, subst, arith}
-use Rattle.std.proofs.lemmas.Grind.{common_steps}
-use Rattle.std.specs.FinMap.{entries_sorted, is_sorted}
+use Rattle.std.{proofs.{Common.{T, Bool, sym, subst, arith}, lemmas.Grind.{common_steps}}, specs.FinMap.{entries_sorted, is_sorted}}
 use Rattle.lab_table.specs.Row.{Row, row_cmp}
-use Rattle.lab_history.specs.IdRanges.{have_row}
-use Rattle.lab_history.proofs.NewStates.{new_states_sorted}
-use Rattle.lab_history.proofs.NamedRows.{op_passes, states_pass}
+use Rattle.lab_history.{specs.IdRanges.{have_row}, proofs.{NewStates.{new_states_sorted}, NamedRows.{op_passes, states_pass}, id_range.IdRanges.have_op.Goals.{then-have_rows, else-have_rows}}}
 use Rattle.lab_history.proofs.id_range.IdRanges.have_op.Goals as goal
-use Rattle.lab_history.proofs.id_range.IdRanges.have_op.Goals.{then-have_rows, else-have_rows}
 
 pub have_rows-requires : goal.have_rows-requires
 have_rows-requires c = subst (λ es. T (is_sorted row_cmp es)) (sym c.entries.ensures) (entries_sorted c.args.op.now.view)

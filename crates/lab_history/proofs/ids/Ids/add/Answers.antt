@@ -1,11 +1,7 @@
-use Rattle.std.proofs.Common.{◌≡◌, T, true, List, sym, ap, subst, ◌∙◌}
-use Rattle.std.specs.BTreeSet.{insert_key}
-use Rattle.std.specs.FinMap.{entries, keys, is_sorted, entries_sorted}
-use Rattle.lab_table.specs.Row.{Row, row_cmp}
-use Rattle.lab_table.specs.Placed.{is_row_at}
-use Rattle.lab_history.proofs.RowsMet.{keys_present, keys_insert}
+use Rattle.std.{proofs.Common.{◌≡◌, T, true, List, sym, ap, subst, ◌∙◌}, specs.{BTreeSet.{insert_key}, FinMap.{entries, keys, is_sorted, entries_sorted}}}
+use Rattle.lab_table.specs.{Row.{Row, row_cmp}, Placed.{is_row_at}}
+use Rattle.lab_history.proofs.{RowsMet.{keys_present, keys_insert}, ids.Ids.add.Goals.{then-not-stands_at+in_ok-put, else-not-stands_at}}
 use Rattle.lab_history.proofs.ids.Ids.add.Goals as goal
-use Rattle.lab_history.proofs.ids.Ids.add.Goals.{then-not-stands_at+in_ok-put, else-not-stands_at}
 
 pub returns-then-stands_at : goal.returns-then-stands_at
 returns-then-stands_at c =

@@ -1,7 +1,5 @@
-use Rattle.std.proofs.Common.{◌≡◌, ◌∙◌, ap, subst, OnOk}
-use Rattle.std.specs.FinMap.{entries}
-use Rattle.lab_history.specs.RunningCounts.{with_rows}
-use Rattle.lab_history.proofs.CountedRows.{states_rows}
+use Rattle.std.{proofs.Common.{◌≡◌, ◌∙◌, ap, subst, OnOk}, specs.FinMap.{entries}}
+use Rattle.lab_history.{specs.RunningCounts.{with_rows}, proofs.CountedRows.{states_rows}}
 use Rattle.lab_history.proofs.ids.Ids.add_op.Goals as goal
 
 pub returns : goal.returns

@@ -1,13 +1,5 @@
-use Rattle.std.proofs.Common.{◌∙◌, sym, ap, []}
-use Rattle.std.specs.FinMap.{entries, entries_sorted, get-entries}
-use Rattle.std.specs.Ordering.{nat_cmp}
-use Rattle.std.specs.Prelude.{reverse, slice_get, option_and_then, unwrap_or}
-use Rattle.lab_history.specs.Index.{txn_row_cmp, numbers_from, written, placed}
-use Rattle.lab_history.specs.Keyed.{value_at}
-use Rattle.lab_history.specs.Version.{place_in}
-use Rattle.lab_history.proofs.TxnPlaces.{txn_found}
-use Rattle.lab_history.proofs.LastWrites.{last_found}
-use Rattle.lab_history.proofs.InstallerPlaces.{place_found}
+use Rattle.std.{proofs.Common.{◌∙◌, sym, ap, []}, specs.{FinMap.{entries, entries_sorted, get-entries}, Ordering.{nat_cmp}, Prelude.{reverse, slice_get, option_and_then, unwrap_or}}}
+use Rattle.lab_history.{specs.{Index.{txn_row_cmp, numbers_from, written, placed}, Keyed.{value_at}, Version.{place_in}}, proofs.{TxnPlaces.{txn_found}, LastWrites.{last_found}, InstallerPlaces.{place_found}}}
 use Rattle.lab_history.proofs.index.Index.of.Goals as goal
 
 pub returns : goal.returns

@@ -1,5 +1,4 @@
-use Rattle.std.proofs.Common.{rules}
-use Rattle.std.proofs.lemmas.List.Sorted.{answers_always}
+use Rattle.std.proofs.{Common.{rules}, lemmas.List.Sorted.{answers_always}}
 use Rattle.lab_history.proofs.Halving.{same_value}
 use Rattle.lab_history.proofs.keyed.Keyed.new.Goals as goal
 

@@ -1,5 +1,4 @@
-use Rattle.std.proofs.Common.{sym, ap, ◌∙◌}
-use Rattle.std.specs.FinMap.{entries, same_entries_map}
+use Rattle.std.{proofs.Common.{sym, ap, ◌∙◌}, specs.FinMap.{entries, same_entries_map}}
 use Rattle.lab_history.proofs.operation.View.equals.Goals as goal
 
 pub returns : goal.returns

@@ -1,7 +1,5 @@
-use Rattle.std.proofs.Common.{sym, ap, ◌∙◌}
-use Rattle.std.specs.FinMap.{entries, same_entries_map}
-use Rattle.lab_history.specs.VersionName.{new_states}
-use Rattle.lab_history.proofs.NewStates.{states_same}
+use Rattle.std.{proofs.Common.{sym, ap, ◌∙◌}, specs.FinMap.{entries, same_entries_map}}
+use Rattle.lab_history.{specs.VersionName.{new_states}, proofs.NewStates.{states_same}}
 use Rattle.lab_history.proofs.operation.Writes.equals.Goals as goal
 
 pub returns : goal.returns

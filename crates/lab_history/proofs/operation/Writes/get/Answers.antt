@@ -1,9 +1,6 @@
-use Rattle.std.proofs.Common.{◌∙◌, sym, ap, subst, T}
-use Rattle.std.specs.Prelude.{option_map}
-use Rattle.std.specs.FinMap.{get, find, is_sorted, get-from_sorted}
+use Rattle.std.{proofs.Common.{◌∙◌, sym, ap, subst, T}, specs.{Prelude.{option_map}, FinMap.{get, find, is_sorted, get-from_sorted}}}
 use Rattle.lab_table.specs.Row.{row_cmp}
-use Rattle.lab_history.specs.VersionName.{new_states, state_value}
-use Rattle.lab_history.proofs.NewStates.{find_states, new_states_sorted}
+use Rattle.lab_history.{specs.VersionName.{new_states, state_value}, proofs.NewStates.{find_states, new_states_sorted}}
 use Rattle.lab_history.proofs.operation.Writes.get.Goals as goal
 
 pub value_of-requires : goal.value_of-requires

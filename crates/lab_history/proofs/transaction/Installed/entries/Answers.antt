@@ -1,5 +1,4 @@
-use Rattle.std.proofs.Common.{◌∙◌, sym, ap}
-use Rattle.std.specs.FinMap.{entries, entries-from_sorted}
+use Rattle.std.{proofs.Common.{◌∙◌, sym, ap}, specs.FinMap.{entries, entries-from_sorted}}
 use Rattle.lab_table.specs.Row.{row_cmp}
 use Rattle.lab_history.proofs.transaction.Installed.entries.Goals as goal
 

@@ -1,8 +1,6 @@
 use Rattle.std.proofs.Common.{◌≡◌, map, drop}
-use Rattle.serde_json.specs.Find.{as_object}
-use Rattle.serde_json.specs.View.{view}
-use Rattle.lab_history_file.specs.Format.{has_keys}
-use Rattle.lab_history_file.proofs.Keys.{same_keys}
+use Rattle.serde_json.specs.{Find.{as_object}, View.{view}}
+use Rattle.lab_history_file.{specs.Format.{has_keys}, proofs.Keys.{same_keys}}
 use Rattle.lab_history_file.proofs.reading.keys.has_keys.Given as goal
 
 abbrev pub invariant-loop-name : goal.invariant-loop-name

@@ -1,8 +1,6 @@
 use Rattle.std.proofs.Common.{rules}
 use Rattle.serde_json.specs.View.{view}
-use Rattle.lab_history_file.specs.Entries.{entry_in}
-use Rattle.lab_history_file.specs.Format.{at_key}
-use Rattle.lab_history_file.proofs.ListsRead.{all_sorted}
+use Rattle.lab_history_file.{specs.{Entries.{entry_in}, Format.{at_key}}, proofs.ListsRead.{all_sorted}}
 use Rattle.lab_history_file.proofs.reading.lists.entries_at.Goals as goal
 
 pub returns-clause-rises : goal.returns-clause-rises

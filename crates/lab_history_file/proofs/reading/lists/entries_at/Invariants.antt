@@ -1,8 +1,6 @@
 use Rattle.std.proofs.Common.{◌≡◌}
 use Rattle.serde_json.specs.View.{view}
-use Rattle.lab_history_file.specs.Format.{at_key}
-use Rattle.lab_history_file.specs.Entries.{entry_in, last_row, placed_in, entries_in}
-use Rattle.lab_history_file.proofs.ItemsRead.{read_on}
+use Rattle.lab_history_file.{specs.{Format.{at_key}, Entries.{entry_in, last_row, placed_in, entries_in}}, proofs.ItemsRead.{read_on}}
 use Rattle.lab_history_file.proofs.reading.lists.entries_at.Given as goal
 
 abbrev pub invariant-loop-index : goal.invariant-loop-index

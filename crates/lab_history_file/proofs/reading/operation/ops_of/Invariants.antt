@@ -1,8 +1,6 @@
 use Rattle.std.proofs.Common.{◌≡◌, [], length}
 use Rattle.serde_json.specs.View.{items_view}
-use Rattle.lab_history_file.specs.Entries.{items_from}
-use Rattle.lab_history_file.specs.Format.{op_behind}
-use Rattle.lab_history_file.proofs.ItemsRead.{read_on}
+use Rattle.lab_history_file.{specs.{Entries.{items_from}, Format.{op_behind}}, proofs.ItemsRead.{read_on}}
 use Rattle.lab_history_file.proofs.reading.operation.ops_of.Given as goal
 
 abbrev pub invariant-loop-index : goal.invariant-loop-index

@@ -1,7 +1,6 @@
 use Rattle.std.proofs.Common.{◌≡◌, codes}
 use Rattle.serde_json.specs.View.{view}
-use Rattle.lab_history_file.specs.Format.{at_key, txn_in, txns_in}
-use Rattle.lab_history_file.proofs.ItemsRead.{read_on}
+use Rattle.lab_history_file.{specs.Format.{at_key, txn_in, txns_in}, proofs.ItemsRead.{read_on}}
 use Rattle.lab_history_file.proofs.reading.transaction.txns_of.Given as goal
 
 abbrev pub invariant-loop-index : goal.invariant-loop-index

@@ -1,7 +1,5 @@
-use Rattle.std.proofs.Common.{subst}
-use Rattle.std.proofs.lemmas.List.Elements.{All-contains}
-use Rattle.lab_judge.specs.Graphs.{HasEnds}
-use Rattle.lab_judge.specs.LeastWalks.{IsTurnToLeast}
+use Rattle.std.proofs.{Common.{subst}, lemmas.List.Elements.{All-contains}}
+use Rattle.lab_judge.specs.{Graphs.{HasEnds}, LeastWalks.{IsTurnToLeast}}
 use Rattle.lab_judge.proofs.findings.closed_walk.closed_by.Goals as goal
 
 pub way_back-requires-clause-edge : goal.way_back-requires-clause-edge

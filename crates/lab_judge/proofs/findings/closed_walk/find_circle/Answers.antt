@@ -1,8 +1,7 @@
 use Rattle.std.proofs.Common.{subst}
 use Rattle.lab_order.specs.Order.{IsOrdered, IsAnswered}
 use Rattle.lab_deps.specs.KindSets.{among}
-use Rattle.lab_judge.proofs.GraphWalks.{order_excludes}
-use Rattle.lab_judge.proofs.LeastWalks.{edge_graph, round_closed}
+use Rattle.lab_judge.proofs.{GraphWalks.{order_excludes}, LeastWalks.{edge_graph, round_closed}}
 use Rattle.lab_judge.proofs.findings.closed_walk.find_circle.Goals as goal
 
 pub returns-in-Order-clause-found : goal.returns-in-Order-clause-found

@@ -1,17 +1,6 @@
-use Rattle.std.proofs.Common.{◌≡◌, ◌∷◌, false, sym, subst}
-use Rattle.std.specs.List.{All}
-use Rattle.std.specs.Ordering.{is_lt}
-use Rattle.std.specs.Prelude.{Contains, IfSome}
-use Rattle.std.proofs.lemmas.List.Elements.{All-contains}
-use Rattle.lab_judge.specs.Graphs.{HasEnds}
-use Rattle.lab_judge.specs.Openings.{IsOpenedWalk, IsOpening}
-use Rattle.lab_deps.specs.EdgeOrder.{edge_cmp}
-use Rattle.lab_deps.specs.KindSets.{among}
-use Rattle.lab_deps.specs.declared.edge.Edge.{Edge}
-use Rattle.lab_judge.specs.LeastWalks.{IsTurnToLeast}
-use Rattle.lab_judge.proofs.LeastWalks.{edge_graph, opened_round}
-use Rattle.lab_judge.proofs.OpenedWalks.{none_opened}
-use Rattle.lab_judge.proofs.WalkKinds.{has_all}
+use Rattle.std.{proofs.{Common.{◌≡◌, ◌∷◌, false, sym, subst}, lemmas.List.Elements.{All-contains}}, specs.{List.{All}, Ordering.{is_lt}, Prelude.{Contains, IfSome}}}
+use Rattle.lab_judge.{specs.{Graphs.{HasEnds}, Openings.{IsOpenedWalk, IsOpening}, LeastWalks.{IsTurnToLeast}}, proofs.{LeastWalks.{edge_graph, opened_round}, OpenedWalks.{none_opened}, WalkKinds.{has_all}}}
+use Rattle.lab_deps.specs.{EdgeOrder.{edge_cmp}, KindSets.{among}, declared.edge.Edge.{Edge}}
 use Rattle.lab_judge.proofs.findings.closed_walk.find_opened.Goals as goal
 
 pub returns-in-None-clause-found : goal.returns-in-None-clause-found

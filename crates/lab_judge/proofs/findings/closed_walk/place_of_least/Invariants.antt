@@ -1,5 +1,4 @@
-use Rattle.std.proofs.Common.{◌≤◌, length}
-use Rattle.std.specs.List.{IsFirstBest}
+use Rattle.std.{proofs.Common.{◌≤◌, length}, specs.List.{IsFirstBest}}
 use Rattle.lab_judge.proofs.LeastStarts.{begins_lower}
 use Rattle.lab_judge.proofs.findings.closed_walk.place_of_least.Given as goal
 

@@ -1,12 +1,7 @@
-use Rattle.std.proofs.Common.{◌≡◌, ◌∷◌, sym, subst, ◌∙◌}
-use Rattle.std.specs.Prelude.{IfSome}
-use Rattle.std.proofs.lemmas.Result.{IfOk-weaker}
-use Rattle.lab_order.specs.Least.{IsLeast}
-use Rattle.lab_order.specs.Order.{position}
-use Rattle.lab_order.specs.Path.{IsPath, IsShortestPath}
+use Rattle.std.{proofs.{Common.{◌≡◌, ◌∷◌, sym, subst, ◌∙◌}, lemmas.Result.{IfOk-weaker}}, specs.Prelude.{IfSome}}
+use Rattle.lab_order.specs.{Least.{IsLeast}, Order.{position}, Path.{IsPath, IsShortestPath}}
 use Rattle.lab_deps.specs.KindSets.{among}
-use Rattle.lab_judge.specs.LeastWalks.{GoesBy}
-use Rattle.lab_judge.proofs.GraphWalks.{way_of}
+use Rattle.lab_judge.{specs.LeastWalks.{GoesBy}, proofs.GraphWalks.{way_of}}
 use Rattle.lab_judge.proofs.findings.closed_walk.way_back.Goals as goal
 
 pub walk_along-requires-clause-way : goal.walk_along-requires-clause-way

@@ -1,5 +1,4 @@
-use Rattle.std.proofs.Common.{subst, length}
-use Rattle.std.specs.List.{IsFirstBest}
+use Rattle.std.{proofs.Common.{subst, length}, specs.List.{IsFirstBest}}
 use Rattle.lab_judge.proofs.LeastStarts.{begins_lower, turn_at}
 use Rattle.lab_judge.proofs.findings.closed_walk.with_least_first.Goals as goal
 

@@ -1,13 +1,7 @@
-use Rattle.std.proofs.Common.{◌≡◌, ◌<◌, ℕ, true, false, length, sym, subst, ap, ◌∙◌}
-use Rattle.std.specs.List.{All, list_any}
-use Rattle.lab_order.specs.Order.{position}
-use Rattle.std.proofs.lemmas.Result.{IfOk-weaker}
-use Rattle.lab_order.specs.Path.{Reaches}
+use Rattle.std.{proofs.{Common.{◌≡◌, ◌<◌, ℕ, true, false, length, sym, subst, ap, ◌∙◌}, lemmas.Result.{IfOk-weaker}}, specs.List.{All, list_any}}
+use Rattle.lab_order.specs.{Order.{position}, Path.{Reaches}}
 use Rattle.lab_deps.specs.KindSets.{among}
-use Rattle.lab_judge.specs.Graphs.{HasEnds, ties}
-use Rattle.lab_judge.specs.Joining.{IsJoinable}
-use Rattle.lab_judge.proofs.FirstOpenings.{found_with, first_tied}
-use Rattle.lab_judge.proofs.Openings.{none_leading, surely}
+use Rattle.lab_judge.{specs.{Graphs.{HasEnds, ties}, Joining.{IsJoinable}}, proofs.{FirstOpenings.{found_with, first_tied}, Openings.{none_leading, surely}}}
 use Rattle.lab_judge.proofs.findings.opening.first_from.Goals as goal
 
 pub first_leading-requires-clause-table : goal.first_leading-requires-clause-table

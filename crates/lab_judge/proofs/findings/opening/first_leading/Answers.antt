@@ -1,12 +1,8 @@
-use Rattle.std.proofs.Common.{◌≡◌, ◌<◌, length, false, sym, ap, ◌∙◌, subst, arith, inl, inr}
-use Rattle.std.specs.List.{list_any}
-use Rattle.std.proofs.lemmas.Bool.{false≢true, cases_lt}
+use Rattle.std.{proofs.{Common.{◌≡◌, ◌<◌, length, false, sym, ap, ◌∙◌, subst, arith, inl, inr}, lemmas.Bool.{false≢true, cases_lt}}, specs.List.{list_any}}
 use Rattle.lab_order.specs.Path.{Reaches}
 use Rattle.lab_deps.specs.KindSets.{among}
-use Rattle.lab_judge.specs.Graphs.{ties}
-use Rattle.lab_judge.proofs.Ties.{row_tied}
+use Rattle.lab_judge.{specs.Graphs.{ties}, proofs.{Ties.{row_tied}, findings.opening.first_leading.Goals.{else-meets-via-then-meets+else-lead, else-meets-via-else-meets}}}
 use Rattle.lab_judge.proofs.findings.opening.first_leading.Goals as goal
-use Rattle.lab_judge.proofs.findings.opening.first_leading.Goals.{else-meets-via-then-meets+else-lead, else-meets-via-else-meets}
 
 pub returns-then-lead-clause-found : goal.returns-then-lead-clause-found
 returns-then-lead-clause-found c =

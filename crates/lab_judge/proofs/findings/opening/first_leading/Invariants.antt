@@ -1,5 +1,4 @@
-use Rattle.std.proofs.Common.{◌≡◌, ◌<◌, ℕ, false}
-use Rattle.std.specs.List.{list_any}
+use Rattle.std.{proofs.Common.{◌≡◌, ◌<◌, ℕ, false}, specs.List.{list_any}}
 use Rattle.lab_order.specs.Path.{Reaches}
 use Rattle.lab_deps.specs.KindSets.{among}
 use Rattle.lab_judge.specs.Graphs.{ties}

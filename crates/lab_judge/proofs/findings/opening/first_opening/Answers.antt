@@ -1,14 +1,7 @@
-use Rattle.std.proofs.Common.{◌≡◌, ◌<◌, false, length, arith, subst}
-use Rattle.std.specs.Prelude.{Contains, IfSome}
-use Rattle.std.specs.Ordering.{is_lt}
-use Rattle.std.proofs.lemmas.List.Elements.{Contains-get_or}
+use Rattle.std.{proofs.{Common.{◌≡◌, ◌<◌, false, length, arith, subst}, lemmas.List.Elements.{Contains-get_or}}, specs.{Prelude.{Contains, IfSome}, Ordering.{is_lt}}}
 use Rattle.lab_order.specs.Order.{position}
-use Rattle.lab_deps.specs.EdgeOrder.{edge_cmp}
-use Rattle.lab_deps.specs.KindSets.{among}
-use Rattle.lab_deps.specs.declared.edge.Edge.{Edge}
-use Rattle.lab_judge.specs.Openings.{IsOpening}
-use Rattle.lab_judge.proofs.FirstOpenings.{first_of_all}
-use Rattle.lab_judge.proofs.Openings.{within_nodes}
+use Rattle.lab_deps.specs.{EdgeOrder.{edge_cmp}, KindSets.{among}, declared.edge.Edge.{Edge}}
+use Rattle.lab_judge.{specs.Openings.{IsOpening}, proofs.{FirstOpenings.{first_of_all}, Openings.{within_nodes}}}
 use Rattle.lab_judge.proofs.findings.opening.first_opening.Goals as goal
 
 pub returns-clause-none : goal.returns-clause-none

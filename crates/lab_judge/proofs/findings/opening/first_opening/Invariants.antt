@@ -1,8 +1,6 @@
-use Rattle.std.proofs.Common.{◌<◌}
-use Rattle.std.specs.Prelude.{Contains}
+use Rattle.std.{proofs.Common.{◌<◌}, specs.Prelude.{Contains}}
 use Rattle.lab_order.specs.Order.{position}
-use Rattle.lab_deps.specs.KindSets.{among}
-use Rattle.lab_deps.specs.declared.edge.Edge.{Edge}
+use Rattle.lab_deps.specs.{KindSets.{among}, declared.edge.Edge.{Edge}}
 use Rattle.lab_judge.specs.Openings.{IsOpening}
 use Rattle.lab_judge.proofs.findings.opening.first_opening.Given as goal
 

@@ -1,5 +1,4 @@
-use Rattle.std.proofs.Common.{◌≡◌, ap, sym, subst, length}
-use Rattle.std.proofs.lemmas.Option.{slice_get_read}
+use Rattle.std.proofs.{Common.{◌≡◌, ap, sym, subst, length}, lemmas.Option.{slice_get_read}}
 use Rattle.lab_order.specs.Order.{position}
 use Rattle.lab_judge.proofs.Numbers.{at_its_place}
 use Rattle.lab_judge.proofs.nodes.Nodes.number.Goals as goal

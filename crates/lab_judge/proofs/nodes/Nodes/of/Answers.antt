@@ -1,10 +1,4 @@
-use Rattle.std.proofs.Common.{◌∙◌, sym, ap, subst, length}
-use Rattle.std.specs.Prelude.{Contains}
-use Rattle.std.specs.List.Sorted.{IsStrictlyIncreasing}
-use Rattle.std.proofs.lemmas.List.Filters.{dedup_is}
-use Rattle.std.proofs.lemmas.List.Kept.{Contains-dedup_nat, Contains-from_dedup}
-use Rattle.std.proofs.lemmas.List.Sorted.{Contains-permutation, IsPermutation-sym}
-use Rattle.std.proofs.lemmas.Map.Keys.{IsStrictlyIncreasing-dedup}
+use Rattle.std.{proofs.{Common.{◌∙◌, sym, ap, subst, length}, lemmas.{List.{Filters.{dedup_is}, Kept.{Contains-dedup_nat, Contains-from_dedup}, Sorted.{Contains-permutation, IsPermutation-sym}}, Map.Keys.{IsStrictlyIncreasing-dedup}}}, specs.{Prelude.{Contains}, List.Sorted.{IsStrictlyIncreasing}}}
 use Rattle.lab_judge.proofs.CommittedNumbers.{each_once}
 use Rattle.lab_judge.proofs.nodes.Nodes.of.Goals as goal
 

@@ -1,6 +1,5 @@
 use Rattle.std.proofs.Common.{◌∙◌, ap, ◌||◌}
-use Rattle.lab_engine.specs.SessionBits.{has}
-use Rattle.lab_engine.specs.declared.event.Level.TheVariants.{Locking}
+use Rattle.lab_engine.specs.{SessionBits.{has}, declared.event.Level.TheVariants.{Locking}}
 use Rattle.lab_locking.proofs.Blocking.{blocks_by_one}
 use Rattle.lab_locking.proofs.engine.LockRulesRules.blockers.Goals as goal
 

@@ -1,6 +1,4 @@
-use Rattle.std.proofs.Common.{◌∙◌, ◌≤◌, ap, sym, subst}
-use Rattle.std.specs.List.{All, count_by}
-use Rattle.std.specs.BinaryHeap.{heap_items}
+use Rattle.std.{proofs.Common.{◌∙◌, ◌≤◌, ap, sym, subst}, specs.{List.{All, count_by}, BinaryHeap.{heap_items}}}
 use Rattle.lab_order.proofs.Counted.{count_one_fewer, least_of}
 use Rattle.lab_order.proofs.free_nodes.FreeNodes.pop.Goals as goal
 

@@ -1,6 +1,4 @@
-use Rattle.std.proofs.Common.{◌∙◌, ◌+◌, ap, cond}
-use Rattle.std.specs.List.{count_by}
-use Rattle.std.specs.BinaryHeap.{heap_items}
+use Rattle.std.{proofs.Common.{◌∙◌, ◌+◌, ap, cond}, specs.{List.{count_by}, BinaryHeap.{heap_items}}}
 use Rattle.lab_order.proofs.Counted.{count_one_more}
 use Rattle.lab_order.proofs.free_nodes.FreeNodes.push.Goals as goal
 

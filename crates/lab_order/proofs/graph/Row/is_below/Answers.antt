@@ -1,5 +1,4 @@
-use Rattle.std.proofs.Common.{ltb-true, sym, ◌∙◌, ap, ◌-◌, length}
-use Rattle.std.specs.List.{slice_get}
+use Rattle.std.{proofs.Common.{ltb-true, sym, ◌∙◌, ap, ◌-◌, length}, specs.List.{slice_get}}
 use Rattle.lab_order.proofs.Rising.{below_last}
 use Rattle.lab_order.proofs.graph.Row.is_below.Goals as goal
 

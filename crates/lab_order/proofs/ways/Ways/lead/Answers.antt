@@ -1,10 +1,6 @@
-use Rattle.std.proofs.Common.{◌≡◌, ◌<◌, [], true, length, sym, ap, ◌∙◌, subst}
-use Rattle.std.specs.Prelude.{◌↔◌, IsTrue}
-use Rattle.std.proofs.lemmas.List.{get_or_default}
+use Rattle.std.{proofs.{Common.{◌≡◌, ◌<◌, [], true, length, sym, ap, ◌∙◌, subst}, lemmas.List.{get_or_default}}, specs.Prelude.{◌↔◌, IsTrue}}
 use Rattle.lab_sets.specs.Sets.{has}
-use Rattle.lab_order.specs.Arrows.{nodes_of}
-use Rattle.lab_order.specs.Path.{Reaches}
-use Rattle.lab_order.specs.Ways.{leads_by}
+use Rattle.lab_order.specs.{Arrows.{nodes_of}, Path.{Reaches}, Ways.{leads_by}}
 use Rattle.lab_order.proofs.ways.Ways.lead.Goals as goal
 
 pub returns : goal.returns

@@ -1,10 +1,6 @@
-use Rattle.std.proofs.Common.{◌≡◌, ◌<◌, ◌≤◌, ◌||◌, ◌&&◌, ◌+◌, ℕ, [], length, sym, ap, ◌∙◌, subst, arith}
-use Rattle.std.specs.List.{All}
-use Rattle.std.proofs.lemmas.List.{get_or_default, with_items_is}
+use Rattle.std.{proofs.{Common.{◌≡◌, ◌<◌, ◌≤◌, ◌||◌, ◌&&◌, ◌+◌, ℕ, [], length, sym, ap, ◌∙◌, subst, arith}, lemmas.List.{get_or_default, with_items_is}}, specs.List.{All}}
 use Rattle.lab_sets.specs.Sets.{has, room, room_for}
-use Rattle.lab_order.specs.Arrows.{nodes_of}
-use Rattle.lab_order.specs.Ways.{leads_by}
-use Rattle.lab_order.proofs.Closure.{AreWaysBelow, at_first, one_more, are_exact}
+use Rattle.lab_order.{specs.{Arrows.{nodes_of}, Ways.{leads_by}}, proofs.Closure.{AreWaysBelow, at_first, one_more, are_exact}}
 use Rattle.lab_order.proofs.ways.Ways.of.Goals as goal
 
 pub loop-node-init : goal.loop-node-init

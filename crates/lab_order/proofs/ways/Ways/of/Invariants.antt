@@ -1,9 +1,6 @@
-use Rattle.std.proofs.Common.{◌≡◌, length}
-use Rattle.std.specs.List.{All}
+use Rattle.std.{proofs.Common.{◌≡◌, length}, specs.List.{All}}
 use Rattle.lab_sets.specs.Sets.{room, room_for}
-use Rattle.lab_order.specs.Arrows.{nodes_of}
-use Rattle.lab_order.specs.Ways.{leads_by}
-use Rattle.lab_order.proofs.Closure.{AreWaysBelow}
+use Rattle.lab_order.{specs.{Arrows.{nodes_of}, Ways.{leads_by}}, proofs.Closure.{AreWaysBelow}}
 use Rattle.lab_order.proofs.ways.Ways.of.Given as goal
 
 -- the sets tell of the ways through the nodes so far

@@ -1,6 +1,5 @@
 use Rattle.std.proofs.Common.{sym, subst}
-use Rattle.lab_session.specs.Closing.{IsCloseFault}
-use Rattle.lab_session.proofs.Closings.{unrecorded_is}
+use Rattle.lab_session.{specs.Closing.{IsCloseFault}, proofs.Closings.{unrecorded_is}}
 use Rattle.lab_session.proofs.bench.Bench.close.Goals as goal
 
 pub returns-in-Err-clause-fault : goal.returns-in-Err-clause-fault

@@ -1,7 +1,6 @@
 use Rattle.std.proofs.Common.{◌<◌, ap, subst, arith, length, option_map}
 use Rattle.lab_engine.specs.Journal.{EngineRun}
-use Rattle.lab_session.specs.Bench.{HasNext}
-use Rattle.lab_session.proofs.SoundRuns.{sound_next}
+use Rattle.lab_session.{specs.Bench.{HasNext}, proofs.SoundRuns.{sound_next}}
 use Rattle.lab_session.proofs.bench.Bench.log_next.Goals as goal
 
 pub invariant_of-self-2 : goal.invariant_of-self-2

@@ -1,8 +1,5 @@
-use Rattle.std.proofs.Common.{◌≡◌, ap, subst, ◌∙◌}
-use Rattle.std.specs.Prelude.{IfErr}
-use Rattle.lab_engine.specs.Log.{past_of}
-use Rattle.lab_engine.specs.Journal.{EngineRun}
-use Rattle.lab_engine.specs.OverLimit.{IsRecordFault}
+use Rattle.std.{proofs.Common.{◌≡◌, ap, subst, ◌∙◌}, specs.Prelude.{IfErr}}
+use Rattle.lab_engine.specs.{Log.{past_of}, Journal.{EngineRun}, OverLimit.{IsRecordFault}}
 use Rattle.lab_session.proofs.bench.Bench.recording.Goals as goal
 
 pub returns-clause-fault : goal.returns-clause-fault

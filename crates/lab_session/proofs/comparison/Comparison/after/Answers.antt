@@ -1,15 +1,7 @@
-use Rattle.std.proofs.Common.{◌≡◌, ◌≢◌, ◌+◌, ◌++◌, ◌∷◌, [], List, cond, sym, subst, ap, ◌∙◌, arith, take, length, refl}
-use Rattle.std.specs.Prelude.{Some, slice_get}
-use Rattle.std.proofs.lemmas.Bool.{both_ways}
-use Rattle.lab_engine.specs.Recording.{is_answer}
-use Rattle.lab_engine.proofs.LockSteps.{none_some}
-use Rattle.lab_session.specs.declared.seat.Call.{Call}
-use Rattle.lab_session.specs.Seats.{call_at, DifferFirst}
-use Rattle.lab_session.specs.Compared.{Says}
-use Rattle.lab_session.proofs.Comparing.{differ_there}
+use Rattle.std.{proofs.{Common.{◌≡◌, ◌≢◌, ◌+◌, ◌++◌, ◌∷◌, [], List, cond, sym, subst, ap, ◌∙◌, arith, take, length, refl}, lemmas.{Bool.{both_ways}, Option.{same_Some, slice_get_past, slice_get_read}}}, specs.Prelude.{Some, slice_get}}
+use Rattle.lab_engine.{specs.Recording.{is_answer}, proofs.LockSteps.{none_some}}
+use Rattle.lab_session.{specs.{declared.seat.Call.{Call}, Seats.{call_at, DifferFirst}, Compared.{Says}}, proofs.{Comparing.{differ_there}, comparison.Comparison.after.Goals.{then-met-calls-via-then-met-calls, then-met-calls-via-else-met-calls+then-not-is_call_at}}}
 use Rattle.lab_session.proofs.comparison.Comparison.after.Goals as goal
-use Rattle.lab_session.proofs.comparison.Comparison.after.Goals.{then-met-calls-via-then-met-calls, then-met-calls-via-else-met-calls+then-not-is_call_at}
-use Rattle.std.proofs.lemmas.Option.{same_Some, slice_get_past, slice_get_read}
 
 pub returns-then-met-calls : goal.returns-then-met-calls
 returns-then-met-calls c = λ seats session all rest says.

@@ -1,10 +1,5 @@
-use Rattle.std.proofs.Common.{◌≡◌, ◌+◌, [], List, sym, subst, ap, ◌∙◌, take}
-use Rattle.std.specs.Prelude.{slice_index_or}
-use Rattle.std.proofs.lemmas.List.{take_all, append-nil}
-use Rattle.lab_session.specs.declared.seat.Call.{Call}
-use Rattle.lab_session.specs.Compared.{Says}
-use Rattle.lab_session.specs.Seats.{Seated, placed_calls, DifferFirst}
-use Rattle.lab_session.proofs.Comparing.{differ_there, some_apart, alone}
+use Rattle.std.{proofs.{Common.{◌≡◌, ◌+◌, [], List, sym, subst, ap, ◌∙◌, take}, lemmas.List.{take_all, append-nil}}, specs.Prelude.{slice_index_or}}
+use Rattle.lab_session.{specs.{declared.seat.Call.{Call}, Compared.{Says}, Seats.{Seated, placed_calls, DifferFirst}}, proofs.Comparing.{differ_there, some_apart, alone}}
 use Rattle.lab_session.proofs.comparison.Comparison.difference.Goals as goal
 
 pub returns-then-met-calls : goal.returns-then-met-calls

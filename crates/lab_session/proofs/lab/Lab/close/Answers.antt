@@ -1,7 +1,6 @@
 use Rattle.std.proofs.Common.{sym, ap, subst}
 use Rattle.lab_engine.specs.Journal.{EngineRun}
-use Rattle.lab_session.specs.Bench.{IsSoundRun}
-use Rattle.lab_session.specs.Closing.{IsCloseFault}
+use Rattle.lab_session.specs.{Bench.{IsSoundRun}, Closing.{IsCloseFault}}
 use Rattle.lab_session.proofs.lab.Lab.close.Goals as goal
 
 pub returns-in-Err-clause-fault : goal.returns-in-Err-clause-fault

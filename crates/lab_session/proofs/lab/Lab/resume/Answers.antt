@@ -1,11 +1,6 @@
-use Rattle.std.proofs.Common.{rules, ◌≡◌, None, inl, inr}
-use Rattle.std.proofs.lemmas.Bool.{both_ways}
-use Rattle.std.proofs.lemmas.Result.{IfOk-weaker}
-use Rattle.lab_engine.specs.Journal.{EngineRun}
-use Rattle.lab_engine.specs.Log.{past_of, waiting}
-use Rattle.lab_session.specs.Bench.{IsRunOf}
-use Rattle.lab_session.specs.Turns.{resting}
-use Rattle.lab_session.proofs.Answering.{gone_on_by, at_once, since}
+use Rattle.std.proofs.{Common.{rules, ◌≡◌, None, inl, inr}, lemmas.{Bool.{both_ways}, Result.{IfOk-weaker}}}
+use Rattle.lab_engine.specs.{Journal.{EngineRun}, Log.{past_of, waiting}}
+use Rattle.lab_session.{specs.{Bench.{IsRunOf}, Turns.{resting}}, proofs.Answering.{gone_on_by, at_once, since}}
 use Rattle.lab_session.proofs.lab.Lab.resume.Goals as goal
 
 pub returns-then-answered-clause-turns : goal.returns-then-answered-clause-turns

@@ -1,8 +1,6 @@
-use Rattle.std.proofs.lemmas.Bool.{both_ways}
-use Rattle.std.proofs.lemmas.Result.{IfOk-weaker, IfErr-weaker}
+use Rattle.std.proofs.lemmas.{Bool.{both_ways}, Result.{IfOk-weaker, IfErr-weaker}}
 use Rattle.lab_engine.specs.Journal.{EngineRun}
-use Rattle.lab_session.specs.Bench.{IsRunOf}
-use Rattle.lab_session.proofs.Answering.{answered_by, at_once, told_to_wait, since, told_since}
+use Rattle.lab_session.{specs.Bench.{IsRunOf}, proofs.Answering.{answered_by, at_once, told_to_wait, since, told_since}}
 use Rattle.lab_session.proofs.lab.Lab.submit.Goals as goal
 
 pub returns-then-answered-clause-turns : goal.returns-then-answered-clause-turns

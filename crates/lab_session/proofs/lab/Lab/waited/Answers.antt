@@ -1,11 +1,6 @@
-use Rattle.std.proofs.Common.{rules, ◌≡◌, true, subst}
-use Rattle.std.specs.Prelude.{IsSome, IfSome}
-use Rattle.lab_engine.specs.Journal.{EngineRun}
-use Rattle.lab_engine.specs.Log.{past_of, waiting}
-use Rattle.lab_session.specs.Bench.{IsRunOf}
-use Rattle.lab_session.specs.Seats.{Seated}
-use Rattle.lab_session.specs.Turns.{IsRetried, IsRetriedIn}
-use Rattle.lab_session.specs.Waiting.{TellsFull, IsTold}
+use Rattle.std.{proofs.Common.{rules, ◌≡◌, true, subst}, specs.Prelude.{IsSome, IfSome}}
+use Rattle.lab_engine.specs.{Journal.{EngineRun}, Log.{past_of, waiting}}
+use Rattle.lab_session.specs.{Bench.{IsRunOf}, Seats.{Seated}, Turns.{IsRetried, IsRetriedIn}, Waiting.{TellsFull, IsTold}}
 use Rattle.lab_session.proofs.lab.Lab.waited.Goals as goal
 
 pub returns-in-Ok-Some-clause-retried : goal.returns-in-Ok-Some-clause-retried

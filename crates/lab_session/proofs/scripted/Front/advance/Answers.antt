@@ -1,7 +1,5 @@
-use Rattle.std.proofs.Common.{◌≡◌, ◌+◌, refl, sym, ap, subst, arith}
-use Rattle.std.specs.Prelude.{slice_index_or, unwrap_or}
-use Rattle.lab_session.specs.UnderWay.{IsBehind}
-use Rattle.lab_session.proofs.Fronts.{front_more, covered_more}
+use Rattle.std.{proofs.Common.{◌≡◌, ◌+◌, refl, sym, ap, subst, arith}, specs.Prelude.{slice_index_or, unwrap_or}}
+use Rattle.lab_session.{specs.UnderWay.{IsBehind}, proofs.Fronts.{front_more, covered_more}}
 use Rattle.lab_session.proofs.scripted.Front.advance.Goals as goal
 
 pub loop-place-preserved : goal.loop-place-preserved

@@ -1,6 +1,5 @@
 use Rattle.std.proofs.Common.{◌≡◌}
-use Rattle.lab_engine.specs.Log.{Past}
-use Rattle.lab_engine.specs.Recording.{given}
+use Rattle.lab_engine.specs.{Log.{Past}, Recording.{given}}
 use Rattle.lab_session.specs.UnderWay.{AreCounts, IsBehind, IsCovered}
 use Rattle.lab_session.proofs.scripted.Front.advance.Given as goal
 

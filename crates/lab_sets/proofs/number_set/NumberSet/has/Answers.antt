@@ -1,5 +1,4 @@
-use Rattle.std.proofs.Common.{ap, ◌∙◌, ◌/◌, ◌%◌, ◌^◌, ◌==◌}
-use Rattle.std.specs.Prelude.{bit_and}
+use Rattle.std.{proofs.Common.{ap, ◌∙◌, ◌/◌, ◌%◌, ◌^◌, ◌==◌}, specs.Prelude.{bit_and}}
 use Rattle.lab_sets.proofs.Words.{tested}
 use Rattle.lab_sets.proofs.number_set.NumberSet.has.Goals as goal
 

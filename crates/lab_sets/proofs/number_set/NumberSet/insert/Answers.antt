@@ -1,8 +1,5 @@
-use Rattle.std.proofs.Common.{◌*◌, ◌/◌, ◌%◌, ◌^◌, ap, ◌∙◌, ◌<◌, ◌||◌, ◌==◌, arith, set, length}
-use Rattle.std.specs.Prelude.{bit_or}
-use Rattle.std.proofs.lemmas.Grind.{get_or_default_zero}
-use Rattle.lab_sets.specs.Sets.{has}
-use Rattle.lab_sets.proofs.Words.{inserted}
+use Rattle.std.{proofs.{Common.{◌*◌, ◌/◌, ◌%◌, ◌^◌, ap, ◌∙◌, ◌<◌, ◌||◌, ◌==◌, arith, set, length}, lemmas.Grind.{get_or_default_zero}}, specs.Prelude.{bit_or}}
+use Rattle.lab_sets.{specs.Sets.{has}, proofs.Words.{inserted}}
 use Rattle.lab_sets.proofs.number_set.NumberSet.insert.Goals as goal
 
 pub returns-clause-has : goal.returns-clause-has

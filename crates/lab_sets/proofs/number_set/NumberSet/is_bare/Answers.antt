@@ -1,6 +1,4 @@
-use Rattle.std.proofs.Common.{ap, inl, inr, arith, length}
-use Rattle.std.proofs.lemmas.Bool.{cases_lt}
-use Rattle.std.proofs.lemmas.List.{get_or_past}
+use Rattle.std.proofs.{Common.{ap, inl, inr, arith, length}, lemmas.{Bool.{cases_lt}, List.{get_or_past}}}
 use Rattle.lab_sets.proofs.Words.{bare}
 use Rattle.lab_sets.proofs.number_set.NumberSet.is_bare.Goals as goal
 

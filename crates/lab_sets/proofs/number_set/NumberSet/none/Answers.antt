@@ -1,6 +1,4 @@
-use Rattle.std.proofs.Common.{◌≡◌, ℕ, inl, inr, ap, ◌∙◌, arith, get_or, replicate}
-use Rattle.std.proofs.lemmas.Bool.{cases_lt}
-use Rattle.std.proofs.lemmas.List.{get_or_past, get_or-replicate, length-replicate}
+use Rattle.std.proofs.{Common.{◌≡◌, ℕ, inl, inr, ap, ◌∙◌, arith, get_or, replicate}, lemmas.{Bool.{cases_lt}, List.{get_or_past, get_or-replicate, length-replicate}}}
 use Rattle.lab_sets.proofs.Words.{bare}
 use Rattle.lab_sets.proofs.number_set.NumberSet.none.Goals as goal
 

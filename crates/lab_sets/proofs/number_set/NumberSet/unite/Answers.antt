@@ -1,7 +1,4 @@
-use Rattle.std.proofs.Common.{◌≡◌, ◌≤◌, ℕ, ap, refl, inl, inr, arith, get_or, length, List}
-use Rattle.std.specs.Prelude.{bit_or}
-use Rattle.std.proofs.lemmas.Bool.{cases_lt}
-use Rattle.std.proofs.lemmas.List.{get_or_past}
+use Rattle.std.{proofs.{Common.{◌≡◌, ◌≤◌, ℕ, ap, refl, inl, inr, arith, get_or, length, List}, lemmas.{Bool.{cases_lt}, List.{get_or_past}}}, specs.Prelude.{bit_or}}
 use Rattle.lab_sets.proofs.Words.{united}
 use Rattle.lab_sets.proofs.number_set.NumberSet.unite.Goals as goal
 

@@ -1,5 +1,4 @@
-use Rattle.std.proofs.Common.{◌≡◌, ◌<◌, ◌≤◌, ℕ, length, get_or}
-use Rattle.std.specs.Prelude.{bit_or}
+use Rattle.std.{proofs.Common.{◌≡◌, ◌<◌, ◌≤◌, ℕ, length, get_or}, specs.Prelude.{bit_or}}
 use Rattle.lab_sets.proofs.number_set.NumberSet.unite.Given as goal
 
 abbrev pub invariant-words : goal.invariant-words

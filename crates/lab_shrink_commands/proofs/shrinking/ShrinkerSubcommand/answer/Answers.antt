@@ -1,5 +1,4 @@
-use Rattle.std.proofs.Common.{inl}
-use Rattle.std.proofs.lemmas.Result.{IfOk-weaker}
+use Rattle.std.proofs.{Common.{inl}, lemmas.Result.{IfOk-weaker}}
 use Rattle.lab_shrink_commands.proofs.shrinking.ShrinkerSubcommand.answer.Goals as goal
 
 pub returns-in-Ok : goal.returns-in-Ok

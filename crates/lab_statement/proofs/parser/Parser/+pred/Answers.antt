@@ -1,8 +1,7 @@
-use Rattle.lab_statement.proofs.Common.{sym, arith, err_from_is_err_and, term_read, conj_read, pred_read}
+use Rattle.lab_statement.proofs.{Common.{sym, arith, err_from_is_err_and, term_read, conj_read, pred_read}, StoppedLoops.{starts, goes_on, next_stops, ends}}
 use Rattle.lab_table.specs.Predicate as predicate
 use Rattle.lab_table.specs.declared.word.Word.TheVariants as word
 use Rattle.lab_statement.specs.declared.token.Token.TheVariants as token
-use Rattle.lab_statement.proofs.StoppedLoops.{starts, goes_on, next_stops, ends}
 use Rattle.lab_statement.proofs.parser.Parser.+pred.Goals as goal
 
 pub conj-loop-alloc-init : goal.conj-loop-alloc-init

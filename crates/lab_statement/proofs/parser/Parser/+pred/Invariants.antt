@@ -1,8 +1,7 @@
-use Rattle.lab_statement.proofs.Common.{◌+◌, ◌*◌, ◌≤◌, length, term_read, conj_read, pred_read}
+use Rattle.lab_statement.proofs.{Common.{◌+◌, ◌*◌, ◌≤◌, length, term_read, conj_read, pred_read}, StoppedLoops.{ReadsOn}}
 use Rattle.lab_table.specs.Predicate as predicate
 use Rattle.lab_table.specs.declared.word.Word.TheVariants as word
 use Rattle.lab_statement.specs.declared.token.Token.TheVariants as token
-use Rattle.lab_statement.proofs.StoppedLoops.{ReadsOn}
 use Rattle.lab_statement.proofs.parser.Parser.+pred.Given as goal
 
 abbrev pub decreases-conj : goal.decreases-conj

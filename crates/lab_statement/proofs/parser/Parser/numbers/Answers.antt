@@ -1,6 +1,5 @@
-use Rattle.lab_statement.proofs.Common.{[], ◌∷◌, sym, arith, err_from_is_err_and, number_read, numbers_read, one_more}
+use Rattle.lab_statement.proofs.{Common.{[], ◌∷◌, sym, arith, err_from_is_err_and, number_read, numbers_read, one_more}, StoppedLoops.{starts, goes_on, next_stops, ends}}
 use Rattle.lab_statement.specs.declared.token.Token.TheVariants as token
-use Rattle.lab_statement.proofs.StoppedLoops.{starts, goes_on, next_stops, ends}
 use Rattle.lab_statement.proofs.parser.Parser.numbers.Goals as goal
 
 pub loop-self-init : goal.loop-self-init

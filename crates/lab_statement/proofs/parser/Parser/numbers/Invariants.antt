@@ -1,6 +1,5 @@
-use Rattle.lab_statement.proofs.Common.{◌≤◌, length, one_more, number_read, numbers_read}
+use Rattle.lab_statement.proofs.{Common.{◌≤◌, length, one_more, number_read, numbers_read}, StoppedLoops.{ReadsOn}}
 use Rattle.lab_statement.specs.declared.token.Token.TheVariants as token
-use Rattle.lab_statement.proofs.StoppedLoops.{ReadsOn}
 use Rattle.lab_statement.proofs.parser.Parser.numbers.Given as goal
 
 abbrev pub invariant-loop-self : goal.invariant-loop-self

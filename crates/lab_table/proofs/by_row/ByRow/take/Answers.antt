@@ -1,7 +1,5 @@
-use Rattle.std.proofs.Common.{◌∙◌, sym, ap}
-use Rattle.std.specs.FinMap.{entries, entries-from_sorted}
-use Rattle.lab_table.specs.Row.{row_cmp}
-use Rattle.lab_table.proofs.Putting.{no_entry}
+use Rattle.std.{proofs.Common.{◌∙◌, sym, ap}, specs.FinMap.{entries, entries-from_sorted}}
+use Rattle.lab_table.{specs.Row.{row_cmp}, proofs.Putting.{no_entry}}
 use Rattle.lab_table.proofs.by_row.ByRow.take.Goals as goal
 
 pub returns-clause-entries : goal.returns-clause-entries

@@ -1,6 +1,5 @@
 use Rattle.std.proofs.Common.{sym, ◌∙◌}
-use Rattle.lab_table.specs.Row.{Row, row_cmp}
-use Rattle.lab_table.proofs.RowOrder.{in_one_table, in_two_tables}
+use Rattle.lab_table.{specs.Row.{Row, row_cmp}, proofs.RowOrder.{in_one_table, in_two_tables}}
 use Rattle.lab_table.proofs.row_name.RowNameOrd.cmp.Goals as goal
 
 pub returns-then-eq : goal.returns-then-eq

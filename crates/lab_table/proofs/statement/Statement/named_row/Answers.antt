@@ -1,6 +1,5 @@
 use Rattle.std.proofs.Common.{◌∙◌, ap, sym}
-use Rattle.lab_table.specs.Statement.{kind_may_match}
-use Rattle.lab_table.proofs.Maps.{same_row}
+use Rattle.lab_table.{specs.Statement.{kind_may_match}, proofs.Maps.{same_row}}
 use Rattle.lab_table.proofs.statement.Statement.named_row.Goals as goal
 
 pub returns-in-Insert-clause-only : goal.returns-in-Insert-clause-only

@@ -1,6 +1,5 @@
 use Rattle.std.proofs.Common.{◌≡◌, sym, ◌∙◌}
-use Rattle.lab_table.specs.ValueTests.{kind_tests}
-use Rattle.lab_table.proofs.BlindStatements.{blind_kind}
+use Rattle.lab_table.{specs.ValueTests.{kind_tests}, proofs.BlindStatements.{blind_kind}}
 use Rattle.lab_table.proofs.statement.Statement.tests_values.Goals as goal
 
 pub returns-in-Select-clause-blind : goal.returns-in-Select-clause-blind

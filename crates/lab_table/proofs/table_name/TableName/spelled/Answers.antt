@@ -1,5 +1,4 @@
-use Rattle.std.proofs.Common.{sym, ap, ◌∙◌}
-use Rattle.std.specs.Prelude.{is_some}
+use Rattle.std.{proofs.Common.{sym, ap, ◌∙◌}, specs.Prelude.{is_some}}
 use Rattle.lab_table.proofs.Names.{spelled_held}
 use Rattle.lab_table.proofs.table_name.TableName.spelled.Goals as goal
 

@@ -1,6 +1,5 @@
 use Rattle.std.proofs.Common.{◌∙◌}
-use Rattle.lab_table.specs.TableName.{table_name_cmp}
-use Rattle.lab_table.proofs.Names.{names_compared}
+use Rattle.lab_table.{specs.TableName.{table_name_cmp}, proofs.Names.{names_compared}}
 use Rattle.lab_table.proofs.table_name.TableNameOrd.cmp.Goals as goal
 
 pub returns : goal.returns

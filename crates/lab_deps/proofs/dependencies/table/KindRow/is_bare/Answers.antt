@@ -1,10 +1,5 @@
-use Rattle.std.proofs.Common.{◌≡◌, ◌<◌, ◌≤◌, ℕ, Some, false, subst}
-use Rattle.std.specs.Prelude.{slice_get}
-use Rattle.std.proofs.lemmas.Bool.{eqb-true}
-use Rattle.lab_deps.specs.KindBits.{has_bit}
-use Rattle.lab_deps.specs.declared.edge.Kind.{Kind}
-use Rattle.lab_deps.specs.declared.kinds.Kinds.{Kinds}
-use Rattle.lab_deps.proofs.BareCells.{bare_kinds}
+use Rattle.std.{proofs.{Common.{◌≡◌, ◌<◌, ◌≤◌, ℕ, Some, false, subst}, lemmas.Bool.{eqb-true}}, specs.Prelude.{slice_get}}
+use Rattle.lab_deps.{specs.{KindBits.{has_bit}, declared.{edge.Kind.{Kind}, kinds.Kinds.{Kinds}}}, proofs.BareCells.{bare_kinds}}
 use Rattle.lab_deps.proofs.dependencies.table.KindRow.is_bare.Goals as goal
 
 pub returns : goal.returns

@@ -1,10 +1,5 @@
-use Rattle.std.proofs.Common.{◌≡◌, ◌<◌, length, get_or, map, slice_index, sym, ap, ◌∙◌, subst}
-use Rattle.std.proofs.lemmas.List.{get_or_default}
-use Rattle.lab_deps.specs.ColumnRuns.{IsRun, AreInRun}
-use Rattle.lab_deps.specs.KindBits.{place, cells_from}
-use Rattle.lab_deps.specs.KindsBetween.{KindsBetween, AreKindsTo}
-use Rattle.lab_deps.proofs.BareCells.{in_run}
-use Rattle.lab_deps.proofs.KindTables.{kinds_in, row_is}
+use Rattle.std.proofs.{Common.{◌≡◌, ◌<◌, length, get_or, map, slice_index, sym, ap, ◌∙◌, subst}, lemmas.List.{get_or_default}}
+use Rattle.lab_deps.{specs.{ColumnRuns.{IsRun, AreInRun}, KindBits.{place, cells_from}, KindsBetween.{KindsBetween, AreKindsTo}}, proofs.{BareCells.{in_run}, KindTables.{kinds_in, row_is}}}
 use Rattle.lab_deps.proofs.dependencies.table.KindTable.row.Goals as goal
 
 pub returns : goal.returns

@@ -1,8 +1,5 @@
 use Rattle.std.proofs.Common.{◌≡◌, Some, subst}
-use Rattle.lab_history_file.specs.Entries.{txn_in_number}
-use Rattle.lab_history_file.specs.FileOf.{IsListOf}
-use Rattle.lab_history_file.specs.Tree.{natural_tree, list_tree}
-use Rattle.lab_history_file.proofs.WrittenMembers.{installed_stands}
+use Rattle.lab_history_file.{specs.{Entries.{txn_in_number}, FileOf.{IsListOf}, Tree.{natural_tree, list_tree}}, proofs.WrittenMembers.{installed_stands}}
 use Rattle.lab_history_file.proofs.writing.entries.Tuple2RowNameInstallersToJson.to_json.Goals as goal
 
 pub returns-clause-file : goal.returns-clause-file

@@ -1,8 +1,7 @@
 use Rattle.std.proofs.Common.{true≢false, sym, ap, ◌∙◌}
 use Rattle.lab_history.specs.HistoryRules.{is_listed}
-use Rattle.lab_history_file.proofs.WrittenMembers.{version_stands}
+use Rattle.lab_history_file.proofs.{WrittenMembers.{version_stands}, writing.entries.Tuple2RowNameVersionNameToJson.to_json.Goals.{in-Initial+in_ok-parts-in-Initial, in-Of+in_ok-parts-in-Of}}
 use Rattle.lab_history_file.proofs.writing.entries.Tuple2RowNameVersionNameToJson.to_json.Goals as goal
-use Rattle.lab_history_file.proofs.writing.entries.Tuple2RowNameVersionNameToJson.to_json.Goals.{in-Initial+in_ok-parts-in-Initial, in-Of+in_ok-parts-in-Of}
 
 pub returns-clause-file : goal.returns-clause-file
 returns-clause-file c = elim c.match-self.branch [
