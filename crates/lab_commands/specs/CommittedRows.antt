@@ -1,12 +1,11 @@
 -- The committed rows, event by event.
-use Rattle.std.specs.Prelude.{ℕ, ◌-◌, cond, Option, None, unwrap_or, List, [], ◌∷◌, ◌++◌, slice_set, replicate, codes}
+use Rattle.std.specs.Prelude.{ℕ, ◌-◌, cond, Option, Some, None, unwrap_or, List, [], ◌∷◌, ◌++◌, slice_set, replicate, codes}
 use Rattle.lab_table.specs.Table.{Table}
 use Rattle.lab_table.specs.Sessions.{of_session}
 use Rattle.lab_script.specs.Printed.{printed_table}
 use Rattle.lab_statement.specs.Printed.{newline}
 use Rattle.lab_history.specs.History.{History}
 use Rattle.lab_engine.specs.EventQuery.{is_over}
-use Rattle.lab_engine.specs.Gathered.{number_after}
 use Rattle.lab_engine.specs.RecordedLog.{RecordedLog}
 use Rattle.lab_engine.specs.declared.event.LogEvent.{LogEvent}
 use Rattle.lab_engine.specs.declared.event.Outcome.{Outcome}
@@ -22,6 +21,11 @@ standing_first setup = record { active = replicate 9 None; rows = setup }
 -- the number of a session's active transaction, if it has one
 abbrev pub number_in : List (Option ℕ) → ℕ → Option ℕ
 number_in active session = unwrap_or (of_session active session) None
+
+-- the number of a session's active transaction after one of its events
+abbrev pub number_after : Outcome → Option ℕ → Option ℕ
+number_after (Begun n) by = Some n
+number_after outcome by = cond (is_over outcome) None by
 
 -- the committed rows after an outcome of a session whose active transaction has this number: a commit puts its writes over them
 abbrev pub rows_after : History → Outcome → Option ℕ → Table → Table

@@ -2,9 +2,8 @@
 
 ghost use Rattle.std.specs.Prelude.{◌≡◌, IfOk, OnOk};
 ghost use Rattle.lab_engine.specs.EventQuery.{is_over};
-ghost use Rattle.lab_engine.specs.Gathered.{number_after};
 ghost use Rattle.lab_judge.specs.Runs.{table_after, table_after_txn};
-ghost use Rattle.lab_commands.specs.CommittedRows.{standing_first, standing_after, rows_after};
+ghost use Rattle.lab_commands.specs.CommittedRows.{standing_first, standing_after, number_after, rows_after};
 
 use crate::overwriting::overwrite;
 use lab_engine::{EngineFault, LogEvent, Outcome};

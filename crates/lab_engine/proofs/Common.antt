@@ -26,21 +26,21 @@ pub use Rattle.lab_engine.specs.Situation.{Agree, Describes, DescribesAll, Descr
 pub use Rattle.lab_engine.specs.KeptRows.{IsReadyAt, IsSame, chain_in, chain_kept, entries_in, kept_at, pending_in, pending_kept}
 pub use Rattle.lab_engine.specs.Kept.{IsReady, IsRoomy, Kept, count, pending_of}
 pub use Rattle.lab_engine.specs.KeptCommits.{AreCommits, AreInstalled, AreWritten, commits_by, installs, kept_rows}
-pub use Rattle.lab_engine.specs.Chains.{chain, chain_after, first_since, last_before, longer}
+pub use Rattle.lab_engine.specs.Chains.{chain, chain_after, first_since, installed_by, last_before, longer}
 unfoldable pub use Rattle.lab_engine.specs.{SessionBits.{has}, WaitsFor.{waits_for}}
 pub use Rattle.lab_engine.specs.SessionBits.{AreSessions}
 pub use Rattle.lab_engine.specs.Recording.{IsLeastRetryable, IsLegalRecording, IsRecording, IsRetryable, NoneRetryable, end_of, has_number, if_any, numbers_from, op_of, ops_of, recorded_txn, recorded_txns}
-pub use Rattle.lab_engine.specs.Sight.{comes_after, initially, listed_version}
+pub use Rattle.lab_engine.specs.Sight.{comes_after, initially}
 pub use Rattle.lab_engine.specs.declared.session_state.{SessionState.{SessionState}, RunningTxn.{RunningTxn}}
 pub use Rattle.lab_engine.specs.declared.situation.Situation.{Situation}
 pub use Rattle.lab_engine.specs.Laws.{AllDone, AllKeepOff, AllNumbered, AllRan, AllRecorded, AreNumbered, AreRecorded, Began, BeginsHold, CommitsHold, FirstCommitter, IsDone, IsNumber, IsRecorded, KeepsOff, LocksHold, NoneHas, NumbersHold, RanAt, RanBy, RecordsHold, Untouched, UntouchedAt}
 pub use Rattle.lab_engine.specs.WaitsFor.{AreBlockers, AreWaits, IsRound, IsWalk, WaitsForOne, WaitsOn, is_session}
-pub use Rattle.lab_engine.specs.Gathered.{AreActive, Gathers, IsShort, IsWithin, changed, changed_by, committed, gathered_by, groups_from, installed_over, installing, installs_by, new_txn, number_after, number_of, numbers_of, recorded, txns_after, version_told, with_ops}
+pub use Rattle.lab_engine.specs.Gathered.{Gathers, IsWithin, changed, changed_by, committed, new_txn, number_kept, number_of, recorded, txns_after, with_ops}
 pub use Rattle.lab_engine.specs.EachRow.{each_row, first_failing, stored, value_rewritten, with_row}
 pub use Rattle.lab_history.specs.History.{History}
 pub use Rattle.lab_engine.specs.Others.{IsOther}
 pub use Rattle.std.proofs.lemmas.Bool.Decides.{eqb_tells, same_from_decides}
-pub use Rattle.lab_engine.specs.Merging.{initial_entry, insert_each, insert_missing, merged, without_row, written_entry, written_version}
+pub use Rattle.lab_engine.specs.Merging.{initial_entry, merged, without_row, written_version}
 pub use Rattle.std.proofs.lemmas.Result.{IfOk-weaker, on_ok_weaker}
 pub use Rattle.lab_engine.specs.LeastCircle.{IsLeastCircle, NamesLeastOf, NamesLeastOfWaiting, NotAfter}
 pub use Rattle.std.proofs.lemmas.Grind.{get_or_default_zero, reverse_onto}
@@ -48,7 +48,7 @@ pub use Rattle.lab_table.proofs.Orderings.{eq_reversed, is_less, turned, turned_
 pub use Rattle.std.specs.List.Sorted.{IsSortedByKey, IsStableByKey, IsStrictlyIncreasing}
 pub use Rattle.lab_table.proofs.OneRow.{absent_runs, change_is, insert_is, new_state-runs, no_match, not_failing, not_listed, not_written, update_inserts_none}
 pub use Rattle.std.specs.Prelude.{Err, None, Ok, Option, Result, Some, false, filter, nat_lt, slice_get, slice_index, slice_index_or, true, unwrap_or, ⊤, ◌==◌}
-pub use Rattle.lab_engine.specs.declared.gathering.GatheredTxn.{GatheredTxn}
+pub use Rattle.lab_engine.specs.declared.gathering.{GatheredTxn.{GatheredTxn}, Gathering.{Gathering}}
 pub use Rattle.std.proofs.lemmas.List.Folds.{Any-from_list_any, list_all-append, list_all_at, list_any-append, list_any_at, list_any_more}
 pub use Rattle.lab_engine.specs.declared.row_states.RowStates.{RowStates}
 pub use Rattle.lab_history.specs.FirstPartsFault.{checked, installed_checked, listed_from, op_checked, ops_checked, statement_prints, txn_checked, txns_checked}

@@ -46,12 +46,6 @@ module _ {A B : Type 0} (f : Row → A → Option B) where
         | false ↦ λ t. rest
       ] refl)
 
-  -- the map of what is made of each row, row by row
-  pub get_each : (m : FinMap row_cmp A) (q : Row) → get (from_sorted {R = row_cmp} (each_row f (entries m))) q ≡ option_and_then (f q) (get m q)
-  get_each m q =
-      get-from_sorted row_cmp (each_row f (entries m)) q (sorted_each (entries m) (entries_sorted m))
-      ∙ find_each q (entries m) (entries_sorted m) ∙ ap (option_and_then (f q)) (sym (get-entries m q))
-
 -- new states as the code has them, made of each row
 pub states_of_each : {A : Type 0} (f : Row → A → Option Written) (es : List (Row × A)) → new_states (each_row f es) ≡ each_row (λ row v. option_map state_value (f row v)) es
 states_of_each f [] = refl
@@ -61,10 +55,6 @@ states_of_each {A} f (e ∷ es) = at (f e.0 e.1) (states_of_each f es)
         → new_states (cons_option (with_row e.0 o) (each_row f es)) ≡ cons_option (with_row e.0 (option_map state_value o)) (each_row (λ row v. option_map state_value (f row v)) es)
     at None rest = rest
     at (Some left) rest = ap (λ es'. (e.0, state_value left) ∷ es') rest
-
--- a list that is made of each row of a map is sorted
-pub sorted_made : {A B : Type 0} (f : Row → A → Option B) (m : FinMap row_cmp A) (es : List (Row × A)) (items : List (Row × B)) → es ≡ entries m → items ≡ each_row f es → T (is_sorted row_cmp items)
-sorted_made f m es items of_map made = subst (λ k. T (is_sorted row_cmp k)) (sym (made ∙ ap (each_row f) of_map)) (sorted_each f (entries m) (entries_sorted m))
 
 -- a state as histories have it is the state
 stored_is : (o : Option State) → option_map state_value (option_map stored o) ≡ o

@@ -1,5 +1,5 @@
 -- Chains of installed versions: what they say of the versions at a begin.
-use Rattle.lab_engine.proofs.Common.{active, ap, append_assoc, arith, Began, chain, chain_after, commits, commits_after, Committed, cond, first_since, is_some, last_before, last_installed, le-ltb, length, length-append, List, longer, lt-ltb, None, Option, option_or, Outcome, Past, refl, Row, Some, subst, sym, Txn, unwrap_or, Version, version_by, writers, [], ℕ, ◌++◌, ◌<◌, ◌∙◌, ◌∷◌, ◌≡◌, ◌≤◌}
+use Rattle.lab_engine.proofs.Common.{active, ap, append_assoc, arith, Began, chain, chain_after, commits, commits_after, Committed, cond, false, first_since, if_any, installed_by, installers, is_some, last_before, last_installed, le-ltb, length, length-append, List, longer, lt-ltb, map, map-append, None, Option, option_or, Outcome, Past, refl, reverse, reverse-append, reverse-reverse, Row, Some, subst, sym, true≢false, Txn, unwrap_or, Version, version_by, writers, [], ℕ, ◌++◌, ◌<◌, ◌==◌, ◌∙◌, ◌∷◌, ◌≡◌, ◌≤◌}
 use Rattle.lab_engine.specs.declared.row_state.Installed.{Installed}
 use Rattle.lab_engine.proofs.Begins.{begins_hold}
 
@@ -98,3 +98,37 @@ last_at_begin past session txn row is =
     let b : Began past txn = begins_hold past session txn is in
     subst (λ (p : Past). last_before (length txn.before) (chain p row) ≡ last_installed (commits txn.before) row)
     (append_assoc b.since (b.event ∷ []) txn.before ∙ sym b.past_is) (last_then row txn.before (b.since ++ b.event ∷ []))
+
+-- ---- who installed
+
+module _ (row : Row) where
+  by_after : (outcome : Outcome) (act : Option Txn) (place : ℕ) (c : List Installed) (txns : List Txn) → map (λ i. i.by) c ≡ map (λ t. t.no) (writers row txns)
+      → map (λ i. i.by) (chain_after outcome act place row c) ≡ map (λ t. t.no) (writers row (commits_after outcome act txns))
+  by_after Committed (Some t) place c txns is = at (version_by t row) where
+    at : (v : Option Version) → map (λ i. i.by) (longer t.no place v c) ≡ map (λ t. t.no) (cond (is_some v) (t ∷ writers row txns) (writers row txns))
+    at None = is
+    at (Some v) = ap (λ l. t.no ∷ l) is
+  by_after other act place c txns is = is
+
+  by_in : (past : Past) → map (λ i. i.by) (chain past row) ≡ map (λ t. t.no) (writers row (commits past))
+  by_in [] = refl
+  by_in (event ∷ past) = by_after event.outcome (active past event.session) (length past) (chain past row) (commits past) (by_in past)
+
+  -- a row's chain names its installers
+  pub installed_in : (past : Past) → installed_by (chain past row) ≡ installers past row
+  installed_in past = ap reverse (by_in past)
+
+reverse_map : {A B : Type 0} (f : A → B) (xs : List A) → map f (reverse xs) ≡ reverse (map f xs)
+reverse_map f [] = refl
+reverse_map f (x ∷ xs) =
+    ap (map f) (reverse-append (x ∷ []) xs) ∙ map-append f (reverse xs) (x ∷ []) ∙ ap (λ l. l ++ f x ∷ []) (reverse_map f xs) ∙ sym (reverse-append (f x ∷ []) (map f xs))
+
+-- installed versions in order name those who installed them
+pub named_by : (installed chain : List Installed) → reverse installed ≡ chain → map (λ i. i.by) installed ≡ installed_by chain
+named_by installed chain is =
+    sym (reverse-reverse (map (λ i. i.by) installed)) ∙ ap reverse (sym (reverse_map (λ i. i.by) installed)) ∙ ap (λ c. reverse (map (λ (i : Installed). i.by) c)) is
+
+-- where there are versions, somebody installed them
+pub some_named : (installed : List Installed) → (length installed == 0) ≡ false → Some (map (λ i. i.by) installed) ≡ if_any (map (λ i. i.by) installed)
+some_named [] some = absurd (true≢false some)
+some_named (i ∷ installed) some = refl

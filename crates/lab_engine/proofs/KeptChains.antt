@@ -1,6 +1,7 @@
 -- What is made of what is kept of rows, by rising row.
-use Rattle.lab_engine.proofs.Common.{AllByRecursion, ap, below_all, chain_kept, cond, each_row, find, is_eq, is_lt, is_sorted, joined, Kept, last_before, Less, List, None, Option, option_and_then, option_or, pending_kept, refl, Row, row_cmp, seen_of, Some, subst, sym, T, Version, [], ℕ, ◌∙◌, ◌∷◌, ◌≡◌}
+use Rattle.lab_engine.proofs.Common.{AllByRecursion, ap, below_all, chain_in, chain_kept, cond, each_row, entries_in, find, is_eq, is_lt, is_sorted, joined, Kept, kept_at, last_before, Less, List, None, Option, option_and_then, option_or, pending_kept, refl, Row, row_cmp, RowStates, seen_of, Some, subst, sym, T, Version, [], ℕ, ◌∙◌, ◌∷◌, ◌≡◌}
 use Rattle.std.specs.{List.Sorted.{IsStrictlySortedBy}, Map.{keys_of, lookup}, BTreeMap.{is_at}}
+use Rattle.lab_engine.specs.declared.row_state.Installed.{Installed}
 use Rattle.lab_engine.proofs.Effects.{sorted_each, find_each}
 
 module _ {A : Type 0} where
@@ -33,3 +34,19 @@ pub seen_kept : {B : Type 0} (f : Option Version → Option B) → f None ≡ No
     ≡ f (option_or (pending_kept o session) (last_before place (chain_kept o)))
 seen_kept f none session place None = sym none
 seen_kept f none session place (Some kept) = refl
+
+-- so by its chain alone
+chain_made : {B : Type 0} (f : List Installed → Option B) → f [] ≡ None → (o : Option Kept) → option_and_then (λ (kept : Kept). f kept.chain) o ≡ f (chain_kept o)
+chain_made f none None = sym none
+chain_made f none (Some kept) = refl
+
+-- what is made of each row's chain, row by row
+module _ {B : Type 0} (f : List Installed → Option B) (none : f [] ≡ None) (rows : RowStates) (kept : List (Row × Kept)) (written : kept ≡ entries_in rows)
+    (ordered : IsStrictlySortedBy row_cmp (keys_of kept)) (items : List (Row × B)) (made : items ≡ each_row (λ row (k : Kept). f k.chain) kept) where
+  pub chains_sorted : T (is_sorted row_cmp items)
+  chains_sorted = subst (λ l. T (is_sorted row_cmp l)) (sym made) (each_kept (λ row (k : Kept). f k.chain) kept ordered)
+
+  pub chains_found : (row : Row) → find row_cmp row items ≡ f (chain_in rows row)
+  chains_found row =
+      ap (find row_cmp row) made ∙ each_found (λ row (k : Kept). f k.chain) kept ordered row
+      ∙ ap (λ es. option_and_then (λ (k : Kept). f k.chain) (lookup (is_at (row_cmp row)) es)) written ∙ chain_made f none (kept_at rows row)

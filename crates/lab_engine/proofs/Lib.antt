@@ -20,7 +20,6 @@ pub mod InstalledChains
 pub mod Answering
 pub mod EndPlaces
 pub mod Merging
-pub mod VersionLists
 pub mod States
 pub mod Effects
 pub mod FailingRows
@@ -41,11 +40,9 @@ pub mod Waiting
 pub mod Circles
 pub mod Retrying
 pub mod Crosses
-pub mod GatheredLogs
 pub mod TxnsAfterEvents
 pub mod GatheredNumbers
 mod Gatherings
-mod Grouping
 pub mod Recordings
 pub mod ListedVersions
 pub mod BrokenLimits

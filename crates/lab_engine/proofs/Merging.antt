@@ -1,11 +1,11 @@
--- Sorted lists of rows with their versions, two of which are merged.
+-- Sorted lists of rows with their versions, two of which are merged: those of a setup, and others over them.
 use Rattle.std.specs.Bool.{⊤}
-use Rattle.lab_engine.proofs.Common.{ap, append_assoc, below_all, Bool, both, by_order, comes_after, cond, drop, entries, entries_sorted, Equal, false, find, find-put, find_below, from_sorted, get, get-entries, get-from_sorted, get-insert, Greater, insert, insert_each, insert_missing, is_gt, is_less, is_lt, is_some, is_sorted, is_sorted-put, Less, lower, merged, None, one-add, Option, option_or, Ordering, prefix_len, put, refl, Row, row_cmp, row_eq, rows_apart, rows_total, same_row, Some, subst, sym, T, take, true, turned, turned_back, Version, without_row, [], ℕ, ◌++◌, ◌+◌, ◌∙◌, ◌∷◌, ◌≡◌}
+use Rattle.lab_engine.proofs.{Common.{ap, append_assoc, below_all, both, by_order, comes_after, cond, drop, each_row, entries, entries_sorted, Equal, false, find, find-map, find-put, find_below, get, get-entries, Greater, initial_entry, initially, is_gt, is_less, is_lt, is_sorted, is_sorted-put, laid_over, Less, List, lower, map, merged, None, one-add, Option, option_and_then, option_map, option_or, Ordering, prefix_len, put, refl, Row, row_cmp, row_eq, rows_apart, rows_total, same_row, Some, sorted-map, State, subst, sym, T, Table, take, true, turned, turned_back, unwrap_or, Version, without_row, [], ℕ, ℤ, ◌++◌, ◌+◌, ◌∙◌, ◌∷◌, ◌≡◌}, Effects.{sorted_each, find_each}}
 use Rattle.lab_table.proofs.Putting.{is_own}
-use Rattle.lab_engine.specs.Sight.{Listed}
-use Rattle.lab_history.proofs.FirstValues.{or_none}
-use Rattle.lab_engine.proofs.VersionLists.{Entries}
-use Rattle.lab_engine.proofs.RowChanges.{by_row}
+
+-- rows with their versions
+abbrev pub Entries : Type 0
+Entries = List (Row × Version)
 
 -- a version before those that come after the row, in the place of the row's own if it is there
 split : (row : Row) (v : Version) (es : Entries) → take (prefix_len (comes_after row) es) es ++ (row, v) ∷ without_row row (drop (prefix_len (comes_after row) es) es) ≡ put row_cmp row v es
@@ -95,15 +95,36 @@ merged_sorted under over below above = subst (λ l. T (is_sorted row_cmp l)) (sy
 pub merged_found : (row : Row) (under over : Entries) → T (is_sorted row_cmp over) → find row_cmp row (merged under over) ≡ option_or (find row_cmp row over) (find row_cmp row under)
 merged_found row under over above = ap (find row_cmp row) (merged_put under over above) ∙ each_found row under over above
 
-module _ (below above : Listed) (made : Entries) (is : made ≡ merged (entries below) (entries above)) where
-  -- two maps' entries merged are in order
-  pub maps_sorted : T (is_sorted row_cmp made)
-  maps_sorted = subst (λ l. T (is_sorted row_cmp l)) (sym is) (merged_sorted (entries below) (entries above) (entries_sorted below) (entries_sorted above))
+-- ---- a setup's versions, and others over them
 
-  pub maps_found : (row : Row) → get (from_sorted {R = row_cmp} made) row ≡ option_or (get above row) (get below row)
-  maps_found row =
-      get-from_sorted row_cmp made row maps_sorted ∙ ap (find row_cmp row) is ∙ merged_found row (entries below) (entries above) (entries_sorted above)
-      ∙ ap (λ o. option_or o (find row_cmp row (entries below))) (sym (get-entries above row)) ∙ ap (option_or (get above row)) (sym (get-entries below row))
+-- a state in the end is that of the version over the setup's, if there is one, and so is what is made of it
+pub state_over : {B : Type 0} (f : State → Option B) → f None ≡ None → (over : Option Version) (state : State)
+    → option_and_then (λ (v : Version). f v.state) (option_or over (option_map (λ value. initially (Some value)) state)) ≡ f (unwrap_or over (initially state)).state
+state_over f none (Some v) state = refl
+state_over f none None None = sym none
+state_over f none None (Some value) = refl
+
+module _ (setup : Table) (over : Entries) (rising : T (is_sorted row_cmp over)) where
+  abbrev laid : Entries
+  laid = laid_over (entries setup) over
+
+  laid_sorted : T (is_sorted row_cmp laid)
+  laid_sorted = merged_sorted (map initial_entry (entries setup)) over (sorted-map (λ (e : Row × ℤ). initially (Some e.1)) (entries setup) (entries_sorted setup)) rising
+
+  laid_found : (row : Row) → find row_cmp row laid ≡ option_or (find row_cmp row over) (option_map (λ value. initially (Some value)) (get setup row))
+  laid_found row =
+      merged_found row (map initial_entry (entries setup)) over rising
+      ∙ ap (option_or (find row_cmp row over)) (find-map (λ (value : ℤ). initially (Some value)) row (entries setup) ∙ ap (option_map (λ value. initially (Some value))) (sym (get-entries setup row)))
+
+  -- what is made of the states of all, row by row
+  module _ {B : Type 0} (f : Row → State → Option B) (none : (row : Row) → f row None ≡ None) (made : List (Row × B)) (is : made ≡ each_row (λ row (v : Version). f row v.state) laid) where
+    pub over_sorted : T (is_sorted row_cmp made)
+    over_sorted = subst (λ l. T (is_sorted row_cmp l)) (sym is) (sorted_each (λ row (v : Version). f row v.state) laid laid_sorted)
+
+    pub over_found : (row : Row) → find row_cmp row made ≡ f row (unwrap_or (find row_cmp row over) (initially (get setup row))).state
+    over_found row =
+        ap (find row_cmp row) is ∙ find_each (λ row (v : Version). f row v.state) row laid laid_sorted ∙ ap (option_and_then (λ (v : Version). f row v.state)) (laid_found row)
+        ∙ state_over (f row) (none row) (find row_cmp row over) (get setup row)
 
 -- one more entry merged
 pub merge_step : (made news left rest over whole : Entries) (e : Row × Version) (n : ℕ) → made ++ merged left (e ∷ over) ≡ whole → n ≡ prefix_len (comes_after e.0) left
@@ -115,46 +136,3 @@ merge_step made news left rest over whole e n before place new is =
     ∙ ap (λ l. made ++ (take n left ++ e ∷ merged l over)) is
     ∙ ap (λ k. made ++ (take k left ++ e ∷ merged (without_row e.0 (drop k left)) over)) place
     ∙ before
-
--- putting each over versions: a row is found as they have it, else as before
-each_inserted : (row : Row) (versions : Listed) (over : Entries) → T (is_sorted row_cmp over) → get (insert_each versions over) row ≡ option_or (find row_cmp row over) (get versions row)
-each_inserted row versions [] h = refl
-each_inserted row versions (e ∷ over) h =
-    let parts = both (below_all row_cmp e.0 over) (is_sorted row_cmp over) h in
-    each_inserted row (insert versions e.0 e.1) over parts.1
-    ∙ ap (option_or (find row_cmp row over)) (get-insert rows_total versions e.0 e.1 row)
-    ∙ first_stays row e over (get versions row) parts.0
-
--- a row is found as the entries that were put have it, else as before
-pub cover_found : (old above : Listed) (seen : Entries) (row : Row) → seen ≡ entries above → get (insert_each old seen) row ≡ option_or (get above row) (get old row)
-cover_found old above seen row is =
-    ap (λ l. get (insert_each old l) row) is ∙ each_inserted row old (entries above) (entries_sorted above) ∙ ap (λ o. option_or o (get old row)) (sym (get-entries above row))
-
--- one entry put where its row is missing
-one_missing : (row : Row) (versions : Listed) (e : Row × Version)
-    → get (cond (is_some (get versions e.0)) versions (insert versions e.0 e.1)) row ≡ option_or (get versions row) (cond (row_eq row e.0) (Some e.1) None)
-one_missing row versions e = at (get versions e.0) refl
-  where
-    at : (o : Option Version) → get versions e.0 ≡ o → get (cond (is_some o) versions (insert versions e.0 e.1)) row ≡ option_or (get versions row) (cond (row_eq row e.0) (Some e.1) None)
-    at (Some v) is =
-        by_row (λ r own. get versions r ≡ option_or (get versions r) (cond own (Some e.1) None)) e.0 (is ∙ sym (ap (λ o. option_or o (Some e.1)) is)) (λ r. sym (or_none (get versions r))) row
-    at None is =
-        get-insert rows_total versions e.0 e.1 row
-        ∙ by_row (λ r own. cond own (Some e.1) (get versions r) ≡ option_or (get versions r) (cond own (Some e.1) None)) e.0 (sym (ap (λ o. option_or o (Some e.1)) is)) (λ r. sym (or_none (get versions r))) row
-
-one_then : (o rest : Option Version) (own : Bool) (v : Version) → option_or (option_or o (cond own (Some v) None)) rest ≡ option_or o (cond own (Some v) rest)
-one_then (Some u) rest own v = refl
-one_then None rest true v = refl
-one_then None rest false v = refl
-
--- putting those that are missing: a row is found as before, else as the entries have it
-each_missing : (row : Row) (versions : Listed) (under : Entries) → get (insert_missing versions under) row ≡ option_or (get versions row) (find row_cmp row under)
-each_missing row versions [] = sym (or_none (get versions row))
-each_missing row versions (e ∷ under) =
-    each_missing row (cond (is_some (get versions e.0)) versions (insert versions e.0 e.1)) under
-    ∙ ap (λ o. option_or o (find row_cmp row under)) (one_missing row versions e) ∙ one_then (get versions row) (find row_cmp row under) (row_eq row e.0) e.1
-
--- a row is found as versions have it, else as those that were put under them
-pub under_found : (above old : Listed) (seen : Entries) (row : Row) → seen ≡ entries old → get (insert_missing above seen) row ≡ option_or (get above row) (get old row)
-under_found above old seen row is =
-    ap (λ l. get (insert_missing above l) row) is ∙ each_missing row above (entries old) ∙ ap (option_or (get above row)) (sym (get-entries old row))

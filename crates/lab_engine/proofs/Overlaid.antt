@@ -5,8 +5,7 @@ use Rattle.lab_table.specs.Statement.{matched}
 use Rattle.lab_history.proofs.FirstValues.{or_none}
 use Rattle.lab_engine.proofs.Effects.{sorted_each, find_each, find_made}
 use Rattle.lab_engine.proofs.KeptChains.{each_kept, each_found, seen_kept}
-use Rattle.lab_engine.proofs.Merging.{merged_sorted, merged_found}
-use Rattle.lab_engine.proofs.VersionLists.{Entries, initial_sorted}
+use Rattle.lab_engine.proofs.Merging.{Entries, over_sorted, over_found}
 
 -- ---- the walk through both lists
 
@@ -67,13 +66,6 @@ module _ (s : Statement) where
 
 -- ---- what is found
 
--- a state matches alike as the version over the setup's and as what that makes of it
-matched_over : (s : Statement) (row : Row) (over : Option Version) (state : State)
-    → option_and_then (λ (v : Version). matched s row v.state) (option_or over (option_map (λ value. initially (Some value)) state)) ≡ matched s row (unwrap_or over (initially state)).state
-matched_over s row (Some v) state = refl
-matched_over s row None None = refl
-matched_over s row None (Some value) = refl
-
 -- the setup's version is in no view
 named_over : (over : Option Version) (state : State) → name_over over ≡ in_view (unwrap_or over (initially state)).name
 named_over None state = refl
@@ -100,35 +92,19 @@ module _ (asker : Asker) (kept : List (Row × Kept)) (written : kept ≡ entries
         get-from_sorted row_cmp items row names_sorted ∙ ap (find row_cmp row) made ∙ made_over name_over refl row ∙ named_over (found_over row) (get asker.setup.now row)
 
   module _ (s : Statement) where
-    abbrev setup : List (Row × ℤ)
-    setup = entries asker.setup.now
-
     abbrev over : Entries
     over = each_row (λ row k. seen_of asker.session asker.sees_before k) kept
 
-    over_sorted : T (is_sorted row_cmp over)
-    over_sorted = each_kept (λ row k. seen_of asker.session asker.sees_before k) kept in_order
-
-    laid_sorted : T (is_sorted row_cmp (laid_over setup over))
-    laid_sorted = merged_sorted (map initial_entry setup) over (initial_sorted setup (map initial_entry setup) (entries_sorted asker.setup.now) refl) over_sorted
-
-    laid_found : (row : Row) → find row_cmp row (laid_over setup over) ≡ option_or (found_over row) (option_map (λ value. initially (Some value)) (get asker.setup.now row))
-    laid_found row =
-        merged_found row (map initial_entry setup) over over_sorted
-        ∙ ap (λ o. option_or o (find row_cmp row (map initial_entry setup))) (made_over (λ o. o) refl row)
-        ∙ ap (option_or (found_over row)) (find-map (λ (value : ℤ). initially (Some value)) row setup
-        ∙ ap (option_map (λ value. initially (Some value))) (sym (get-entries asker.setup.now row)))
+    over_rises : T (is_sorted row_cmp over)
+    over_rises = each_kept (λ row k. seen_of asker.session asker.sees_before k) kept in_order
 
     -- what the walk through both lists finds
-    pub walked : (items : List (Row × ℤ)) → items ≡ matching_entries s (laid_over setup over) → AreMatching s (seen_in asker) items
-    walked items made =
-        let f : Row → Version → State = λ row v. matched s row v.state in
-        record {
-          sorted = subst (λ l. T (is_sorted row_cmp l)) (sym made) (sorted_each f (laid_over setup over) laid_sorted);
-          found = λ row.
-              ap (find row_cmp row) made ∙ find_each f row (laid_over setup over) laid_sorted ∙ ap (option_and_then (f row)) (laid_found row)
-              ∙ matched_over s row (found_over row) (get asker.setup.now row);
-        }
+    pub walked : (items : List (Row × ℤ)) → items ≡ matching_entries s (laid_over (entries asker.setup.now) over) → AreMatching s (seen_in asker) items
+    walked items made = record {
+      sorted = over_sorted asker.setup.now over over_rises (matched s) (λ row. refl) items made;
+      found = λ row. over_found asker.setup.now over over_rises (matched s) (λ row. refl) items made row
+          ∙ ap (λ o. matched s row (unwrap_or o (initially (get asker.setup.now row))).state) (made_over (λ o. o) refl row);
+    }
 
 -- ---- the row that a statement names
 

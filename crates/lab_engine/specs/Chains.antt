@@ -1,5 +1,6 @@
 -- The versions of a row that commits installed, the newest first.
-use Rattle.std.specs.Prelude.{ℕ, nat_lt, cond, Option, Some, None, unwrap_or, List, [], ◌∷◌, length}
+use Rattle.std.specs.Prelude.{ℕ, nat_lt, cond, Option, Some, None, unwrap_or, List, [], ◌∷◌, length, reverse}
+use Rattle.std.specs.Prelude as list
 use Rattle.lab_table.specs.Row.{Row}
 use Rattle.lab_engine.specs.declared.row_state.Installed.{Installed}
 use Rattle.lab_engine.specs.declared.event.Outcome.{Outcome}
@@ -35,3 +36,7 @@ first_since place (i ∷ older) = cond (nat_lt i.place place) None (Some (unwrap
 abbrev pub last_before : ℕ → List Installed → Option Version
 last_before place [] = None
 last_before place (i ∷ older) = cond (nat_lt i.place place) (Some i.version) (last_before place older)
+
+-- who installed them, the first to do so first
+abbrev pub installed_by : List Installed → List ℕ
+installed_by chain = reverse (list.map (λ i. i.by) chain)

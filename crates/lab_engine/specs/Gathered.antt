@@ -1,35 +1,27 @@
 -- What is gathered of a log, event by event.
-use Rattle.std.specs.Option.{option_or}
-use Rattle.std.specs.Prelude.{◌≡◌, ◌==◌, Bool, false, ℕ, zero, suc, ◌+◌, ◌-◌, ◌≤◌, ◌<◌, cond, Option, Some, None, is_some, option_map, List, [], ◌∷◌, ◌++◌, length, filter, reverse, slice_get, get_or, ⊤}
+use Rattle.std.specs.Prelude.{◌≡◌, ℕ, zero, suc, ◌-◌, ◌<◌, Option, Some, None, option_map, List, [], ◌∷◌, ◌++◌, ⊤}
 use Rattle.std.specs.Prelude as list
-use Rattle.std.specs.FinMap as map
-use Rattle.lab_table.specs.Row.{Row, row_eq, row_test}
-use Rattle.lab_table.specs.Sessions.{of_session}
 use Rattle.lab_table.specs.declared.statement.Command.{Command}
 use Rattle.lab_history.specs.declared.operation.Op.{Op}
 use Rattle.lab_history.specs.declared.transaction.Txn.{Txn as Recorded}
 use Rattle.lab_history.specs.declared.transaction.Outcome.TheVariants.{Committed as EndCommitted, Aborted as EndAborted}
+use Rattle.lab_engine.specs.declared.event.Level.TheVariants.{Committed as ReadCommitted}
 use Rattle.lab_engine.specs.declared.event.Outcome.{Outcome}
 use Rattle.lab_engine.specs.declared.event.Outcome.TheVariants.{Begun, Rows as Listed, Committed, Aborted, Waits, Refused}
 use Rattle.lab_engine.specs.declared.gathering.GatheredTxn.{GatheredTxn}
 use Rattle.lab_engine.specs.declared.gathering.Gathering.{Gathering}
-use Rattle.lab_engine.specs.Limits.{max_events}
-use Rattle.lab_engine.specs.EventQuery.{is_over}
-use Rattle.lab_engine.specs.Log.{Past, Txn, Version, active, commits, installers, last_version, last_installed}
+use Rattle.lab_engine.specs.declared.session_state.RunningTxn.{RunningTxn}
+use Rattle.lab_engine.specs.Log.{Past, Txn}
 use Rattle.lab_engine.specs.Recording.{op_of, recorded_txns}
+use Rattle.lab_engine.specs.Situation.{Describes}
 
 -- the number of a transaction
 abbrev pub number_of : Option Txn → Option ℕ
 number_of txn = option_map (λ t. t.no) txn
 
--- the number of a session's active transaction after one of its events
-abbrev pub number_after : Outcome → Option ℕ → Option ℕ
-number_after (Begun n) by = Some n
-number_after outcome by = cond (is_over outcome) None by
-
--- the numbers that are kept are those of the active transactions
-abbrev pub AreActive : Past → List (Option ℕ) → Type 0
-AreActive past numbers = (session : ℕ) → 1 ≤ session → session ≤ 9 → of_session numbers session ≡ Some (number_of (active past session))
+-- the same, as it is kept
+abbrev pub number_kept : Option RunningTxn → Option ℕ
+number_kept running = option_map (λ r. r.number) running
 
 -- a gathered transaction as a recording has it
 abbrev pub recorded : GatheredTxn → Recorded
@@ -72,57 +64,7 @@ abbrev pub IsWithin : Option ℕ → ℕ → Type 0
 IsWithin None count = ⊤
 IsWithin (Some number) count = number - 1 < count
 
--- the transaction with this number, of those numbered from 1
-abbrev pub gathered_by : List GatheredTxn → Option ℕ → Option GatheredTxn
-gathered_by txns None = None
-gathered_by txns (Some number) = slice_get txns (number - 1)
-
--- the transaction that installs its versions by an outcome, if it is one that commits
-abbrev pub installing : Outcome → Option GatheredTxn → Option GatheredTxn
-installing (Begun n) txn = None
-installing (Listed view rows writes) txn = None
-installing Committed txn = txn
-installing Aborted txn = None
-installing (Waits on) txn = None
-installing (Refused fault) txn = None
-
--- a transaction, if there is one, has at most as many operations as a log may have events
-abbrev pub IsShort : Option GatheredTxn → Type 0
-IsShort None = ⊤
-IsShort (Some txn) = length txn.ops.items ≤ max_events
-
--- a gathered transaction's last version of a row
-abbrev pub version_told : GatheredTxn → Row → Option Version
-version_told txn row = last_version txn.number (reverse txn.ops.items) row
-
--- the installed version of a row, where a transaction, if any, installs its own over an older one
-abbrev pub installed_over : Option GatheredTxn → Row → Option Version → Option Version
-installed_over None row older = older
-installed_over (Some txn) row older = option_or (version_told txn row) older
-
--- who installs a row by that
-abbrev pub installs_by : Option GatheredTxn → Row → List ℕ
-installs_by None row = []
-installs_by (Some txn) row = cond (is_some (version_told txn row)) (txn.number ∷ []) []
-
--- who installed a row, of rows each with who installed it, in order of commits
-abbrev pub numbers_of : Row → List (Row × ℕ) → List ℕ
-numbers_of row installs = list.map (λ install. install.1) (filter (λ install. row_eq row install.0) installs)
-
--- whether the first of these installs is one of the row
-abbrev pub is_row_next : Row → List (Row × ℕ) → Bool
-is_row_next row [] = false
-is_row_next row (install ∷ installs) = row_test row install.0
-
--- rows each with who installed it, where those of one row stand side by side; of the first some stand before
-abbrev pub groups_from : List ℕ → List (Row × ℕ) → List (Row × List ℕ)
-groups_from before [] = []
-groups_from before (install ∷ installs) = cond (is_row_next install.0 installs) (groups_from (before ++ install.1 ∷ []) installs)
-    ((install.0, before ++ install.1 ∷ []) ∷ groups_from [] installs)
-
--- what is gathered agrees with the log
+-- what is gathered agrees with the log. Nobody asks here for what a commit read, so what is kept is that of a level that keeps no statements
 pub record Gathers (past : Past) (gathered : Gathering) : Type 0 where
-  pub active : AreActive past gathered.active
+  pub situation : Describes ReadCommitted past gathered.situation
   pub txns : list.map recorded gathered.txns.items ≡ recorded_txns past
-  pub committed : (row : Row) → map.get gathered.committed row ≡ last_installed (commits past) row
-  pub installs : (row : Row) → numbers_of row gathered.installs.items ≡ installers past row

@@ -1,9 +1,7 @@
 //! What a log tells, gathered for its recording in one walk.
 
-ghost use Rattle.std.specs.Prelude.{◌≡◌, ◌≤◌, ◌<◌, ◌++◌, ◌∷◌, ◌-◌, length, IfOk, OnOk};
+ghost use Rattle.std.specs.Prelude.{◌≡◌, ◌≤◌, ◌<◌, ◌∷◌, ◌-◌, length, option_map, IfOk, OnOk};
 ghost use Rattle.std.specs.Prelude as list;
-ghost use Rattle.std.specs.FinMap as map;
-ghost use Rattle.lab_table.specs.Row.{Row};
 ghost use Rattle.lab_table.specs.Table.{Table as PlainTable};
 ghost use Rattle.lab_engine.specs.declared.event.Level.{Level};
 ghost use Rattle.lab_engine.specs.Limits.{max_events};
@@ -14,11 +12,11 @@ ghost use Rattle.lab_engine.specs.Gathered as plain;
 ghost use Rattle.lab_engine.specs.Gathered.{Gathers, IsWithin};
 
 use crate::event::{LogEvent, Outcome};
-use crate::event_query::{asked_statement, is_over};
-use crate::installs::{install, installing};
-use crate::version::Versions;
+use crate::event_query::asked_statement;
+use crate::session_state::RunningTxn;
+use crate::situation::Situation;
 use lab_history::{Op, Outcome as End};
-use lab_table::{NoMemory, PerSession, RowName, TxnNo};
+use lab_table::{NoMemory, TxnNo};
 use std::alloc::Global;
 
 /// A transaction, as far as the events went.
@@ -33,14 +31,10 @@ pub struct GatheredTxn {
 /// What the events so far say, and where they leave sessions and rows.
 #[derive(Drop)]
 pub struct Gathering {
-    /// For each session the number of its active transaction, if any.
-    pub active: PerSession<Option<TxnNo>>,
+    /// Who is active, and what was installed.
+    pub situation: Situation,
     /// The transactions, by rising number.
     pub txns: Vec<GatheredTxn>,
-    /// The last installed version of each row that was ever installed.
-    pub committed: Versions,
-    /// Each row that a transaction installed, and the transaction, in order of commits.
-    pub installs: Vec<(RowName, TxnNo)>,
 }
 
 impl Gathering {
@@ -51,10 +45,8 @@ impl Gathering {
         ensures { IfOk result (Gathers (past_of log.now)) }
     {
         let mut gathered = Gathering {
-            active: PerSession::all(None),
+            situation: Situation::new(alloc),
             txns: Vec::new(alloc),
-            committed: Versions::new(alloc),
-            installs: Vec::new(alloc),
         };
         for event in log {
             gathered.take_in(alloc, event)?;
@@ -68,31 +60,11 @@ impl Gathering {
         ensures { (level : Level) (setup : PlainTable) (past : Past) → Gathers past self.old → IsLegal level setup (event.now ∷ past)
             → IfOk result (λ _. Gathers (event.now ∷ past) self.new) }
     {
-        let by = self.active.get(event.session);
-        self.install(alloc, &event.outcome, &by)?;
+        let by = number_of(self.situation.running(event.session));
         add_event(alloc, &mut self.txns, event, &by)?;
-        self.active
-            .set(event.session, number_after(&event.outcome, by));
+        let mut kept = self.situation.reserve(alloc, event, false)?;
+        self.situation.take_in(alloc, event, &mut kept, false);
         Ok(())
-    }
-
-    /// Puts the versions that a commit installs over those installed before, and notes who installed them.
-    fn install(
-        &mut self,
-        alloc: Global,
-        outcome: &Outcome,
-        by: &Option<TxnNo>,
-    ) -> Result<(), NoMemory>
-        requires { plain.IsShort (plain.installing outcome.now (plain.gathered_by self.old.txns.items by.now)) }
-        ensures active { self.new.active ≡ self.old.active }
-        ensures txns { self.new.txns ≡ self.old.txns }
-        ensures committed { OnOk result ((row : Row) → map.get self.new.committed row
-            ≡ plain.installed_over (plain.installing outcome.now (plain.gathered_by self.old.txns.items by.now)) row (map.get self.old.committed row)) }
-        ensures installs { OnOk result ((row : Row) → plain.numbers_of row self.new.installs.items
-            ≡ plain.numbers_of row self.old.installs.items ++ plain.installs_by (plain.installing outcome.now (plain.gathered_by self.old.txns.items by.now)) row) }
-    {
-        let txn = installing(&self.txns, outcome, by);
-        install(alloc, &mut self.committed, &mut self.installs, txn)
     }
 }
 
@@ -134,18 +106,18 @@ impl GatheredTxn {
     }
 }
 
-/// The number of the active transaction of a session after one of its events.
-fn number_after(outcome: &Outcome, by: Option<TxnNo>) -> Option<TxnNo>
-    ensures { result ≡ plain.number_after outcome.now by }
+/// The number of an active transaction, if there is one.
+fn number_of(running: Option<&RunningTxn>) -> Option<TxnNo>
+    ensures { result ≡ plain.number_kept (option_map (λ running. running.now) running.entry) }
 {
-    match outcome {
-        Outcome::Begun(number) => Some(*number),
-        other => { if is_over(other) { None } else { by } }
+    match running {
+        Some(running) => Some(running.number),
+        None => None,
     }
 }
 
 /// The place of a transaction, where the first has number 1.
-pub fn place_of(number: TxnNo) -> usize
+fn place_of(number: TxnNo) -> usize
     ensures { result ≡ number - 1 }
 {
     number.number() as usize - 1

@@ -1,17 +1,16 @@
-use Rattle.lab_engine.proofs.{Common.{answers_always, ap, get, groups_from, IsSortedByKey, row_cmp, rules, subst, sym, [], ◌∙◌}, Grouping.{groups_sorted, groups_found}}
+use Rattle.lab_engine.proofs.{Common.{ap, get, get-from_sorted, if_any, installed_by, refl, row_cmp, ◌∙◌}, KeptChains.{chains_sorted, chains_found}}
 use Rattle.lab_history.specs.Installed.{Installed}
 use Rattle.lab_engine.proofs.installs.installed_of.Goals as goal
 
 pub new-requires : goal.new-requires
 new-requires c =
-    groups_sorted c.deref.result.now c.in_ok-entries.entries.items
-    (subst (λ is. IsSortedByKey (λ e. e.0) row_cmp is) (sym c.deref.ensures.value) (c.in_ok-sort_by_key.ensures.sorted (λ e. e.0) (answers_always _ _ _ (λ f a r h k. search rules))))
-    c.in_ok-entries.ensures
+    chains_sorted (λ chain. if_any (installed_by chain)) refl c.args.rows.now c.by_row.result.now.entries c.by_row.ensures c.in_ok-all_installers.ensures.ordered
+    c.in_ok-all_installers.field-0.items c.in_ok-all_installers.ensures.made
 
 pub returns : goal.returns
 returns c = λ row.
     ap (λ (m : Installed). get m row) c.new.ensures
-    ∙ groups_found row c.args.installs.items c.sort_by_key.new.self.items c.in_ok-entries.entries.items
-    (c.sort_by_key.ensures.stable (λ e. e.0) (answers_always _ _ _ (λ f a r h k. search rules)))
-    (c.in_ok-sort_by_key.ensures.sorted (λ e. e.0) (answers_always _ _ _ (λ f a r h k. search rules)))
-    (c.in_ok-entries.ensures ∙ ap (groups_from []) c.deref.ensures.value)
+    ∙ get-from_sorted row_cmp c.in_ok-all_installers.field-0.items row (chains_sorted (λ chain. if_any (installed_by chain)) refl c.args.rows.now c.by_row.result.now.entries c.by_row.ensures
+    c.in_ok-all_installers.ensures.ordered c.in_ok-all_installers.field-0.items c.in_ok-all_installers.ensures.made)
+    ∙ chains_found (λ chain. if_any (installed_by chain)) refl c.args.rows.now c.by_row.result.now.entries c.by_row.ensures c.in_ok-all_installers.ensures.ordered
+    c.in_ok-all_installers.field-0.items c.in_ok-all_installers.ensures.made row

@@ -1,6 +1,6 @@
-use Rattle.lab_engine.proofs.Common.{get, last_version, reverse, Row, take, ◌≡◌}
+use Rattle.lab_engine.proofs.Common.{each_row, last_before, ◌++◌, ◌≡◌}
 use Rattle.lab_engine.proofs.installs.last_versions.Given as goal
 
--- what the operations so far wrote
-abbrev pub invariant-loop-index : goal.invariant-loop-index
-invariant-loop-index l = (row : Row) → get l.last row ≡ last_version l.txn.number (reverse (take l.index l.txn.ops.items)) row
+-- the rows so far and those that are left are all
+abbrev pub invariant-loop-row : goal.invariant-loop-row
+invariant-loop-row l = l.versions.items ++ each_row (λ row kept. last_before l.place kept.chain) l.row-iterator ≡ each_row (λ row kept. last_before l.place kept.chain) l.rows.entries

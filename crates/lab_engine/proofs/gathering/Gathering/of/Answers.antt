@@ -1,4 +1,4 @@
-use Rattle.lab_engine.{specs.Log.{past_of}, proofs.Gatherings.{nothing_gathered, front_legal, front_few, front_gathered}}
+use Rattle.lab_engine.{specs.{declared.event.Level.TheVariants.{Committed as ReadCommitted}, Log.{past_of}}, proofs.Gatherings.{nothing_gathered, front_legal, front_few, front_gathered}}
 use Rattle.std.proofs.Common.{take}
 use Rattle.lab_engine.proofs.gathering.Gathering.of.Goals as goal
 
@@ -19,4 +19,4 @@ loop-event-preserved c =
     (front_legal c.requires.legal.0 c.requires.legal.1 c.args.log.now c.loop-event.event-index c.event-item.result c.requires.legal.2 c.loop-event-test.true c.event-item.is))
 
 pub loop-event-init : goal.loop-event-init
-loop-event-init c = nothing_gathered _ c.all.ensures.each c.new.ensures.items c.new-2.ensures c.new-3.ensures.items
+loop-event-init c = nothing_gathered _ (c.new.ensures.is ReadCommitted) c.new-2.ensures.items

@@ -1,21 +1,18 @@
-use Rattle.lab_engine.proofs.{Common.{ap, cond, map, of_session, recorded, Some, txns_after, ◌==◌, ◌∙◌}, Gatherings.{is_short, is_within, gathers_by}}
+use Rattle.lab_engine.{specs.declared.event.Level.TheVariants.{Committed as ReadCommitted}, proofs.{Common.{ap, number_kept, refl, ◌∙◌}, Gatherings.{is_within, gathers_by}}}
 use Rattle.lab_engine.proofs.gathering.Gathering.take_in.Goals as goal
-
-pub install-requires : goal.install-requires
-install-requires c =
-    is_short c.requires.0 c.requires.1 c.requires.2 c.args.event.now c.args.self.now c.requires.3 c.requires.4 c.get-by.ensures.low c.get-by.ensures.high
-    c.get-by.result c.get-by.ensures.value c.requires.5
 
 pub add_event-requires : goal.add_event-requires
 add_event-requires c =
-    is_within c.requires.0 c.requires.1 c.requires.2 c.args.event.now c.args.self.now c.requires.3 c.requires.4 c.get-by.ensures.low c.get-by.ensures.high
-    c.get-by.result c.get-by.ensures.value c.install.new.self c.install.ensures.txns
+    is_within c.requires.0 c.requires.1 c.requires.2 c.args.event.now c.args.self.now c.requires.3 c.requires.4 c.number_of-by.result
+    (c.number_of-by.ensures ∙ ap number_kept c.running.ensures)
+
+pub reserve-requires : goal.reserve-requires
+reserve-requires c = (ReadCommitted, c.requires.2, c.requires.3.situation)
+
+pub take_in-requires-clause-few : goal.take_in-requires-clause-few
+take_in-requires-clause-few c = (ReadCommitted, c.requires.2, c.reserve.ensures.same ReadCommitted c.requires.2 c.requires.3.situation, c.requires.5)
 
 pub returns : goal.returns
 returns c = λ level setup past tells legal.
-    let event = c.args.event.now in
-    gathers_by level setup past event c.args.self.now tells legal c.get-by.ensures.low c.get-by.ensures.high c.get-by.result c.get-by.ensures.value
-    _ c.number_after.result c.number_after.ensures
-    (λ s. c.set.ensures.each s ∙ ap (λ numbers. cond (s == event.session) (Some c.number_after.result) (of_session numbers s)) c.install.ensures.active)
-    (c.in_ok-add_event.ensures ∙ (λ i. txns_after event.command event.outcome c.get-by.result (map recorded (c.install.ensures.txns i).items)))
-    c.in_ok-install.ensures.committed c.in_ok-install.ensures.installs
+    gathers_by level setup past c.args.event.now c.args.self.now tells legal c.number_of-by.result (c.number_of-by.ensures ∙ ap number_kept c.running.ensures) _
+    (c.take_in.ensures.is ReadCommitted past c.in_ok-kept.ensures.copy refl (c.reserve.ensures.same ReadCommitted past tells.situation)) c.in_ok-add_event.ensures
