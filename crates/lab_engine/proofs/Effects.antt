@@ -1,5 +1,5 @@
 -- What is made of each row that is seen, row by row, and which row keeps a statement from running.
-use Rattle.lab_engine.proofs.Common.{ap, AreMatching, below_all, both, change_is, cond, cons_option, each_row, entries, entries_sorted, fails, false, find, find_below, FinMap, from_sorted, get, get-entries, get-from_sorted, inserted, is_lt, is_read_only, is_sorted, joined, List, listed, new_states, None, Option, option_and_then, option_map, option_or, refl, Row, row_cmp, row_eq, same_row, Some, State, state_value, Statement, StatementKind, stored, subst, sym, T, true, value_rewritten, Version, with_row, Written, written, [], ℕ, ℤ, ◌∙◌, ◌∷◌, ◌≡◌}
+use Rattle.lab_engine.proofs.Common.{ap, AreMatching, below_all, both, change_is, cond, cons_option, each_row, fails, false, find, find_below, inserted, is_lt, is_read_only, is_sorted, joined, List, listed, new_states, None, Option, option_and_then, option_map, option_or, refl, Row, row_cmp, row_eq, same_row, Some, State, state_value, Statement, StatementKind, stored, subst, sym, T, true, value_rewritten, Version, with_row, Written, written, [], ℕ, ℤ, ◌∙◌, ◌∷◌, ◌≡◌}
 use Rattle.lab_history.proofs.FirstValues.{or_none}
 use Rattle.lab_table.specs.Statement as statement
 use Rattle.lab_table.specs.{Statement.{matched, kind_inserted, kind_listed, kind_matched}, declared.statement.StatementKind.TheVariants.{Insert}}

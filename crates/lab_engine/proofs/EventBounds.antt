@@ -1,5 +1,5 @@
 -- Nothing that a log tells is more than its events are.
-use Rattle.lab_engine.proofs.Common.{active, active_after, Agree, arith, Begun, begun, begun_after, Command, cond, DescribesSession, false, HasRoom, is_fatal, length, Level, Listed, None, ops_after, Option, option_map, Outcome, Past, Refused, Rows, Run, RunningTxn, SessionState, Some, subst, suc, true, Txn, View, Waits, Writes, [], ℕ, ⊤, ◌<◌, ◌==◌, ◌∷◌, ◌≡◌, ◌≤◌}
+use Rattle.lab_engine.proofs.Common.{active, active_after, Agree, arith, Begun, begun, begun_after, Command, cond, DescribesSession, false, HasRoom, is_fatal, length, Level, Listed, None, ops_after, Option, option_map, Outcome, Past, Refused, Rows, Run, RunningTxn, SessionState, Some, suc, true, Txn, View, Waits, Writes, [], ℕ, ⊤, ◌<◌, ◌==◌, ◌∷◌, ◌≤◌}
 
 -- an active transaction, if any, has run at most so many operations
 abbrev AtMost : ℕ → Option Txn → Type 0
@@ -30,10 +30,6 @@ at_most (event ∷ past) session =
       | true ↦ after_one event.command event.outcome past (length past) (active past session) (at_most past session)
       | false ↦ more (length past) (active past session) (at_most past session)
     ]
-
--- an active transaction has run at most as many operations as there were events
-pub ops_at_most : (past : Past) (session : ℕ) (txn : Txn) → active past session ≡ Some txn → length txn.ops ≤ length past
-ops_at_most past session txn is = subst (λ t. AtMost (length past) t) is (at_most past session)
 
 begun_more : (outcome : Outcome) (b n : ℕ) → b ≤ n → begun_after outcome b ≤ suc n
 begun_more (Begun number) b n h = omega arith

@@ -1,5 +1,5 @@
 -- What is gathered goes on with the log.
-use Rattle.lab_engine.proofs.Common.{active, Agree, ap, arith, begun, Describes, drop, GatheredTxn, Gathering, Gathers, get_or, IsLegal, IsWithin, length, length-map, length-reverse, length-take-le, Level, List, LogEvent, map as each, None, number_kept, number_of, Option, Past, past_of, recorded, recorded_txns, refl, reverse, reverse-append, running_of, RunningTxn, Some, subst, sym, Table, take, take-append-drop, take_more, Txn, txns_after, [], ℕ, ◌++◌, ◌+◌, ◌<◌, ◌∙◌, ◌∷◌, ◌≡◌, ◌≤◌}
+use Rattle.lab_engine.proofs.Common.{active, Agree, ap, arith, begun, Describes, drop, Gathering, Gathers, get_or, IsLegal, IsWithin, length, length-map, length-reverse, length-take-le, Level, List, LogEvent, map as each, None, number_kept, number_of, Option, Past, past_of, recorded, refl, reverse, reverse-append, running_of, RunningTxn, Some, subst, sym, Table, take, take-append-drop, take_more, Txn, txns_after, [], ℕ, ◌++◌, ◌+◌, ◌<◌, ◌∙◌, ◌∷◌, ◌≡◌, ◌≤◌}
 use Rattle.lab_engine.specs.declared.event.Level.TheVariants.{Committed as ReadCommitted}
 use Rattle.lab_engine.proofs.{Describing.{running_agrees}, GatheredNumbers.{recorded_length}, Numbers.{numbers_hold}, Runs.{past_of-push}, TxnsAfterEvents.{txns_go}}
 
