@@ -39,5 +39,5 @@ pub use rows_text::put_rows;
 pub use running::{run, run_free};
 pub use scripted::Scripted;
 pub use shown::Shown;
-pub use standing::{Standing, is_over};
+pub use standing::{Standing, is_over, number_after};
 pub use transcribing::serial;

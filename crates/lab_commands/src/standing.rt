@@ -104,7 +104,7 @@ fn put_ops(alloc: Global, rows: &mut ByRow<Value>, ops: &[Op]) -> Result<(), NoM
 }
 
 /// The number of the active transaction of a session after one of its events.
-fn number_after(outcome: &Outcome, by: Option<TxnNo>) -> Option<TxnNo>
+pub fn number_after(outcome: &Outcome, by: Option<TxnNo>) -> Option<TxnNo>
     ensures { result ≡ number_after outcome.now by }
 {
     match outcome {
