@@ -50,3 +50,17 @@ def names_in(tree, above=""):
     path, _, other = tree.partition(" as ")
     path = above.rstrip(":") if path == "self" else above + path
     yield other.strip() or SEPARATOR.split(path)[-1], path
+
+
+def unnested(text):
+    """A text of definitions or proofs, line for line, in which each `use` says the whole path of what it brings in."""
+    return re.sub(r"^((?:unfoldable )?(?:pub )?use )(\S+\{.*\})$", lambda found: found[1] + paths_of(found[2]), text, flags=re.M)
+
+
+def paths_of(tree):
+    """What a tree of uses brings in, module by module."""
+    modules = {}
+    for _, path in names_in(tree):
+        module, _, name = path.rpartition(".")
+        modules.setdefault(module, []).append(name)
+    return ", ".join(f"{module}.{{{', '.join(names)}}}" for module, names in modules.items())

@@ -1,7 +1,7 @@
 //! What calls are made on that are refused memory.
 
-use lab_engine::{EngineFault, Recording, Sessions, Version, Versions};
-use lab_history::{History, Op, VersionName};
+use lab_engine::{EngineFault, Recording, Sessions};
+use lab_history::{History, Op};
 use lab_history_file::read_history;
 use lab_locking::LockEngine;
 use lab_script::parse_script;
@@ -25,21 +25,15 @@ pub struct Named {
     /// A row that the recording's setup doesn't have.
     pub row: RowName,
     pub value: Value,
-    pub version: Version,
     pub sessions: [Session; 2],
 }
 
 fn numbers_and_rows() -> Option<Named> {
-    let value = Value::new(50)?;
     Some(Named {
         first: TxnNo::new(1)?,
         second: TxnNo::new(2)?,
         row: RowName::in_test(RowId::new(5)?),
-        value,
-        version: Version {
-            name: VersionName::Initial,
-            state: Some(value),
-        },
+        value: Value::new(50)?,
         sessions: [Session::new(1)?, Session::new(2)?],
     })
 }
@@ -87,31 +81,12 @@ fn played(alloc: Global) -> Option<Recording> {
     recording
 }
 
-/// A recording, and the versions of its setup.
-#[derive(Drop)]
-pub struct Run {
-    pub recording: Recording,
-    pub versions: Versions,
-}
-
-fn ran(alloc: Global) -> Option<Run> {
-    let recording = played(alloc)?;
-    let Ok(versions) = Versions::of_table(alloc, recording.setup()) else {
-        drop(recording);
-        return None;
-    };
-    Some(Run {
-        recording,
-        versions,
-    })
-}
-
 /// What the calls are made on.
 #[derive(Drop)]
 pub struct Inputs {
     pub named: Named,
     pub lists: Lists,
-    pub run: Run,
+    pub recording: Recording,
     pub history: History,
 }
 
@@ -119,19 +94,19 @@ pub struct Inputs {
 pub fn given(alloc: Global) -> Option<Inputs> {
     let named = numbers_and_rows()?;
     let lists = listed(alloc, &named).ok()?;
-    let Some(run) = ran(alloc) else {
+    let Some(recording) = played(alloc) else {
         drop(lists);
         return None;
     };
     let Some(history) = read_history(alloc, HISTORY).ok() else {
         drop(lists);
-        drop(run);
+        drop(recording);
         return None;
     };
     Some(Inputs {
         named,
         lists,
-        run,
+        recording,
         history,
     })
 }

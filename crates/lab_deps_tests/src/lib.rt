@@ -31,6 +31,5 @@ mod refused_statements;
 #[cfg(test)]
 mod refused_steps;
 #[cfg(test)]
-mod refused_versions;
 #[cfg(test)]
 mod told;

@@ -6,7 +6,6 @@ ghost use Rattle.std.specs.Prelude.{◌≡◌, IfOk};
 use crate::inputs::{Inputs, Lists, Named, delete};
 use crate::refused_edges::is_right_of_dependencies;
 use crate::refused_steps::told;
-use crate::refused_versions::{is_right_of_overlays, is_right_of_versions};
 use lab_engine::{EngineFault, LogEvent, MAX_EVENTS, Outcome, RecordFault, Recording, Sessions};
 use lab_history::{History, ListPlace, Path};
 use lab_refusal_tests::refuse;
@@ -27,12 +26,6 @@ pub enum Call {
     SessionsCopy,
     FaultCopy,
     OutcomeCopy,
-    VersionsOfTable,
-    VersionsWritten,
-    VersionsCopy,
-    VersionsPut,
-    VersionsOverlay,
-    VersionsOverlaidWith,
     RecordingOf,
     RecordingFromLog,
     CheckLocal,
@@ -77,7 +70,7 @@ fn is_right_of_tables(
     call: Call,
     inputs: &Inputs,
 ) -> Result<bool, NoMemory> {
-    let setup = inputs.run.recording.setup();
+    let setup = inputs.recording.setup();
     match call {
         Call::ByRowCopy => is_copied!(alloc, inputs.lists.by_row, entries),
         Call::NumbersCopy => is_copied!(alloc, inputs.lists.numbers, as_slice),
@@ -226,15 +219,10 @@ pub fn is_right(alloc: Global, growth: u16, call: Call, inputs: &Inputs) -> Resu
             alloc,
             call,
             &inputs.lists,
-            inputs.run.recording.log(),
+            inputs.recording.log(),
         ),
-        Call::VersionsOfTable | Call::VersionsCopy | Call::VersionsPut => is_right_of_versions(
-            alloc, growth, call, inputs,
-        ),
-        Call::VersionsWritten | Call::VersionsOverlay | Call::VersionsOverlaidWith =>
-            is_right_of_overlays(alloc, call, inputs),
-        Call::RecordingOf => is_recorded(alloc, &inputs.run.recording),
-        Call::RecordingFromLog => is_recorded_from_log(alloc, growth, &inputs.run.recording),
+        Call::RecordingOf => is_recorded(alloc, &inputs.recording),
+        Call::RecordingFromLog => is_recorded_from_log(alloc, growth, &inputs.recording),
         Call::CheckLocal
         | Call::Edges
         | Call::DependenciesOf

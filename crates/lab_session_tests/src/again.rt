@@ -4,11 +4,11 @@ ghost use Rattle.std.specs.Prelude.{IfSome};
 ghost use Rattle.lab_engine.specs.Log.{past_of};
 ghost use Rattle.lab_engine.specs.Rules.{IsLegal};
 
+use crate::engines::QuietEngine;
 use lab_engine::{MAX_EVENTS, Recording};
 use lab_history_file::write_history;
 use lab_script::parse_script;
 use lab_session::play_script;
-use lab_versions::SnapshotEngine;
 use std::alloc::Global;
 use std::test::Fail;
 
@@ -24,7 +24,7 @@ fn played(alloc: Global) -> Option<Recording>
         drop(script);
         return None;
     };
-    let played = play_script(alloc, SnapshotEngine::new(alloc, setup), &script).ok();
+    let played = play_script(alloc, QuietEngine::new(alloc, setup), &script).ok();
     drop(script);
     played
 }

@@ -9,6 +9,8 @@ mod again;
 #[cfg(test)]
 mod ends;
 #[cfg(test)]
+mod engines;
+#[cfg(test)]
 mod forced;
 #[cfg(test)]
 mod full;

@@ -1,11 +1,11 @@
 //! Free play by several threads.
 
+use crate::engines::QuietEngine;
 use crate::instrumented::comes_to;
 use lab_engine::Recording;
 use lab_script::{Script, parse_script};
 use lab_session::{Gate, play_free};
 use lab_table::Session;
-use lab_versions::SnapshotEngine;
 use std::alloc::Global;
 use std::sync::Wait;
 use std::sync::atomic::{AtomicBool, AtomicU32, Ordering};
@@ -51,7 +51,7 @@ fn played<R: Threads + Wait + Sync>(
     gate: &Meeting,
 ) -> Option<Recording> {
     let setup = script.setup.copy(alloc).ok()?;
-    let engine = SnapshotEngine::new(alloc, setup);
+    let engine = QuietEngine::new(alloc, setup);
     play_free(rt, alloc, engine, script, gate).ok()
 }
 

@@ -1,10 +1,10 @@
 //! Seats that a lab isn't closed with.
 
+use crate::engines::QuietEngine;
 use lab_session::{CloseFault, Lab, LabFault, Seat};
 use lab_table::{
     Command, RowId, RowName, Session, Statement, StatementKind, Table, TableName, Value,
 };
-use lab_versions::SnapshotEngine;
 use std::alloc::Global;
 use std::sync::Wait;
 use std::test::Fail;
@@ -12,10 +12,10 @@ use std::test::Fail;
 /// A lab and its seats, where a close with them is refused with this fault.
 fn refused(
     alloc: Global,
-    lab: Lab<SnapshotEngine>,
+    lab: Lab<QuietEngine>,
     seats: Vec<Seat>,
     due: CloseFault,
-) -> Option<(Lab<SnapshotEngine>, Vec<Seat>)> {
+) -> Option<(Lab<QuietEngine>, Vec<Seat>)> {
     let (lab, seats, fault) = lab.close(alloc, seats).err()?;
     if fault == due {
         Some((lab, seats))
@@ -27,7 +27,7 @@ fn refused(
 }
 
 /// Whether a close of a lab with its seats is refused with this fault.
-fn is_refused(alloc: Global, lab: Lab<SnapshotEngine>, seats: Vec<Seat>, due: CloseFault) -> bool {
+fn is_refused(alloc: Global, lab: Lab<QuietEngine>, seats: Vec<Seat>, due: CloseFault) -> bool {
     let handed_back = refused(alloc, lab, seats, due);
     let is_refused = handed_back.is_some();
     drop(handed_back);
@@ -35,8 +35,8 @@ fn is_refused(alloc: Global, lab: Lab<SnapshotEngine>, seats: Vec<Seat>, due: Cl
 }
 
 /// A lab of two sessions that asked nothing, and their seats.
-fn resting(alloc: Global) -> Option<(Lab<SnapshotEngine>, Vec<Seat>)> {
-    let engine = SnapshotEngine::new(alloc, Table::new(alloc));
+fn resting(alloc: Global) -> Option<(Lab<QuietEngine>, Vec<Seat>)> {
+    let engine = QuietEngine::new(alloc, Table::new(alloc));
     Lab::start(alloc, engine, 2).ok()
 }
 
@@ -44,7 +44,7 @@ fn resting(alloc: Global) -> Option<(Lab<SnapshotEngine>, Vec<Seat>)> {
 fn taken_out<R: Wait>(
     rt: &R,
     alloc: Global,
-    lab: &Lab<SnapshotEngine>,
+    lab: &Lab<QuietEngine>,
     seats: &mut Vec<Seat>,
 ) -> Option<Seat> {
     let seat = seats.pop()?;
@@ -58,12 +58,7 @@ fn taken_out<R: Wait>(
 }
 
 /// Whether a lab is closed with these seats and a further one.
-fn closes_with(
-    alloc: Global,
-    lab: Lab<SnapshotEngine>,
-    seats: Vec<Seat>,
-    seat: Seat,
-) -> Option<bool> {
+fn closes_with(alloc: Global, lab: Lab<QuietEngine>, seats: Vec<Seat>, seat: Seat) -> Option<bool> {
     let mut seats = seats;
     if seats.push(seat).ok().is_none() {
         drop(lab);
@@ -79,7 +74,7 @@ fn closes_with(
 /// Whether a lab isn't closed without this seat, which is this fault, and is with it.
 fn closes_with_both(
     alloc: Global,
-    lab: Lab<SnapshotEngine>,
+    lab: Lab<QuietEngine>,
     seats: Vec<Seat>,
     seat: Seat,
     missing: CloseFault,
@@ -123,13 +118,13 @@ fn table_of(alloc: Global, value: i64) -> Option<Table> {
 }
 
 /// A lab of one session over such a table, and its seat.
-fn lab_of(alloc: Global, value: i64) -> Option<(Lab<SnapshotEngine>, Vec<Seat>)> {
-    let engine = SnapshotEngine::new(alloc, table_of(alloc, value)?);
+fn lab_of(alloc: Global, value: i64) -> Option<(Lab<QuietEngine>, Vec<Seat>)> {
+    let engine = QuietEngine::new(alloc, table_of(alloc, value)?);
     Lab::start(alloc, engine, 1).ok()
 }
 
 /// Submits a select of all rows.
-fn selected<R: Wait>(rt: &R, alloc: Global, lab: &Lab<SnapshotEngine>, seat: Seat) -> Option<Seat> {
+fn selected<R: Wait>(rt: &R, alloc: Global, lab: &Lab<QuietEngine>, seat: Seat) -> Option<Seat> {
     let select = Command::Run(Statement {
         table: TableName::test(),
         kind: StatementKind::Select { pred: None },
@@ -141,7 +136,7 @@ fn selected<R: Wait>(rt: &R, alloc: Global, lab: &Lab<SnapshotEngine>, seat: Sea
 fn looked<R: Wait>(
     rt: &R,
     alloc: Global,
-    lab: &Lab<SnapshotEngine>,
+    lab: &Lab<QuietEngine>,
     seats: &mut Vec<Seat>,
 ) -> Option<()> {
     let seat = lab.submit(rt, alloc, seats.pop()?, Command::Begin).ok()?;
@@ -150,11 +145,7 @@ fn looked<R: Wait>(
 }
 
 /// A lab of one session over such a table, and its seat, after a begin and a select.
-fn looked_at<R: Wait>(
-    rt: &R,
-    alloc: Global,
-    value: i64,
-) -> Option<(Lab<SnapshotEngine>, Vec<Seat>)> {
+fn looked_at<R: Wait>(rt: &R, alloc: Global, value: i64) -> Option<(Lab<QuietEngine>, Vec<Seat>)> {
     let (lab, mut seats) = lab_of(alloc, value)?;
     if looked(rt, alloc, &lab, &mut seats).is_none() {
         drop(lab);
@@ -192,7 +183,7 @@ fn with_last(seats: Vec<Seat>, others: Vec<Seat>) -> Option<Vec<Seat>> {
 fn is_refused_twice(
     alloc: Global,
     session: Session,
-    lab: Lab<SnapshotEngine>,
+    lab: Lab<QuietEngine>,
     own: Vec<Seat>,
     foreign: Vec<Seat>,
 ) -> Option<bool> {

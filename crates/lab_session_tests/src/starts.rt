@@ -1,10 +1,10 @@
 //! A free play with each allocation refused in turn: that a thread wasn't given is told apart from want of memory.
 
+use crate::engines::QuietEngine;
 use lab_refusal_tests::{refuse, was_refused};
 use lab_script::parse_script;
 use lab_session::{Gate, PlayFault, play_free};
 use lab_table::Session;
-use lab_versions::SnapshotEngine;
 use std::alloc::Global;
 use std::sync::Wait;
 use std::test::Fail;
@@ -37,7 +37,7 @@ fn played<R: Threads + Wait + Sync>(rt: &R, alloc: Global, growth: u16) -> Optio
         drop(script);
         return None;
     };
-    let engine = SnapshotEngine::new(alloc, setup);
+    let engine = QuietEngine::new(alloc, setup);
     refuse(alloc, growth);
     let fault = play_free(rt, alloc, engine, &script, &Open).err();
     let refused = was_refused(alloc);
