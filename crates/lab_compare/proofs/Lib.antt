@@ -1,7 +1,10 @@
 mod Spaces
 mod Left
-mod Telling
+mod Removed
+mod Installs
 mod FirstRefusals
 mod SidesSoFar
 mod OneComparison
 mod SameTold
+mod SameRows
+mod CommonWrites

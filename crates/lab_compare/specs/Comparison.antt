@@ -1,8 +1,10 @@
 -- The text of a comparison.
-use Rattle.std.specs.Prelude.{ℕ, ◌+◌, ◌==◌, Bool, cond, Option, Some, None, List, [], ◌∷◌, ◌++◌, length, flat_map, count_by, codes}
+use Rattle.std.specs.Prelude.{ℕ, ◌+◌, ◌==◌, Bool, cond, Option, Some, None, List, [], ◌∷◌, ◌++◌, length, map, count_by, codes}
 use Rattle.std.specs.List.{list_any}
 use Rattle.std.specs.Fmt.{decimal}
 use Rattle.lab_table.specs.Sessions.{all_sessions}
+use Rattle.lab_table.specs.declared.statement.Command.{Command}
+use Rattle.lab_table.specs.declared.statement.Command.TheVariants.{Begin, Commit, Abort, Run}
 use Rattle.lab_statement.specs.Printed.{newline}
 use Rattle.lab_script.specs.Printed.{printed_table}
 use Rattle.lab_script.specs.declared.script.Line.{Line}
@@ -16,12 +18,16 @@ use Rattle.lab_reports.specs.declared.phenomenon.Phenomenon.{Phenomenon}
 use Rattle.lab_reports.specs.declared.phenomenon.Phenomenon.TheVariants.{G0, G1a, G1b, G1c, GSingle, G2Item, G2}
 use Rattle.lab_matrix.specs.MatrixText.{cell_text}
 use Rattle.lab_explain.specs.Explanation.{explanation_of}
-use Rattle.lab_compare.specs.Told.{asked_text, told_recording}
+use Rattle.lab_compare.specs.Told.{asked_text}
+use Rattle.lab_compare.specs.Commits.{commits_of}
 use Rattle.lab_compare.specs.Cells.{cells_of}
-use Rattle.lab_compare.specs.Alike.{alike_text, differing_text, explained_text, columns_behind}
+use Rattle.lab_compare.specs.Alike.{alike_text, differing_text, explanations_text, columns_behind}
+use Rattle.lab_compare.specs.Topics.{topic_told}
+use Rattle.lab_compare.specs.Behind.{rows_told}
 use Rattle.lab_compare.specs.declared.side.Side.{Side}
+use Rattle.lab_compare.specs.declared.side.Summary.{Summary}
 use Rattle.lab_compare.specs.declared.side.Column.TheVariants.{Engine, Grade}
-use Rattle.lab_compare.specs.declared.side.Topic.TheVariants.{Answer, Rows, End}
+use Rattle.lab_compare.specs.declared.side.Topic.TheVariants.{Answer, End, Explained}
 
 -- ---- one engine's side
 
@@ -43,21 +49,30 @@ abbrev pub end_text : History → List ℕ
 end_text h = codes "rows " ++ printed_table h.end_table
 
 -- what there is to say of a play and its judgement
-abbrev pub side_of : Level → List Line → RecordedLog → Report → Side
-side_of level lines recording report = record {
-  level = level;
-  told = told_recording recording;
-  cells = cells_of (told_recording recording) lines;
+abbrev pub summary_of : List Line → RecordedLog → Report → Summary
+summary_of lines recording report = record {
+  cells = cells_of recording.log lines;
   end = end_text recording.history;
   grade = cell_text report;
   explained = explained recording.history report (lowest report);
 }
 
+-- that, with what the commits of the play install, and the level that it is at
+abbrev pub side_of : Level → List Line → RecordedLog → Report → Side
+side_of level lines recording report = record { level = level; commits = commits_of recording; summary = summary_of lines recording report }
+
 -- ---- all sides
 
--- a line of the script, what it was answered, and where the committed rows behind it differ
+-- behind the line at a place, if it is a commit, the committed rows where they differ
+abbrev pub behind_text : List Side → ℕ → Command → List ℕ
+behind_text sides place Begin = []
+behind_text sides place Commit = differing_text (codes " -- rows ") (map (rows_told place) sides)
+behind_text sides place Abort = []
+behind_text sides place (Run statement) = []
+
+-- a line of the script, what it was answered, and the committed rows behind it where they are to be told
 abbrev pub line_text : List Side → ℕ → Line → List ℕ
-line_text sides place line = asked_text line.session line.command ++ alike_text (Answer place) sides ++ differing_text (Rows place) (codes " -- rows ") sides
+line_text sides place line = asked_text line.session line.command ++ alike_text (map (topic_told (Answer place)) sides) ++ behind_text sides place line.command
 
 -- the lines of a script, of which the first has this place
 abbrev pub lines_text : List Side → ℕ → List Line → List ℕ
@@ -96,7 +111,7 @@ start_text script = start_words ++ printed_table script.setup ++ newline
 
 -- the committed rows in the end
 abbrev pub ends_text : List Side → List ℕ
-ends_text sides = codes "end" ++ alike_text End sides
+ends_text sides = codes "end" ++ alike_text (map (topic_told End) sides)
 
 -- the engines, and under each the level that its history meets
 abbrev pub levels_text : List Side → List ℕ
@@ -104,7 +119,7 @@ levels_text sides = codes "engine" ++ columns_behind Engine 6 sides ++ codes "le
 
 -- what is explained, once for all engines of which that is
 abbrev pub explained_all : List Side → List ℕ
-explained_all sides = flat_map (explained_text sides) sides
+explained_all sides = explanations_text (map (topic_told Explained) sides)
 
 -- what stands before the lines, and what stands behind them
 abbrev pub front_text : Script → List ℕ

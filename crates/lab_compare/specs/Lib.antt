@@ -1,5 +1,9 @@
 pub mod Told
 pub mod Cells
+pub mod Commits
+pub mod Topics
+pub mod Behind
+pub mod Shared
 pub mod Alike
 pub mod Comparison
 pub mod Answer

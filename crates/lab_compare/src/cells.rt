@@ -1,12 +1,19 @@
 //! What each line of a script came to in a play.
 
-ghost use Rattle.std.specs.Prelude.{◌≡◌, ◌++◌, ◌≤◌, [], cond, codes, false, length, IfOk, OnOk};
-ghost use Rattle.lab_compare.specs.Cells.{answer_text, last_after, answers_text, answers, answer_place, cell_of, left_after, left_behind, cells_from, cells_of};
+ghost use Rattle.std.specs.Prelude.{◌≡◌, ◌++◌, ◌≤◌, [], None, cond, false, length, IfOk, OnOk};
+ghost use Rattle.std.specs.Option.{option_copied};
+ghost use Rattle.lab_compare.specs.Cells.{answer_text, last_after, last_text, answers_text, answers, answer_place, cell_of, left_after, left_behind, cells_from, cells_of};
 
-use crate::told::ToldEvent;
+use crate::told::{is_answer, put_behind};
+use lab_commands::is_over;
+use lab_engine::LogEvent;
 use lab_script::Line;
+use lab_session::put_outcome;
 use lab_table::{NoMemory, PerSession, Sequence, Session};
 use std::alloc::Global;
+
+/// Most answers have at most so many bytes, and room for them is made at once.
+const MOST_ANSWERS: usize = 32;
 
 /// What a line of a script came to.
 #[derive(Drop)]
@@ -17,53 +24,60 @@ pub struct Cell {
     pub from_end: usize,
 }
 
-/// Appends what ended a transaction last, where a command waited.
-fn put_lead(out: &mut Vec<u8>, waited: bool, last: &[u8]) -> Result<(), NoMemory>
-    ensures { OnOk result (out.new.items ≡ out.old.items ++ cond waited last.now []) }
+/// Appends what stands before the answer to a command that is tried again, behind the event that ended a transaction last.
+fn put_last(out: &mut Vec<u8>, last: Option<&LogEvent>) -> Result<(), NoMemory>
+    ensures { OnOk result (out.new.items ≡ out.old.items ++ last_text (option_copied last.entry)) }
 {
-    if waited {
-        out.extend_from_slice(last)
-    } else {
-        Ok(())
+    match last {
+        None => out.extend_from_slice(b"; "),
+        Some(event) => put_behind(out, event),
     }
 }
 
-/// Appends an event's own answer, behind what ended a transaction last where its command waited.
+/// The same, where the command waited.
+fn put_lead(out: &mut Vec<u8>, waited: bool, last: Option<&LogEvent>) -> Result<(), NoMemory>
+    ensures { OnOk result (out.new.items ≡ out.old.items ++ cond waited (last_text (option_copied last.entry)) []) }
+{
+    if waited { put_last(out, last) } else { Ok(()) }
+}
+
+/// Appends an event's own answer, behind the event that ended a transaction last where its command waited.
 fn put_answer(
     out: &mut Vec<u8>,
     waited: bool,
-    last: &[u8],
-    event: &ToldEvent,
+    last: Option<&LogEvent>,
+    event: &LogEvent,
 ) -> Result<(), NoMemory>
-    ensures { OnOk result (out.new.items ≡ out.old.items ++ answer_text waited last.now event.now) }
+    ensures { OnOk result (out.new.items ≡ out.old.items ++ answer_text waited (option_copied last.entry) event.now) }
 {
     put_lead(out, waited, last)?;
-    out.extend_from_slice(event.said.as_slice())
+    put_outcome(out, &event.outcome)
 }
 
-/// What ended a transaction last, after an event.
-fn last_after<'t>(event: &'t ToldEvent, last: &'t [u8]) -> &'t [u8]
-    ensures { result.now ≡ last_after event.now last.now }
+/// The event that ended a transaction last, after an event.
+fn last_after<'t>(event: &'t LogEvent, last: Option<&'t LogEvent>) -> Option<&'t LogEvent>
+    ensures { option_copied result ≡ last_after event.now (option_copied last.entry) }
 {
-    match &event.end {
-        Some(end) => end.as_slice(),
-        None => last,
+    if is_over(&event.outcome) {
+        Some(event)
+    } else {
+        last
     }
 }
 
 /// Appends the answers to a session's next command.
-fn put_answers(out: &mut Vec<u8>, session: Session, told: &[ToldEvent]) -> Result<(), NoMemory>
-    ensures { OnOk result (out.new.items ≡ out.old.items ++ answers_text session false (codes "; ") told.now) }
+fn put_answers(out: &mut Vec<u8>, session: Session, log: &[LogEvent]) -> Result<(), NoMemory>
+    ensures { OnOk result (out.new.items ≡ out.old.items ++ answers_text session false None log.now) }
 {
     let mut waited = false;
-    let mut last: &[u8] = b"; ";
-    for event in told {
+    let mut last = None;
+    for event in log {
         if event.session != session {
             last = last_after(event, last);
             continue;
         }
         put_answer(out, waited, last, event)?;
-        if event.is_answer {
+        if is_answer(&event.outcome) {
             return Ok(());
         }
         waited = true;
@@ -73,18 +87,18 @@ fn put_answers(out: &mut Vec<u8>, session: Session, told: &[ToldEvent]) -> Resul
 }
 
 /// Whether an event answers a command of a session.
-fn answers(session: Session, event: &ToldEvent) -> bool
+fn answers(session: Session, event: &LogEvent) -> bool
     ensures { result ≡ answers session event.now }
 {
-    event.session == session && event.is_answer
+    event.session == session && is_answer(&event.outcome)
 }
 
 /// How many events stand before the one that answers a session's next command.
-fn answer_place(session: Session, told: &[ToldEvent]) -> usize
-    ensures value { result ≡ answer_place session told.now }
-    ensures bound { result ≤ length told.now }
+fn answer_place(session: Session, log: &[LogEvent]) -> usize
+    ensures value { result ≡ answer_place session log.now }
+    ensures bound { result ≤ length log.now }
 {
-    told.iter()
+    log.iter()
         .take_while(|event| !answers(session, event))
         .count()
 }
@@ -93,71 +107,71 @@ fn answer_place(session: Session, told: &[ToldEvent]) -> usize
 fn cell_at(
     alloc: Global,
     session: Session,
-    told: &[ToldEvent],
+    log: &[LogEvent],
     place: usize,
 ) -> Result<Cell, NoMemory>
-    requires { place ≡ answer_place session told.now }
-    ensures { IfOk result (λ cell. cell ≡ cell_of session told.now) }
+    requires { place ≡ answer_place session log.now }
+    ensures { IfOk result (λ cell. cell ≡ cell_of session log.now) }
 {
-    let mut said = Vec::new(alloc);
-    put_answers(&mut said, session, told)?;
+    let mut said = Vec::with_capacity(alloc, MOST_ANSWERS)?;
+    put_answers(&mut said, session, log)?;
     Ok(Cell {
         said: Sequence::new(said),
-        from_end: told.len().saturating_sub(place),
+        from_end: log.len().saturating_sub(place),
     })
 }
 
 /// The events that a session has left behind its place.
 fn left_of<'t>(
-    told: &'t [ToldEvent],
+    log: &'t [LogEvent],
     places: &PerSession<usize>,
     session: Session,
-) -> &'t [ToldEvent]
-    ensures { result.now ≡ left_behind told.now places.now session }
+) -> &'t [LogEvent]
+    ensures { result.now ≡ left_behind log.now places.now session }
 {
-    let (_read, left) = told.split_at(places.get(session).min(told.len()));
+    let (_read, left) = log.split_at(places.get(session).min(log.len()));
     left
 }
 
 /// Notes that a session's next command is answered at this place of those that it has left.
-fn note(told: &[ToldEvent], places: &mut PerSession<usize>, session: Session, place: usize)
-    requires { place ≡ answer_place session (left_behind told.now places.old session) }
-    ensures { left_behind told.now places.new ≡ left_after (left_behind told.now places.old) session }
+fn note(log: &[LogEvent], places: &mut PerSession<usize>, session: Session, place: usize)
+    requires { place ≡ answer_place session (left_behind log.now places.old session) }
+    ensures { left_behind log.now places.new ≡ left_after (left_behind log.now places.old) session }
 {
-    let left = left_of(told, places, session).len();
+    let left = left_of(log, places, session).len();
     let behind = left.saturating_sub(place).saturating_sub(1);
-    places.set(session, told.len().saturating_sub(behind));
+    places.set(session, log.len().saturating_sub(behind));
 }
 
 /// What each of some lines comes to, where sessions have the events behind their places left. NoMemory where an allocation
 /// was refused.
 fn cells_from(
     alloc: Global,
-    told: &[ToldEvent],
+    log: &[LogEvent],
     begun: PerSession<usize>,
     lines: &[Line],
 ) -> Result<Vec<Cell>, NoMemory>
-    ensures { IfOk result (λ cells. cells.items ≡ cells_from (left_behind told.now begun) lines.now) }
+    ensures { IfOk result (λ cells. cells.items ≡ cells_from (left_behind log.now begun) lines.now) }
 {
     let mut places = begun;
     let mut cells = Vec::with_capacity(alloc, lines.len())?;
     for line in lines {
-        let left = left_of(told, &places, line.session);
+        let left = left_of(log, &places, line.session);
         let place = answer_place(line.session, left);
         cells.push(cell_at(alloc, line.session, left, place)?)?;
-        note(told, &mut places, line.session, place);
+        note(log, &mut places, line.session, place);
     }
     Ok(cells)
 }
 
-/// What each line of a script comes to, by what is told of the events of its play. NoMemory where an allocation was refused.
+/// What each line of a script comes to, by the log of its play. NoMemory where an allocation was refused.
 pub fn cells_of(
     alloc: Global,
-    told: &[ToldEvent],
+    log: &[LogEvent],
     lines: &[Line],
 ) -> Result<Sequence<Cell>, NoMemory>
-    ensures { IfOk result (λ cells. cells ≡ cells_of told.now lines.now) }
+    ensures { IfOk result (λ cells. cells ≡ cells_of log.now lines.now) }
 {
-    let cells = cells_from(alloc, told, PerSession::all(0), lines)?;
+    let cells = cells_from(alloc, log, PerSession::all(0), lines)?;
     Ok(Sequence::new(cells))
 }

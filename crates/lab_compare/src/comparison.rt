@@ -1,33 +1,102 @@
 //! The text of a comparison. Each function that takes bytes appends to them; after NoMemory, part of what was to be appended
 //! may stand there.
 
-ghost use Rattle.std.specs.Prelude.{◌≡◌, ◌++◌, IfOk, OnOk};
-ghost use Rattle.lab_compare.specs.Comparison.{line_text, lines_text, counted, has_line, session_count, opening, start_words, heading, start_text, ends_text, levels_text, front_text, back_text, comparison_text};
+ghost use Rattle.std.specs.Prelude.{◌≡◌, ◌++◌, codes, map, IfOk, OnOk};
+ghost use Rattle.lab_compare.specs.Alike.{alike_text, differing_text};
+ghost use Rattle.lab_compare.specs.Behind.{rows_told};
+ghost use Rattle.lab_compare.specs.Shared.{Share};
+ghost use Rattle.lab_compare.specs.Topics.{topic_told};
+ghost use Rattle.lab_compare.specs.Comparison.{behind_text, line_text, lines_text, counted, has_line, session_count, opening, start_words, heading, start_text, ends_text, levels_text, explained_all, front_text, back_text, comparison_text};
 
 use crate::alike::{put_alike, put_columns, put_differing, put_explanations};
-use crate::side::{Column, Side, Topic};
+use crate::behind::Cursors;
+use crate::shared::{are_same, shared};
+use crate::side::{Column, Side, Topic, topic_told};
 use crate::told::put_asked;
 use itoa::Buffer;
 use lab_commands::put_rows;
 use lab_script::{Line, Script};
-use lab_table::{NoMemory, Session};
+use lab_table::{Command, NoMemory, Session};
 use std::alloc::Global;
 
-/// Appends a line of the script, what it was answered, and where the committed rows behind it differ.
-fn put_line(out: &mut Vec<u8>, sides: &[Side], place: usize, line: &Line) -> Result<(), NoMemory>
-    ensures { OnOk result (out.new.items ≡ out.old.items ++ line_text sides.now place line.now) }
+/// Appends what the engines tell of a topic, behind what was asked.
+fn put_topic(alloc: Global, out: &mut Vec<u8>, of: Topic, sides: &[Side]) -> Result<(), NoMemory>
+    ensures { OnOk result (out.new.items ≡ out.old.items ++ alike_text (map (topic_told of) sides.now)) }
+{
+    let told = topic_told(alloc, of, sides)?;
+    put_alike(out, &told)
+}
+
+/// Appends the committed rows where they differ, behind the line at a place that is a session's commit.
+fn put_apart(
+    alloc: Global,
+    out: &mut Vec<u8>,
+    cursors: &mut Cursors<'_>,
+    place: usize,
+    session: Session,
+) -> Result<(), NoMemory>
+    ensures text { OnOk result (out.new.items ≡ out.old.items ++ differing_text (codes " -- rows ") (map (rows_told place) cursors.old)) }
+    ensures same { cursors.new ≡ cursors.old }
+{
+    let told = cursors.rows_told(alloc, session, place)?;
+    put_differing(out, b" -- rows ", &told)
+}
+
+/// The same, if it is a commit, of sides that share so many writes.
+fn put_behind(
+    alloc: Global,
+    out: &mut Vec<u8>,
+    cursors: &mut Cursors<'_>,
+    shared: Option<usize>,
+    place: usize,
+    line: &Line,
+) -> Result<(), NoMemory>
+    requires { Share shared cursors.old }
+    ensures text { OnOk result (out.new.items ≡ out.old.items ++ behind_text cursors.old place line.now.command) }
+    ensures same { cursors.new ≡ cursors.old }
+{
+    match &line.command {
+        Command::Commit => {
+            if are_same(cursors.sides(), shared, place) {
+                return Ok(());
+            }
+            put_apart(alloc, out, cursors, place, line.session)
+        }
+        Command::Begin | Command::Abort | Command::Run(_) => Ok(()),
+    }
+}
+
+/// Appends a line of the script, what it was answered, and the committed rows behind it where they are to be told.
+fn put_line(
+    alloc: Global,
+    out: &mut Vec<u8>,
+    cursors: &mut Cursors<'_>,
+    shared: Option<usize>,
+    place: usize,
+    line: &Line,
+) -> Result<(), NoMemory>
+    requires { Share shared cursors.old }
+    ensures text { OnOk result (out.new.items ≡ out.old.items ++ line_text cursors.old place line.now) }
+    ensures same { cursors.new ≡ cursors.old }
 {
     put_asked(out, line.session, &line.command)?;
-    put_alike(out, Topic::Answer { place }, sides)?;
-    put_differing(out, Topic::Rows { place }, b" -- rows ", sides)
+    put_topic(alloc, out, Topic::Answer { place }, cursors.sides())?;
+    put_behind(alloc, out, cursors, shared, place, line)
 }
 
 /// Appends the lines of a script.
-fn put_lines(out: &mut Vec<u8>, sides: &[Side], lines: &[Line]) -> Result<(), NoMemory>
+fn put_lines(
+    alloc: Global,
+    out: &mut Vec<u8>,
+    sides: &[Side],
+    lines: &[Line],
+) -> Result<(), NoMemory>
     ensures { OnOk result (out.new.items ≡ out.old.items ++ lines_text sides.now 0 lines.now) }
 {
+    let common = shared(sides);
+    let mut cursors = Cursors::new(alloc, sides);
     for (place, line) in lines.iter().enumerate() {
-        put_line(out, sides, place, line)?;
+        put_line(alloc, out, &mut cursors, common, place, line)?;
     }
     Ok(())
 }
@@ -108,11 +177,11 @@ fn put_front(out: &mut Vec<u8>, script: &Script) -> Result<(), NoMemory>
 }
 
 /// Appends the committed rows in the end.
-fn put_ends(out: &mut Vec<u8>, sides: &[Side]) -> Result<(), NoMemory>
+fn put_ends(alloc: Global, out: &mut Vec<u8>, sides: &[Side]) -> Result<(), NoMemory>
     ensures { OnOk result (out.new.items ≡ out.old.items ++ ends_text sides.now) }
 {
     out.extend_from_slice(b"end")?;
-    put_alike(out, Topic::End, sides)
+    put_topic(alloc, out, Topic::End, sides)
 }
 
 /// Appends the engines, and under each the level that its history meets.
@@ -125,13 +194,21 @@ fn put_levels(out: &mut Vec<u8>, sides: &[Side]) -> Result<(), NoMemory>
     put_columns(out, Column::Grade, 5, sides)
 }
 
+/// Appends what is explained, once for all engines of which that is.
+fn put_explained_all(alloc: Global, out: &mut Vec<u8>, sides: &[Side]) -> Result<(), NoMemory>
+    ensures { OnOk result (out.new.items ≡ out.old.items ++ explained_all sides.now) }
+{
+    let told = topic_told(alloc, Topic::Explained, sides)?;
+    put_explanations(out, &told)
+}
+
 /// Appends what stands behind the lines.
-fn put_back(out: &mut Vec<u8>, sides: &[Side]) -> Result<(), NoMemory>
+fn put_back(alloc: Global, out: &mut Vec<u8>, sides: &[Side]) -> Result<(), NoMemory>
     ensures { OnOk result (out.new.items ≡ out.old.items ++ back_text sides.now) }
 {
-    put_ends(out, sides)?;
+    put_ends(alloc, out, sides)?;
     put_levels(out, sides)?;
-    put_explanations(out, sides)
+    put_explained_all(alloc, out, sides)
 }
 
 /// The comparison of what a script comes to on these sides. NoMemory where an allocation was refused.
@@ -140,7 +217,7 @@ pub fn print_comparison(alloc: Global, script: &Script, sides: &[Side]) -> Resul
 {
     let mut text = Vec::new(alloc);
     put_front(&mut text, script)?;
-    put_lines(&mut text, sides, script.lines.as_slice())?;
-    put_back(&mut text, sides)?;
+    put_lines(alloc, &mut text, sides, script.lines.as_slice())?;
+    put_back(alloc, &mut text, sides)?;
     Ok(text)
 }

@@ -4,8 +4,7 @@ ghost use Rattle.std.specs.Prelude.{◌≡◌, ◌↔◌, IsTrue, ℕ, List};
 ghost use Rattle.lab_compare.specs.Alike.{TellSame, alike};
 ghost use Rattle.lab_compare.specs.Answer.{IsCompareAnswer};
 ghost use Rattle.lab_engine.specs.declared.event.Level.{Level};
-ghost use Rattle.lab_compare.specs.declared.side.Side.{Side};
-ghost use Rattle.lab_compare.specs.declared.side.Topic.{Topic};
+ghost use Rattle.lab_compare.specs.declared.telling.Telling.{Telling};
 ghost use Rattle.lab_streams.specs.declared.ending.Ending.{Ending};
 
 /// Of one input `compare` says one thing on the engines of the same levels, byte for byte: the comparison, or the line of the fault.
@@ -16,5 +15,5 @@ pub fn compare_answer_unique()
 
 /// Engines stand together, once for all of them, where they told the same, and only there.
 pub fn alike_is_same()
-    ensures { (of : Topic) (one other : Side) → IsTrue (alike of one other) ↔ TellSame of one other }
+    ensures { (one other : Telling) → IsTrue (alike one other) ↔ TellSame one other }
 {}

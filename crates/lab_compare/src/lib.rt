@@ -9,12 +9,17 @@
 #![tactic(auto)]
 
 mod alike;
+mod behind;
 mod cells;
+mod commits;
 mod comparing;
 mod comparison;
+mod installing;
 mod laws;
 mod playing;
+mod shared;
 mod side;
+mod telling;
 mod told;
 
 pub use comparing::compare;

@@ -4,7 +4,8 @@ ghost use Rattle.std.specs.Prelude.{◌≡◌, ◌≢◌, ◌++◌, ◌∷◌, [
 ghost use Rattle.lab_commands.specs.Playing.{IsScriptedRefusal};
 ghost use Rattle.lab_compare.specs.Answer.{IsSide, AreSides, IsFirstRefusal};
 
-use crate::side::{Side, side_of};
+use crate::commits::commits_of;
+use crate::side::{Side, summary_of};
 use lab_commands::{Player, Scripted};
 use lab_engine::Level;
 use lab_judge::judge_recording;
@@ -20,7 +21,13 @@ fn side(alloc: Global, level: Level, script: &Script) -> Result<Side, PlayFault>
 {
     let recording = Scripted { level }.play(alloc, script)?;
     let report = judge_recording(alloc, &recording)?;
-    Ok(side_of(alloc, level, script.lines.as_slice(), &recording, &report)?)
+    let commits = commits_of(alloc, &recording)?;
+    let summary = summary_of(alloc, script.lines.as_slice(), &recording, &report)?;
+    Ok(Side {
+        level,
+        commits,
+        summary,
+    })
 }
 
 /// Adds a side. NoMemory where an allocation was refused.

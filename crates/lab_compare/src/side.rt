@@ -1,15 +1,16 @@
 //! What there is to say of one engine's play.
 
-ghost use Rattle.std.specs.Prelude.{◌≡◌, ◌++◌, slice_get, IfOk, OnOk};
+ghost use Rattle.std.specs.Prelude.{◌≡◌, map, IfOk};
 ghost use Rattle.std.specs.Option.{option_copied};
 ghost use Rattle.lab_matrix.specs.MatrixText.{cell_text, snapshot_mark};
 ghost use Rattle.lab_reports.specs.Shortfall.{is_present, first_found};
-ghost use Rattle.lab_compare.specs.Alike.{alike, column_text, said_in, same_entries, rows_in, topic_text};
-ghost use Rattle.lab_compare.specs.Cells.{rows_behind};
-ghost use Rattle.lab_compare.specs.Comparison.{end_text, explained, lowest, side_of};
+ghost use Rattle.lab_compare.specs.Alike.{column_text};
+ghost use Rattle.lab_compare.specs.Comparison.{end_text, explained, lowest, summary_of};
+ghost use Rattle.lab_compare.specs.Topics.{said_in, topic_text, topic_told};
 
 use crate::cells::{Cell, cells_of};
-use crate::told::{ToldEvent, told_events};
+use crate::commits::Commits;
+use crate::telling::{Bytes, Content, Telling};
 use lab_commands::put_rows;
 use lab_engine::{Level, Recording};
 use lab_explain::explanation;
@@ -18,15 +19,20 @@ use lab_judge::{Finding, Places, Report};
 use lab_levels::level_name;
 use lab_reports::Phenomenon;
 use lab_script::Line;
-use lab_table::{NoMemory, RowName, Sequence, Value};
+use lab_table::{NoMemory, Sequence};
 use std::alloc::Global;
 
-/// What there is to say of the play of a script on an engine, and of its judgement.
+/// The play of a script on the engine of a level: what its commits install, and what there is to say of it.
 #[derive(Drop)]
 pub struct Side {
     pub level: Level,
-    /// What is told of each event.
-    pub told: Sequence<ToldEvent>,
+    pub commits: Commits,
+    pub summary: Summary,
+}
+
+/// What there is to say of a play and of its judgement.
+#[derive(Drop)]
+pub struct Summary {
     /// What each line came to.
     pub cells: Sequence<Cell>,
     /// The committed rows in the end.
@@ -42,8 +48,6 @@ pub struct Side {
 pub enum Topic {
     /// What the line at a place was answered.
     Answer { place: usize },
-    /// The committed rows behind that.
-    Rows { place: usize },
     /// The committed rows in the end.
     End,
     /// What `explain` says of its lowest phenomenon.
@@ -69,69 +73,25 @@ fn said_in(cell: Option<&Cell>) -> &[u8]
     }
 }
 
-/// The committed rows behind an event, if there is one.
-fn rows_behind(event: Option<&ToldEvent>) -> &[(RowName, Value)]
-    ensures { result.now ≡ rows_behind (option_copied event.entry) }
-{
-    match event {
-        Some(event) => event.rows.as_slice(),
-        None => &[],
-    }
-}
-
-/// The committed rows behind a line, by what is told of events.
-fn rows_in<'t>(told: &'t [ToldEvent], cell: Option<&Cell>) -> &'t [(RowName, Value)]
-    ensures { result.now ≡ rows_in told.now (option_copied cell.entry) }
-{
-    match cell {
-        Some(cell) => rows_behind(told.get(told.len().saturating_sub(cell.from_end))),
-        None => &[],
-    }
-}
-
-/// Whether two lists have the same rows with the same values.
-fn are_same(one: &[(RowName, Value)], other: &[(RowName, Value)]) -> bool
-    ensures { result ≡ same_entries one.now other.now }
-{
-    one == other
-}
-
 impl Side {
-    /// What the line at a place was answered.
-    fn said(&self, place: usize) -> &[u8]
-        ensures { result.now ≡ said_in (slice_get self.now.cells place) }
-    {
-        said_in(self.cells.as_slice().get(place))
-    }
-
-    /// The committed rows behind that.
-    fn rows(&self, place: usize) -> &[(RowName, Value)]
-        ensures { result.now ≡ rows_in self.now.told (slice_get self.now.cells place) }
-    {
-        rows_in(self.told.as_slice(), self.cells.as_slice().get(place))
-    }
-
-    /// Whether it tells the same of a topic as another side.
-    pub fn is_alike(&self, of: Topic, other: &Side) -> bool
-        ensures { result ≡ alike of self.now other.now }
+    /// The text of a topic.
+    fn topic(&self, of: Topic) -> &[u8]
+        ensures { result.now ≡ topic_text of self.now }
     {
         match of {
-            Topic::Answer { place } => self.said(place) == other.said(place),
-            Topic::Rows { place } => are_same(self.rows(place), other.rows(place)),
-            Topic::End => self.end.as_slice() == other.end.as_slice(),
-            Topic::Explained => self.explained.as_slice() == other.explained.as_slice(),
+            Topic::Answer { place } => said_in(self.summary.cells.as_slice().get(place)),
+            Topic::End => self.summary.end.as_slice(),
+            Topic::Explained => self.summary.explained.as_slice(),
         }
     }
 
-    /// Appends what it tells of a topic.
-    pub fn put_topic(&self, out: &mut Vec<u8>, of: Topic) -> Result<(), NoMemory>
-        ensures { OnOk result (out.new.items ≡ out.old.items ++ topic_text of self.now) }
+    /// What its engine tells of a topic.
+    fn tell(&self, of: Topic) -> Telling<'_>
+        ensures { result ≡ topic_told of self.now }
     {
-        match of {
-            Topic::Answer { place } => out.extend_from_slice(self.said(place)),
-            Topic::Rows { place } => put_rows(out, self.rows(place)),
-            Topic::End => out.extend_from_slice(self.end.as_slice()),
-            Topic::Explained => out.extend_from_slice(self.explained.as_slice()),
+        Telling {
+            level: self.level,
+            content: Content::Text(Bytes::new(self.topic(of))),
         }
     }
 
@@ -141,9 +101,20 @@ impl Side {
     {
         match of {
             Column::Engine => level_name(self.level).as_bytes(),
-            Column::Grade => self.grade.as_slice(),
+            Column::Grade => self.summary.grade.as_slice(),
         }
     }
+}
+
+/// What each engine tells of a topic. NoMemory where an allocation was refused.
+pub fn topic_told(alloc: Global, of: Topic, sides: &[Side]) -> Result<Vec<Telling<'_>>, NoMemory>
+    ensures { IfOk result (λ told. told.items ≡ map (topic_told of) sides.now) }
+{
+    let mut told = Vec::with_capacity(alloc, sides.len())?;
+    for side in sides {
+        told.push(side.tell(of))?;
+    }
+    Ok(told)
 }
 
 /// The committed rows in the end of a history. NoMemory where an allocation was refused.
@@ -217,22 +188,17 @@ fn explained(
 }
 
 /// What there is to say of the recording of a play and of its report. NoMemory where an allocation was refused.
-pub fn side_of(
+pub fn summary_of(
     alloc: Global,
-    level: Level,
     lines: &[Line],
     recording: &Recording,
     report: &Report,
-) -> Result<Side, NoMemory>
-    ensures { IfOk result (λ side. side ≡ side_of level lines.now recording.now report.now) }
+) -> Result<Summary, NoMemory>
+    ensures { IfOk result (λ summary. summary ≡ summary_of lines.now recording.now report.now) }
 {
     let history = recording.history();
-    let told = told_events(alloc, recording)?;
-    let cells = cells_of(alloc, &told, lines)?;
-    Ok(Side {
-        level,
-        told: Sequence::new(told),
-        cells,
+    Ok(Summary {
+        cells: cells_of(alloc, recording.log(), lines)?,
         end: end_of(alloc, history)?,
         grade: grade_of(alloc, report)?,
         explained: explained(alloc, history, report, lowest(report))?,

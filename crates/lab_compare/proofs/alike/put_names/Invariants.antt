@@ -3,4 +3,4 @@ use Rattle.lab_compare.specs.Alike.{name_if}
 use Rattle.lab_compare.proofs.alike.put_names.Given as goal
 
 abbrev pub invariant-loop-other : goal.invariant-loop-other
-invariant-loop-other l = l.out.items ++ flat_map (name_if l.of l.side) (drop l.other-index l.sides) ≡ l.initial.out.items ++ flat_map (name_if l.of l.side) l.sides
+invariant-loop-other l = l.out.items ++ flat_map (name_if l.one) (drop l.other-index l.all) ≡ l.initial.out.items ++ flat_map (name_if l.one) l.all
