@@ -1,5 +1,5 @@
 -- Writes that lists have in common from the front.
-use Rattle.std.{proofs.{Common.{◌≡◌, ℕ, zero, suc, ◌+◌, ◌<◌, ◌≤◌, true, List, [], ◌∷◌, Option, Some, None, length, refl, sym, ap, subst, ◌∙◌, take, arith}, lemmas.{List.{get_or_default, take-take, take_more_same}, List.Elements.{AllWithin-more}}}, specs.{Prelude.{⊤, min, slice_get, slice_index_or, unwrap_or}, FinMap.{entries, same_entries_map}, List.{AllWithin}}}
+use Rattle.std.{proofs.{Common.{◌≡◌, ℕ, zero, suc, ◌+◌, ◌<◌, ◌≤◌, true, List, [], ◌∷◌, Option, Some, None, length, sym, ap, subst, ◌∙◌, take, arith}, lemmas.{List.{get_or_default, take-take, take_more_same}, List.Elements.{AllWithin-more}}}, specs.{Prelude.{⊤, min, slice_get, slice_index_or, unwrap_or}, FinMap.{entries, same_entries_map}, List.{AllWithin}}}
 use Rattle.lab_table.specs.Table.{Table}
 use Rattle.lab_compare.{specs.{Alike.{same_entries}, Shared.{BeginSame}, declared.side.Side.{Side}}, proofs.SameTold.{entries_Decides}}
 

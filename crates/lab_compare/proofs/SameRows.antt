@@ -1,7 +1,7 @@
 -- Engines that have installed the same tell the same rows.
-use Rattle.std.{proofs.{Common.{◌≡◌, ℕ, ◌≤◌, true, false, List, [], ◌∷◌, Option, Some, None, length, refl, sym, ap, ◌∙◌, take}, lemmas.List.{take-take, Elements.{All-head, All-tail}}}, specs.{Prelude.{◌&&◌, cond, map, slice_get, IfSome}, FinMap.{entries}, List.{All}}}
+use Rattle.std.{proofs.{Common.{◌≡◌, ℕ, ◌≤◌, true, List, [], ◌∷◌, Option, Some, None, refl, sym, ap, ◌∙◌, take}, lemmas.List.{take-take, Elements.{All-head, All-tail}}}, specs.{Prelude.{◌&&◌, cond, map, slice_get, IfSome}, FinMap.{entries}, List.{All}}}
 use Rattle.lab_commands.specs.Overwriting.{put_each}
-use Rattle.lab_compare.{specs.{Alike.{all_alike, alike, differing_text, groups_text}, Behind.{installed_at, rows_at, rows_behind, rows_told}, Shared.{BeginSame, Share}, declared.{side.Side.{Side}, telling.Content.TheVariants.{Rows}}}, proofs.SameTold.{alike_Decides}}
+use Rattle.lab_compare.{specs.{Alike.{all_alike, differing_text, groups_text}, Behind.{installed_at, rows_at, rows_behind, rows_told}, Shared.{BeginSame}, declared.{side.Side.{Side}, telling.Content.TheVariants.{Rows}}}, proofs.SameTold.{alike_Decides}}
 
 -- how many writes are installed behind a side's line at a place
 abbrev pub at_place : ℕ → Side → Option ℕ
@@ -22,7 +22,7 @@ module _ (most place : ℕ) (count : Option ℕ) (within : IfSome count (λ n. n
   all_same [] same there = refl
   all_same (other ∷ others) same there =
       let here = (alike_Decides (rows_told place first) (rows_told place other)).1
-        (ap Rows (same_behind other (All-head (BeginSame most first) other others same) (All-head (λ o. at_place place o ≡ count) other others there))) in
+      (ap Rows (same_behind other (All-head (BeginSame most first) other others same) (All-head (λ o. at_place place o ≡ count) other others there))) in
       let rest = all_same others (All-tail (BeginSame most first) other others same) (All-tail (λ o. at_place place o ≡ count) other others there) in
       λ i. here i && rest i
 

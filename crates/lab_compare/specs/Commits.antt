@@ -6,12 +6,11 @@ use Rattle.lab_table.specs.Table.{State}
 use Rattle.lab_history.specs.History.{History}
 use Rattle.lab_history.specs.Version.{ops_of}
 use Rattle.lab_history.specs.declared.operation.Op.{Op}
-use Rattle.lab_engine.specs.Gathered.{number_after}
 use Rattle.lab_engine.specs.RecordedLog.{RecordedLog}
 use Rattle.lab_engine.specs.declared.event.LogEvent.{LogEvent}
 use Rattle.lab_engine.specs.declared.event.Outcome.{Outcome}
 use Rattle.lab_engine.specs.declared.event.Outcome.TheVariants.{Begun, Rows as Listed, Committed, Aborted, Waits, Refused}
-use Rattle.lab_commands.specs.CommittedRows.{number_in}
+use Rattle.lab_commands.specs.CommittedRows.{number_in, number_after}
 use Rattle.lab_compare.specs.declared.commits.Commits.{Commits}
 
 -- the rows that operations write, with their states, one after another

@@ -118,7 +118,6 @@ impl<'s> Model for Cursors<'s> {
     ghost use Rattle.std.specs.List.{All};
     ghost use Rattle.lab_compare.specs.Behind.{Stands};
     ghost use Rattle.lab_compare.specs.declared.side.Side.{Side};
-
     ghost use Rattle.std.specs.Coded.{coded_list};
     ghost use Rattle.lab_compare.specs.contracts.side.Side as stored_side;
 
@@ -246,10 +245,7 @@ impl<'s> Cursors<'s> {
         ensures rows { IfOk result (λ rows. rows.items ≡ rows_behind place side.now) }
         ensures same { self.new ≡ self.old }
     {
-        let count = installed_at(
-            &side.commits,
-            side.summary.cells.as_slice().get(place),
-        );
+        let count = installed_at(&side.commits, side.summary.cells.as_slice().get(place));
         self.rows_at(alloc, number, side, session, count)
     }
 

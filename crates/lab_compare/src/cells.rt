@@ -122,11 +122,7 @@ fn cell_at(
 }
 
 /// The events that a session has left behind its place.
-fn left_of<'t>(
-    log: &'t [LogEvent],
-    places: &PerSession<usize>,
-    session: Session,
-) -> &'t [LogEvent]
+fn left_of<'t>(log: &'t [LogEvent], places: &PerSession<usize>, session: Session) -> &'t [LogEvent]
     ensures { result.now ≡ left_behind log.now places.now session }
 {
     let (_read, left) = log.split_at(places.get(session).min(log.len()));
@@ -165,11 +161,7 @@ fn cells_from(
 }
 
 /// What each line of a script comes to, by the log of its play. NoMemory where an allocation was refused.
-pub fn cells_of(
-    alloc: Global,
-    log: &[LogEvent],
-    lines: &[Line],
-) -> Result<Sequence<Cell>, NoMemory>
+pub fn cells_of(alloc: Global, log: &[LogEvent], lines: &[Line]) -> Result<Sequence<Cell>, NoMemory>
     ensures { IfOk result (λ cells. cells ≡ cells_of log.now lines.now) }
 {
     let cells = cells_from(alloc, log, PerSession::all(0), lines)?;

@@ -1,11 +1,10 @@
 //! What the commits of a play install.
 
 ghost use Rattle.std.specs.Prelude.{◌≡◌, ◌++◌, length, None, replicate, IfOk, OnOk};
-ghost use Rattle.lab_engine.specs.Gathered.{number_after};
 ghost use Rattle.lab_history.specs.VersionName.{new_states, state_value};
 ghost use Rattle.lab_compare.specs.Commits.{active_after, commits_of, counts_each, event_installs, installs_by, installs_each, installs_of, written_by};
 
-use lab_commands::{Standing, is_over};
+use lab_commands::{Standing, number_after};
 use lab_engine::{LogEvent, Outcome, Recording};
 use lab_history::{History, Op, State};
 use lab_table::{ByRow, NoMemory, PerSession, RowName, Sequence, TxnNo, Value};
@@ -88,16 +87,6 @@ fn put_installs(
         | Outcome::Aborted
         | Outcome::Waits { .. }
         | Outcome::Refused(_) => Ok(()),
-    }
-}
-
-/// The number of the active transaction of a session after one of its events.
-fn number_after(outcome: &Outcome, by: Option<TxnNo>) -> Option<TxnNo>
-    ensures { result ≡ number_after outcome.now by }
-{
-    match outcome {
-        Outcome::Begun(number) => Some(*number),
-        other => { if is_over(other) { None } else { by } }
     }
 }
 

@@ -4,8 +4,7 @@ ghost use Rattle.std.specs.Prelude.{◌≡◌, ◌≢◌, ◌++◌, ◌∷◌, [
 ghost use Rattle.lab_commands.specs.Playing.{IsScriptedRefusal};
 ghost use Rattle.lab_compare.specs.Answer.{IsSide, AreSides, IsFirstRefusal};
 
-use crate::commits::commits_of;
-use crate::side::{Side, summary_of};
+use crate::side::{Side, side_of};
 use lab_commands::{Player, Scripted};
 use lab_engine::Level;
 use lab_judge::judge_recording;
@@ -21,13 +20,7 @@ fn side(alloc: Global, level: Level, script: &Script) -> Result<Side, PlayFault>
 {
     let recording = Scripted { level }.play(alloc, script)?;
     let report = judge_recording(alloc, &recording)?;
-    let commits = commits_of(alloc, &recording)?;
-    let summary = summary_of(alloc, script.lines.as_slice(), &recording, &report)?;
-    Ok(Side {
-        level,
-        commits,
-        summary,
-    })
+    Ok(side_of(alloc, level, script.lines.as_slice(), &recording, &report)?)
 }
 
 /// Adds a side. NoMemory where an allocation was refused.

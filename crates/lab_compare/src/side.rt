@@ -5,11 +5,11 @@ ghost use Rattle.std.specs.Option.{option_copied};
 ghost use Rattle.lab_matrix.specs.MatrixText.{cell_text, snapshot_mark};
 ghost use Rattle.lab_reports.specs.Shortfall.{is_present, first_found};
 ghost use Rattle.lab_compare.specs.Alike.{column_text};
-ghost use Rattle.lab_compare.specs.Comparison.{end_text, explained, lowest, summary_of};
+ghost use Rattle.lab_compare.specs.Comparison.{end_text, explained, lowest, side_of, summary_of};
 ghost use Rattle.lab_compare.specs.Topics.{said_in, topic_text, topic_told};
 
 use crate::cells::{Cell, cells_of};
-use crate::commits::Commits;
+use crate::commits::{Commits, commits_of};
 use crate::telling::{Bytes, Content, Telling};
 use lab_commands::put_rows;
 use lab_engine::{Level, Recording};
@@ -188,7 +188,7 @@ fn explained(
 }
 
 /// What there is to say of the recording of a play and of its report. NoMemory where an allocation was refused.
-pub fn summary_of(
+fn summary_of(
     alloc: Global,
     lines: &[Line],
     recording: &Recording,
@@ -202,5 +202,23 @@ pub fn summary_of(
         end: end_of(alloc, history)?,
         grade: grade_of(alloc, report)?,
         explained: explained(alloc, history, report, lowest(report))?,
+    })
+}
+
+/// What the commits of a recording install, and what there is to say of it and of its report. NoMemory where an allocation was
+/// refused.
+pub fn side_of(
+    alloc: Global,
+    level: Level,
+    lines: &[Line],
+    recording: &Recording,
+    report: &Report,
+) -> Result<Side, NoMemory>
+    ensures { IfOk result (λ side. side ≡ side_of level lines.now recording.now report.now) }
+{
+    Ok(Side {
+        level,
+        commits: commits_of(alloc, recording)?,
+        summary: summary_of(alloc, lines, recording, report)?,
     })
 }
