@@ -1,5 +1,5 @@
 -- A legal log stays legal by a step.
-use Rattle.lab_engine.proofs.Common.{ap, Appends, arith, Command, IsLegal, length, length-append, Level, List, LogEvent, Outcome, past_of, reverse-append, subst, sym, Table, [], ℕ, ◌++◌, ◌<◌, ◌∙◌, ◌∷◌, ◌≡◌, ◌≤◌}
+use Rattle.lab_engine.proofs.Common.{ap, Appends, arith, Command, drop, get_or, IsLegal, length, length-append, length-reverse, length-take-le, Level, List, LogEvent, Outcome, past_of, reverse, reverse-append, subst, sym, Table, take, take-append-drop, take_more, [], ℕ, ◌++◌, ◌+◌, ◌<◌, ◌∙◌, ◌∷◌, ◌≡◌, ◌≤◌}
 
 -- the past after one more event
 pub past_of-push : (log : List LogEvent) (event : LogEvent) → past_of (log ++ event ∷ []) ≡ event ∷ past_of log
