@@ -32,6 +32,7 @@ pub use judged_files::{BatchAnswer, batch_answer};
 pub use judging::judge;
 pub use laws::{judge_answer_unique, run_answer_unique, serial_answer_unique};
 pub use listed::listed_names;
+pub use overwriting::put_state;
 pub use player::Player;
 pub use progress::Progress;
 pub use refusals::{print_play_refusal, print_script_refusal};

@@ -1,12 +1,13 @@
 //! Rows that are overwritten in place.
 
-ghost use Rattle.std.specs.Prelude.{◌≡◌, filter, not, OnOk};
+ghost use Rattle.std.specs.Prelude.{◌≡◌, filter, not, OnOk, OnErr};
 ghost use Rattle.std.specs.FinMap as map;
 ghost use Rattle.lab_table.specs.Row.{row_test};
 ghost use Rattle.lab_table.specs.Table.{overwritten, put};
-ghost use Rattle.lab_history.specs.VersionName.{new_states, state_value};
+ghost use Rattle.lab_history.specs.VersionName.{new_states};
 ghost use Rattle.lab_commands.specs.Overwriting.{put_each};
 
+use lab_engine::value_of;
 use lab_history::{State, Writes};
 use lab_table::{ByRow, NoMemory, RowName, Value};
 use std::alloc::Global;
@@ -27,18 +28,19 @@ fn remove_row(alloc: Global, rows: &mut ByRow<Value>, row: RowName)
     *rows = ByRow::from_rising(entries);
 }
 
-/// Puts a row into a state.
-fn put_state(
+/// Puts a row into a state, by which it is absent where there is none. The one refusal is want of memory, and leaves all as it was.
+pub fn put_state(
     alloc: Global,
     rows: &mut ByRow<Value>,
     row: RowName,
-    state: State,
+    state: Option<Value>,
 ) -> Result<(), NoMemory>
-    ensures { OnOk result (rows.new ≡ put row (state_value state) rows.old) }
+    ensures ok { OnOk result (rows.new ≡ put row state rows.old) }
+    ensures err { OnErr result (rows.new ≡ rows.old) }
 {
     match state {
-        State::Present(value) => rows.put(row, value),
-        State::Absent => {
+        Some(value) => rows.put(row, value),
+        None => {
             remove_row(alloc, rows, row);
             Ok(())
         }
@@ -54,7 +56,7 @@ fn put_each(
     ensures { OnOk result (rows.new ≡ put_each (new_states states.now) rows.old) }
 {
     for (row, state) in states {
-        put_state(alloc, rows, *row, *state)?;
+        put_state(alloc, rows, *row, value_of(*state))?;
     }
     Ok(())
 }

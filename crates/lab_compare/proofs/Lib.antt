@@ -1,6 +1,5 @@
 mod Spaces
 mod Left
-mod Removed
 mod Installs
 mod FirstRefusals
 mod SidesSoFar

@@ -5,14 +5,15 @@
 
 ghost use Rattle.std.specs.Prelude.{◌≡◌, ◌≤◌, ◌<◌, Some, true, length, map, slice_get, slice_index_or, IfOk, IfSome, OnOk};
 ghost use Rattle.std.specs.Option.{option_copied};
+ghost use Rattle.lab_commands.specs.Overwriting.{put_each};
 ghost use Rattle.lab_compare.specs.declared.behind.Cursor.{Cursor as CursorOf};
 ghost use Rattle.lab_compare.specs.Behind.{installed_at, rows_at, rows_behind, rows_told, table_at, Stands};
 
 use crate::cells::Cell;
 use crate::commits::Commits;
-use crate::installing::put_each;
 use crate::side::Side;
 use crate::telling::{Content, Telling};
+use lab_commands::put_state;
 use lab_table::{ByRow, NoMemory, RowName, Sequence, Session, Value};
 use std::alloc::Global;
 use std::marker::Model;
@@ -26,6 +27,20 @@ pub struct Cursor {
     /// How many writes are installed.
     taken: usize,
     rows: ByRow<Value>,
+}
+
+/// Puts rows into these states, one after another. After NoMemory some of them may stand there.
+fn put_each(
+    alloc: Global,
+    rows: &mut ByRow<Value>,
+    states: &[(RowName, Option<Value>)],
+) -> Result<(), NoMemory>
+    ensures { OnOk result (rows.new ≡ put_each states.now rows.old) }
+{
+    for (row, state) in states {
+        put_state(alloc, rows, *row, *state)?;
+    }
+    Ok(())
 }
 
 /// Installs writes from one number of them on up to another.

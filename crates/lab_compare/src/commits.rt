@@ -1,11 +1,11 @@
 //! What the commits of a play install.
 
 ghost use Rattle.std.specs.Prelude.{◌≡◌, ◌++◌, length, None, replicate, IfOk, OnOk};
-ghost use Rattle.lab_history.specs.VersionName.{new_states, state_value};
+ghost use Rattle.lab_history.specs.VersionName.{new_states};
 ghost use Rattle.lab_compare.specs.Commits.{active_after, commits_of, counts_each, event_installs, installs_by, installs_each, installs_of, written_by};
 
 use lab_commands::{Standing, number_after};
-use lab_engine::{LogEvent, Outcome, Recording};
+use lab_engine::{LogEvent, Outcome, Recording, value_of};
 use lab_history::{History, Op, State};
 use lab_table::{ByRow, NoMemory, PerSession, RowName, Sequence, TxnNo, Value};
 use std::alloc::Global;
@@ -21,16 +21,6 @@ pub struct Commits {
     pub counts: Sequence<usize>,
 }
 
-/// The value that a state has, if any.
-fn value_in(state: State) -> Option<Value>
-    ensures { result ≡ state_value state }
-{
-    match state {
-        State::Absent => None,
-        State::Present(value) => Some(value),
-    }
-}
-
 /// Appends rows with the states that they are put into.
 fn put_states(
     installs: &mut Vec<(RowName, Option<Value>)>,
@@ -39,7 +29,7 @@ fn put_states(
     ensures { OnOk result (installs.new.items ≡ installs.old.items ++ new_states states.now) }
 {
     for (row, state) in states {
-        installs.push((*row, value_in(*state)))?;
+        installs.push((*row, value_of(*state)))?;
     }
     Ok(())
 }

@@ -14,7 +14,6 @@ mod cells;
 mod commits;
 mod comparing;
 mod comparison;
-mod installing;
 mod laws;
 mod playing;
 mod shared;

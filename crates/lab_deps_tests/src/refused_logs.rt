@@ -3,10 +3,12 @@
 
 use crate::bare::Bare;
 use crate::refused_steps::{Play, TWO_UPDATES, WAITING, has_told, is_refused, turns_before};
-use lab_engine::Engine;
+use lab_engine::{Engine, Recording};
+use lab_history_file::write_history;
 use lab_locking::LockEngine;
 use lab_refusal_tests::{refuse, was_refused};
 use lab_script::{Line, Script, parse_script};
+use lab_session::play_script;
 use std::alloc::Global;
 use std::process::Abort;
 use std::test::Fail;
@@ -90,6 +92,78 @@ fn shows_logs(rt: &impl Abort, alloc: Global, script: &Script) -> Result<(), &'s
     let engine = LockEngine::new(alloc, setup);
     let refused = is_log_refused(alloc, engine, script.lines.as_slice(), 1)?;
     assert!(rt; !refused, "a journal's log");
+    Ok(())
+}
+
+/// Whether the history of a recording has this text.
+fn is_written_so(alloc: Global, recording: &Recording, text: &[u8]) -> bool {
+    match write_history(alloc, recording.history()) {
+        Ok(written) => written.as_slice() == text,
+        Err(_) => false,
+    }
+}
+
+/// Plays the script on an engine that has the required calls alone, with an allocation refused, and says whether one was;
+/// or else what isn't as it has to be. The text is that of the history that the play tells.
+fn is_play_refused(
+    alloc: Global,
+    script: &Script,
+    text: &[u8],
+    growth: u16,
+) -> Result<bool, &'static str> {
+    let setup = script.setup.copy(alloc).ok().ok_or("memory")?;
+    let engine = Bare::new(LockEngine::new(alloc, setup));
+    refuse(alloc, growth);
+    let answer = play_script(alloc, engine, script);
+    let refused = was_refused(alloc);
+    let Ok(recording) = answer else {
+        return if refused {
+            Ok(true)
+        } else {
+            Err("a recording")
+        };
+    };
+    refuse(alloc, 0);
+    let is_told = has_told(recording.log(), WAITING.len(), WAITING);
+    let is_due = is_written_so(alloc, &recording, text);
+    drop(recording);
+    if is_told && is_due {
+        Ok(refused)
+    } else {
+        Err("the recording of the play")
+    }
+}
+
+/// Fails where that isn't right with each allocation refused in turn, or no last one is met.
+fn shows_recordings(
+    rt: &impl Abort,
+    alloc: Global,
+    script: &Script,
+    text: &[u8],
+) -> Result<(), &'static str> {
+    let mut answered = false;
+    for growth in 1..1_000u16 {
+        if !is_play_refused(alloc, script, text, growth)? {
+            answered = true;
+            break;
+        }
+    }
+    assert!(rt; answered, "a recording");
+    Ok(())
+}
+
+#[test]
+fn a_recording_of_any_engine_is_that_of_a_journal(rt: HostRuntime) -> Result<(), Fail> {
+    let alloc = rt.alloc();
+    let script = parse_script(alloc, TWO_UPDATES).ok().ok_or("a script")?;
+    let setup = script.setup.copy(alloc).ok().ok_or("memory")?;
+    let played = play_script(alloc, LockEngine::new(alloc, setup), &script);
+    let played = played.ok().ok_or("a recording")?;
+    let text = write_history(alloc, played.history()).ok().ok_or("a text")?;
+    let shown = shows_recordings(&rt, alloc, &script, text.as_slice());
+    drop(script);
+    drop(played);
+    shown?;
     Ok(())
 }
 

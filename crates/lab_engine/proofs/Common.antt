@@ -35,7 +35,7 @@ pub use Rattle.lab_engine.specs.declared.session_state.{SessionState.{SessionSta
 pub use Rattle.lab_engine.specs.declared.situation.Situation.{Situation}
 pub use Rattle.lab_engine.specs.Laws.{AllDone, AllNumbered, AllRan, AllRecorded, AreNumbered, AreRecorded, Began, BeginsHold, CommitsHold, IsDone, IsNumber, IsRecorded, LocksHold, NoneHas, NumbersHold, RanAt, RanBy, RecordsHold, Untouched, UntouchedAt}
 pub use Rattle.lab_engine.specs.WaitsFor.{AreBlockers, AreWaits, IsRound, IsWalk, WaitsForOne, WaitsOn, is_session}
-pub use Rattle.lab_engine.specs.Gathered.{Gathers, IsWithin, changed, changed_by, committed, new_txn, number_kept, number_of, recorded, txns_after, with_ops}
+pub use Rattle.lab_engine.specs.Gathered.{AreActive, Gathers, IsWithin, changed, changed_by, committed, new_txn, number_after, number_of, recorded, txns_after, with_ops}
 pub use Rattle.lab_engine.specs.EachRow.{each_row, first_failing, stored, value_rewritten, with_row}
 pub use Rattle.lab_history.specs.History.{History}
 pub use Rattle.lab_engine.specs.Others.{IsOther}

@@ -1,27 +1,31 @@
 -- What is gathered of a log, event by event.
-use Rattle.std.specs.Prelude.{◌≡◌, ℕ, zero, suc, ◌-◌, ◌<◌, Option, Some, None, option_map, List, [], ◌∷◌, ◌++◌, ⊤}
+use Rattle.std.specs.Prelude.{◌≡◌, ℕ, zero, suc, ◌-◌, ◌≤◌, ◌<◌, cond, Option, Some, None, option_map, List, [], ◌∷◌, ◌++◌, ⊤}
 use Rattle.std.specs.Prelude as list
+use Rattle.lab_table.specs.Sessions.{of_session}
 use Rattle.lab_table.specs.declared.statement.Command.{Command}
 use Rattle.lab_history.specs.declared.operation.Op.{Op}
 use Rattle.lab_history.specs.declared.transaction.Txn.{Txn as Recorded}
 use Rattle.lab_history.specs.declared.transaction.Outcome.TheVariants.{Committed as EndCommitted, Aborted as EndAborted}
-use Rattle.lab_engine.specs.declared.event.Level.TheVariants.{Committed as ReadCommitted}
 use Rattle.lab_engine.specs.declared.event.Outcome.{Outcome}
 use Rattle.lab_engine.specs.declared.event.Outcome.TheVariants.{Begun, Rows as Listed, Committed, Aborted, Waits, Refused}
 use Rattle.lab_engine.specs.declared.gathering.GatheredTxn.{GatheredTxn}
 use Rattle.lab_engine.specs.declared.gathering.Gathering.{Gathering}
-use Rattle.lab_engine.specs.declared.session_state.RunningTxn.{RunningTxn}
-use Rattle.lab_engine.specs.Log.{Past, Txn}
+use Rattle.lab_engine.specs.EventQuery.{is_over}
+use Rattle.lab_engine.specs.Log.{Past, Txn, active}
 use Rattle.lab_engine.specs.Recording.{op_of, recorded_txns}
-use Rattle.lab_engine.specs.Situation.{Describes}
 
 -- the number of a transaction
 abbrev pub number_of : Option Txn → Option ℕ
 number_of txn = option_map (λ t. t.no) txn
 
--- the same, as it is kept
-abbrev pub number_kept : Option RunningTxn → Option ℕ
-number_kept running = option_map (λ r. r.number) running
+-- the number of a session's active transaction after one of its events
+abbrev pub number_after : Outcome → Option ℕ → Option ℕ
+number_after (Begun n) by = Some n
+number_after outcome by = cond (is_over outcome) None by
+
+-- the numbers that are kept are those of the active transactions
+abbrev pub AreActive : Past → List (Option ℕ) → Type 0
+AreActive past numbers = (session : ℕ) → 1 ≤ session → session ≤ 9 → of_session numbers session ≡ Some (number_of (active past session))
 
 -- a gathered transaction as a recording has it
 abbrev pub recorded : GatheredTxn → Recorded
@@ -64,7 +68,7 @@ abbrev pub IsWithin : Option ℕ → ℕ → Type 0
 IsWithin None count = ⊤
 IsWithin (Some number) count = number - 1 < count
 
--- what is gathered agrees with the log. Nobody asks here for what a commit read, so what is kept is that of a level that keeps no statements
+-- what is gathered agrees with the log
 pub record Gathers (past : Past) (gathered : Gathering) : Type 0 where
-  pub situation : Describes ReadCommitted past gathered.situation
+  pub active : AreActive past gathered.active
   pub txns : list.map recorded gathered.txns.items ≡ recorded_txns past

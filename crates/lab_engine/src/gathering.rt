@@ -1,22 +1,19 @@
 //! What a log tells, gathered for its recording in one walk.
 
-ghost use Rattle.std.specs.Prelude.{◌≡◌, ◌≤◌, ◌<◌, ◌∷◌, ◌-◌, length, option_map, IfOk, OnOk};
+ghost use Rattle.std.specs.Prelude.{◌≡◌, ◌∷◌, ◌-◌, length, IfOk, OnOk};
 ghost use Rattle.std.specs.Prelude as list;
 ghost use Rattle.lab_table.specs.Table.{Table as PlainTable};
 ghost use Rattle.lab_engine.specs.declared.event.Level.{Level};
-ghost use Rattle.lab_engine.specs.Limits.{max_events};
 ghost use Rattle.lab_engine.specs.Log.{Past, past_of};
 ghost use Rattle.lab_engine.specs.Rules.{IsLegal};
-ghost use Rattle.lab_engine.specs.Recording.{op_of};
+ghost use Rattle.lab_engine.specs.Recording.{op_of, recorded_txns};
 ghost use Rattle.lab_engine.specs.Gathered as plain;
 ghost use Rattle.lab_engine.specs.Gathered.{Gathers, IsWithin};
 
 use crate::event::{LogEvent, Outcome};
-use crate::event_query::asked_statement;
-use crate::session_state::RunningTxn;
-use crate::situation::Situation;
+use crate::event_query::{asked_statement, is_over};
 use lab_history::{Op, Outcome as End};
-use lab_table::{NoMemory, TxnNo};
+use lab_table::{NoMemory, PerSession, TxnNo};
 use std::alloc::Global;
 
 /// A transaction, as far as the events went.
@@ -28,42 +25,41 @@ pub struct GatheredTxn {
     pub ops: Vec<Op>,
 }
 
-/// What the events so far say, and where they leave sessions and rows.
+/// What the events so far say of transactions.
 #[derive(Drop)]
-pub struct Gathering {
-    /// Who is active, and what was installed.
-    pub situation: Situation,
+struct Gathering {
+    /// For each session the number of its active transaction, if any.
+    active: PerSession<Option<TxnNo>>,
     /// The transactions, by rising number.
-    pub txns: Vec<GatheredTxn>,
+    txns: Vec<GatheredTxn>,
+}
+
+/// The transactions of these events, by rising number. NoMemory where an allocation was refused.
+pub fn gathered_txns(alloc: Global, log: &[LogEvent]) -> Result<Vec<GatheredTxn>, NoMemory>
+    requires { (level : Level) × (setup : PlainTable) × IsLegal level setup (past_of log.now) }
+    ensures { IfOk result (λ txns. list.map plain.recorded txns.items ≡ recorded_txns (past_of log.now)) }
+{
+    let mut gathered = Gathering {
+        active: PerSession::all(None),
+        txns: Vec::new(alloc),
+    };
+    for event in log {
+        gathered.take_in(alloc, event)?;
+    }
+    Ok(gathered.txns)
 }
 
 impl Gathering {
-    /// What these events tell, the oldest first. NoMemory where an allocation was refused.
-    pub fn of(alloc: Global, log: &[LogEvent]) -> Result<Gathering, NoMemory>
-        requires few { length log.now ≤ max_events }
-        requires legal { (level : Level) × (setup : PlainTable) × IsLegal level setup (past_of log.now) }
-        ensures { IfOk result (Gathers (past_of log.now)) }
-    {
-        let mut gathered = Gathering {
-            situation: Situation::new(alloc),
-            txns: Vec::new(alloc),
-        };
-        for event in log {
-            gathered.take_in(alloc, event)?;
-        }
-        Ok(gathered)
-    }
-
     /// Goes on by one event. After NoMemory it is of no use.
     fn take_in(&mut self, alloc: Global, event: &LogEvent) -> Result<(), NoMemory>
-        requires { (level : Level) × (setup : PlainTable) × (past : Past) × Gathers past self.old × IsLegal level setup (event.now ∷ past) × (length past < max_events) }
+        requires { (level : Level) × (setup : PlainTable) × (past : Past) × Gathers past self.old × IsLegal level setup (event.now ∷ past) }
         ensures { (level : Level) (setup : PlainTable) (past : Past) → Gathers past self.old → IsLegal level setup (event.now ∷ past)
             → IfOk result (λ _. Gathers (event.now ∷ past) self.new) }
     {
-        let by = number_of(self.situation.running(event.session));
+        let by = self.active.get(event.session);
         add_event(alloc, &mut self.txns, event, &by)?;
-        let mut kept = self.situation.reserve(alloc, event, false)?;
-        self.situation.take_in(alloc, event, &mut kept, false);
+        self.active
+            .set(event.session, number_after(&event.outcome, by));
         Ok(())
     }
 }
@@ -106,13 +102,13 @@ impl GatheredTxn {
     }
 }
 
-/// The number of an active transaction, if there is one.
-fn number_of(running: Option<&RunningTxn>) -> Option<TxnNo>
-    ensures { result ≡ plain.number_kept (option_map (λ running. running.now) running.entry) }
+/// The number of the active transaction of a session after one of its events.
+pub fn number_after(outcome: &Outcome, by: Option<TxnNo>) -> Option<TxnNo>
+    ensures { result ≡ plain.number_after outcome.now by }
 {
-    match running {
-        Some(running) => Some(running.number),
-        None => None,
+    match outcome {
+        Outcome::Begun(number) => Some(*number),
+        other => { if is_over(other) { None } else { by } }
     }
 }
 

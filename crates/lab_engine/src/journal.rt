@@ -22,6 +22,7 @@ use crate::decision::{copy_of, step_outcome, waiting_command};
 use crate::engine::Engine;
 use crate::event::{Level, LogEvent, Outcome};
 use crate::event_query::ends_transaction;
+use crate::recording::{RecordFault, Recording};
 use crate::rules::Rules;
 use crate::situation::Situation;
 use crate::waits::{retryable, waits_after};
@@ -252,6 +253,11 @@ impl<R: Rules + Drop> Engine for Journal<R> {
 
     fn into_log(self, _: Global) -> Result<Vec<LogEvent>, NoMemory> {
         Ok(self.log)
+    }
+
+    fn into_recording(self, alloc: Global) -> Result<Recording, RecordFault> {
+        let level = self.rules.level();
+        Recording::from_rows(alloc, level, self.setup, self.log, &self.situation.rows)
     }
 
     fn retryable(&self) -> Option<Session> {

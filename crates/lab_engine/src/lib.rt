@@ -62,4 +62,4 @@ pub use rules::{Conflict, ConflictKind, Rules};
 pub use session_set::SessionSet;
 pub use session_state::{RunningTxn, SessionState};
 pub use situation::Situation;
-pub use version::Version;
+pub use version::{Version, value_of};

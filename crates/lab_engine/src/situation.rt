@@ -6,8 +6,9 @@ ghost use Rattle.std.specs.List.{list_all};
 ghost use Rattle.std.specs.Option.{is_none};
 ghost use Rattle.std.specs.Vec.{vec_capacity};
 ghost use Rattle.lab_engine.specs.declared.event.Level.{Level as Kind};
+ghost use Rattle.lab_engine.specs.declared.event.Level.TheVariants.{Committed as ReadCommitted};
 ghost use Rattle.lab_engine.specs.Limits.{max_events};
-ghost use Rattle.lab_engine.specs.Log.{Past, active, waiting, begun_after};
+ghost use Rattle.lab_engine.specs.Log.{Past, past_of, active, waiting, begun_after};
 ghost use Rattle.lab_engine.specs.EventQuery.{is_ending};
 ghost use Rattle.lab_engine.specs.KeptCommits.{AreInstalled, commits_by};
 ghost use Rattle.lab_engine.specs.WaitsFor.{waits_for};
@@ -55,6 +56,20 @@ impl Situation {
             begun: 0,
             events: 0,
         }
+    }
+
+    /// Where these events leave sessions and rows, the oldest first; of who waits for whom and of commits it keeps nothing.
+    /// NoMemory where an allocation was refused.
+    pub(crate) fn after(alloc: Global, log: &[LogEvent]) -> Result<Situation, NoMemory>
+        requires { length log.now ≤ max_events }
+        ensures { IfOk result (Describes ReadCommitted (past_of log.now)) }
+    {
+        let mut situation = Situation::new(alloc);
+        for event in log {
+            let mut kept = situation.reserve(alloc, event, false)?;
+            situation.take_in(alloc, event, &mut kept, false);
+        }
+        Ok(situation)
     }
 
     /// The active transaction of a session, or None where it has none.

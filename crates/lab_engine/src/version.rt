@@ -39,7 +39,7 @@ pub(crate) fn initial_entries(
 }
 
 /// The value of a row in a state that was written; None where that is absent.
-pub(crate) fn value_of(state: State) -> Option<Value>
+pub fn value_of(state: State) -> Option<Value>
     ensures { result ≡ state_value state }
 {
     match state {

@@ -1,5 +1,5 @@
 use Rattle.lab_engine.proofs.Common.{Gathers, past_of, take}
-use Rattle.lab_engine.proofs.gathering.Gathering.of.Given as goal
+use Rattle.lab_engine.proofs.gathering.gathered_txns.Given as goal
 
 -- what the events so far tell
 abbrev pub invariant-loop-event : goal.invariant-loop-event
