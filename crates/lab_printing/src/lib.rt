@@ -4,17 +4,17 @@
 //! update test set value = value + 10 where id = 1
 //! ```
 //!
-//! Each has one printed form. What takes its text is a [`Sink`], handed it piece by piece: bytes append it, and a [`Room`]
-//! tells whether it fits, without one. [`spell_statement`], [`spell_command`], [`spell_row_name`] and [`spell_list`] answer
-//! whether all of it was taken; [`put_statement`], [`put_printable`], [`put_row_name`] and [`put_list`] append it to bytes.
-//! What else has a printed form is [`Spell`], of which [`spell_all`] spells a list.
+//! Each has one printed form. What takes its text is a [`Sink`], which is handed it piece by piece: bytes append it, and
+//! a [`Room`] tells whether it fits, without a text. [`spell_statement`], [`spell_command`], [`spell_row_name`] and
+//! [`spell_list`] answer whether all of it was taken; [`put_statement`], [`put_printable`], [`put_row_name`] and
+//! [`put_list`] append it to bytes. What else has a printed form is [`Spell`], of which [`spell_all`] spells a list.
 //!
-//! The text of a statement keeps limits: [`MAX_STATEMENT_BYTES`] and [`MAX_DEPTH`]; a line keeps [`MAX_LINE_BYTES`]. A
+//! The text of a statement keeps limits: [`MAX_STATEMENT_BYTES`] and [`MAX_DEPTH`], and [`MAX_LINE_BYTES`] as a line. A
 //! statement that is made by hand need not: [`check_statement`] and [`check_command`] tell whether it does, without a
-//! text, and else which limit it breaks, a [`PrintFault`]. That printed text is read as the same statement again, the
-//! crate of reading says, `lab_statement`.
+//! text, and else which limit it breaks, a [`PrintFault`]. How such a text is read again, `lab_statement` says.
 //!
-//! What is handed bytes may be refused for want of memory. Only they may then end in a part of what was to be appended.
+//! What takes memory is handed bytes, and may be refused for want of memory. They may then end in a part of what was to
+//! be appended.
 #![tactic(auto)]
 
 mod fits;
