@@ -64,13 +64,13 @@ op_committed h kind.RowsDiffer n k row stands = stands.1.0
 op_committed h kind.WritesDiffer n k row stands = stands.1.0
 
 -- the kinds at a place in their order
-abbrev op_kind_at : ℕ → OpFault
+abbrev pub op_kind_at : ℕ → OpFault
 op_kind_at p = cond (p == 0) kind.Dangling (cond (p == 2) kind.OwnWriteMissed (cond (p == 3) kind.LaterThanOwn (cond (p == 4) kind.RowsDiffer (cond (p == 5) kind.WritesDiffer (cond (p == 7) kind.AbortedRead kind.IntermediateRead)))))
 
 abbrev row_kind_at : ℕ → RowFault
 row_kind_at p = cond (p == 1) row_kind.InstallOrder row_kind.EndDiffers
 
-op_kind_again : (kind : OpFault) → op_kind_at (op_place kind) ≡ kind
+pub op_kind_again : (kind : OpFault) → op_kind_at (op_place kind) ≡ kind
 op_kind_again kind.Dangling = refl
 op_kind_again kind.AbortedRead = refl
 op_kind_again kind.IntermediateRead = refl
@@ -100,7 +100,7 @@ row_of_row : (kind : RowFault) → is_of_row (row_place kind) ≡ true
 row_of_row row_kind.InstallOrder = refl
 row_of_row row_kind.EndDiffers = refl
 
-kinds_apart : (kind : OpFault) (other : RowFault) → op_place kind ≡ row_place other → ⊥
+pub kinds_apart : (kind : OpFault) (other : RowFault) → op_place kind ≡ row_place other → ⊥
 kinds_apart kind other same = false≢true (sym (op_not_of_row kind) ∙ ap is_of_row same ∙ row_of_row other)
 
 same_number : (a b : ℕ) → (a < b → ⊥) → (b < a → ⊥) → a ≡ b
@@ -115,7 +115,7 @@ one_row a b p q = at (row_cmp a b) refl
     at Greater e = absurd (q (ap is_lt (rows_total.antisymm b a ∙ ap ordering_reverse e)))
 
 -- transactions of a file at one place are one
-one_txn : (ts : List Txn) (n m : ℕ) (t u : Txn) → find_txn ts n ≡ Some t → find_txn ts m ≡ Some u → place_among ts n ≡ place_among ts m → n ≡ m
+pub one_txn : (ts : List Txn) (n m : ℕ) (t u : Txn) → find_txn ts n ≡ Some t → find_txn ts m ≡ Some u → place_among ts n ≡ place_among ts m → n ≡ m
 one_txn [] n m t u e f same = absurd (none-some t e)
 one_txn (v ∷ ts) n m t u e f same =
     elim (v.no == n) as (λ b. (v.no == n) ≡ b → cond b (Some v) (find_txn ts n) ≡ Some t → cond b 0 (suc (place_among ts n)) ≡ place_among (v ∷ ts) m → n ≡ m) [

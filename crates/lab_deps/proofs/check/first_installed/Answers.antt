@@ -1,0 +1,20 @@
+use Rattle.std.proofs.Common.{Some, sym, ◌∙◌, subst}
+use Rattle.lab_deps.specs.{FaultOrder.{Precedes}, FirstOf.{IsFirstOf, IsLeastRow}, Soundness.{Stands, EndsOther}}
+use Rattle.lab_deps.proofs.TestedFaults.{all_end, low_first, end_first}
+use Rattle.lab_deps.proofs.check.first_installed.Goals as goal
+
+pub returns-then-not-is_uncommitted_read : goal.returns-then-not-is_uncommitted_read
+returns-then-not-is_uncommitted_read c =
+    let h = c.args.history.now in
+    subst (IsFirstOf (Precedes h) (Stands h)) (sym c.in-Some.is)
+    (low_first h c.requires c.first_at_ops.result c.first_at_ops.ensures c.in-Some.fault (sym c.fault_of-found.ensures ∙ c.in-Some.is) (sym c.is_uncommitted_read.ensures ∙ c.if-not-is_uncommitted_read.true))
+
+pub returns-in-None : goal.returns-in-None
+returns-in-None c =
+    let h = c.args.history.now in
+    subst (IsFirstOf (Precedes h) (Stands h)) (sym c.fault_of-found.ensures) (all_end h c.requires c.first_at_ops.result c.first_at_ops.ensures (subst (IsLeastRow (EndsOther h)) c.in-None.is c.end_row.ensures))
+
+pub returns-in-Some : goal.returns-in-Some
+returns-in-Some c =
+    let h = c.args.history.now in
+    end_first h c.requires c.first_at_ops.result c.first_at_ops.ensures ? c.in-Some.row (subst (IsLeastRow (EndsOther h)) c.in-Some.is c.end_row.ensures)
