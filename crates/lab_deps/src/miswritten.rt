@@ -1,6 +1,6 @@
 //! Rows to which an operation doesn't write what is due.
 
-ghost use Rattle.std.specs.Prelude.{◌≡◌, true, is_none, Some};
+ghost use Rattle.std.specs.Prelude.{◌≡◌, true, is_none};
 ghost use Rattle.std.specs.Bool.{then_some};
 ghost use Rattle.std.specs.FinMap as map;
 ghost use Rattle.lab_table.specs.Statement as plain;
