@@ -1,28 +1,18 @@
 -- The first fault that is tested is the first that stands.
-use Rattle.std.proofs.{Common.{◌≡◌, ℕ, zero, suc, ◌+◌, ◌<◌, ◌≤◌, ◌==◌, Bool, true, false, cond, Option, Some, None, List, [], ◌∷◌, ◌⊎◌, inl, inr, refl, sym, ap, ◌∙◌, subst, arith}, lemmas.Option.{none-some, same_Some}}
-use Rattle.std.specs.{Prelude.{nat_le, slice_get, count_by, option_map, ⊤}, Option.{option_or}}
-use Rattle.lab_table.{specs.Row.{Row}, proofs.Tests.{mapped_some}}
-use Rattle.lab_history.specs.{History.{History}, Version.{installers}}
-use Rattle.lab_deps.specs.{Soundness.{Stands, InstallsOther, EndsOther, is_writer}, Refusal.{is_uncommitted_read}, FaultKinds.{op_fault, fault_of, parts_of}, FaultOrder.{kind_place, where_is, ComesBefore, Precedes, IsFirst}, FirstOf.{IsFirstOf, IsLess, IsLeastRow}, Search.{ComesFirst, IsTestedAt, IsSought}}
+use Rattle.std.proofs.{Common.{◌≡◌, ℕ, zero, suc, ◌+◌, ◌<◌, ◌≤◌, Bool, true, false, Option, Some, None, List, [], ◌∷◌, ◌⊎◌, inl, inr, refl, sym, ap, ◌∙◌, subst, arith}, lemmas.{Bool.{false≢true}, Option.{none-some, same_Some}}}
+use Rattle.std.specs.{Prelude.{nat_le, slice_get, option_map, ⊤}, Option.{option_or}}
+use Rattle.lab_table.specs.Row.{Row}
+use Rattle.lab_history.specs.History.{History}
+use Rattle.lab_deps.specs.{Soundness.{Stands, InstallsOther, EndsOther}, Refusal.{is_uncommitted_read}, FaultKinds.{op_fault, fault_of, parts_of}, FaultOrder.{kind_place, where_is, ComesBefore, Precedes, IsFirst}, FirstOf.{IsFirstOf, IsLess, IsLeastRow}, Search.{ComesFirst, IsTestedAt, IsSought, may_follow}}
 use Rattle.lab_deps.specs.declared.{check.TheConstants.{KINDS}, fault.{FaultParts.{FaultParts}, LocalFault.{LocalFault, TheVariants.{Dangling, InstallOrder, EndDiffers}}}, kind.OpFault.{OpFault}, search.Found.{Found}}
 use Rattle.lab_deps.specs.declared.fault.FaultParts.TheVariants as parts
 use Rattle.lab_deps.specs.declared.kind.OpFault.TheVariants as kind
 use Rattle.lab_deps.specs.declared.kind.RowFault.TheVariants as row_kind
 use Rattle.lab_deps.proofs.BrokenStands.{decides_dangling, decides_aborted_read, decides_intermediate, decides_rows, lists_due, decides_writes}
-use Rattle.lab_deps.proofs.FaultOrders.{made_again, op_place, op_told, op_kind_at, op_kind_again, kinds_apart, reads_last}
-use Rattle.lab_deps.proofs.{LaterReads.{later_stands, later_found}, MissedWrites.{first_misses, tested_all}, Places.{times, times_count, stable_nat}}
+use Rattle.lab_deps.proofs.FaultOrders.{made_again, op_place, op_told, at_place, same_kind, kinds_apart, reads_last}
+use Rattle.lab_deps.proofs.{LaterReads.{later_stands, later_found}, MissedWrites.{first_misses, tested_all}}
 
--- each kind has its place among them
-at_place : (kind : OpFault) → slice_get KINDS (op_place kind) ≡ Some (Some kind)
-at_place kind.Dangling = refl
-at_place kind.AbortedRead = refl
-at_place kind.IntermediateRead = refl
-at_place kind.OwnWriteMissed = refl
-at_place kind.LaterThanOwn = refl
-at_place kind.RowsDiffer = refl
-at_place kind.WritesDiffer = refl
-
--- and stands at no other
+-- a kind stands at its place among the kinds, and at no other
 abbrev IsPlaced : ℕ → Option OpFault → Type 0
 IsPlaced k None = ⊤
 IsPlaced k (Some kind) = op_place kind ≡ k
@@ -38,9 +28,6 @@ placed_on k (o ∷ os) at (suc p) kind e = let rest = placed_on (suc k) os at.1 
 
 kinds_placed : ArePlaced 0 KINDS
 kinds_placed = (refl, (tt, (refl, (refl, (refl, (refl, (tt, (refl, (refl, tt)))))))))
-
-same_kind : (a b : OpFault) → op_place a ≡ op_place b → a ≡ b
-same_kind a b e = sym (op_kind_again a) ∙ ap op_kind_at e ∙ op_kind_again b
 
 abbrev pub as_fault : Found → LocalFault
 as_fault f = op_fault f.kind f.txn f.op f.row
@@ -129,22 +116,13 @@ module _ (h : History) where
       denied here (parts.Row row_kind.EndDiffers r) s (inr w) = let same = w.0 in absurd (omega (arith, same))
 
 module _ (h : History) (placed : (row : Row) → InstallsOther h row → ⊥) where
-  -- each number stands at most once among a row's installers
-  once : (row : Row) (m : ℕ) → times m (installers h row) ≤ 1
-  once row m =
-      at (is_writer h row m) (times_count m (installers h row) ∙ stable_nat (count_by (λ x. x == m) (installers h row)) (cond (is_writer h row m) 1 0) (λ apart. placed row (m, apart)))
-    where
-      at : (b : Bool) → times m (installers h row) ≡ cond b 1 0 → times m (installers h row) ≤ 1
-      at true is = omega (arith, is)
-      at false is = omega (arith, is)
-
   -- no fault stands where no test is true of its row, of its kind or one before, at its operation or one before
   untested : (kind : OpFault) (n k : ℕ) (row : Row) → ((other : OpFault) (j : ℕ) → j ≤ k → op_place other ≤ op_place kind → IsTestedAt h other n j row → ⊥) → Stands h (op_fault kind n k row) → ⊥
   untested kind.Dangling n k row none stands = none kind.Dangling k (omega arith) (omega arith) (dangles h n k row stands)
   untested kind.AbortedRead n k row none (op, c, d) = none kind.AbortedRead k (omega arith) (omega arith) (op, c, (decides_aborted_read h n k op row).1 d)
   untested kind.IntermediateRead n k row none (op, c, d) = none kind.IntermediateRead k (omega arith) (omega arith) (op, c, (decides_intermediate h n k op row).1 d)
   untested kind.OwnWriteMissed n k row none (op, c, d) = tested_all h n k op row c (λ j o le there t. none kind.OwnWriteMissed j le (omega arith) (o, there, t)) d
-  untested kind.LaterThanOwn n k row none (op, c, d) = none kind.LaterThanOwn k (omega arith) (omega arith) (op, c, later_found h n op row (once row) d)
+  untested kind.LaterThanOwn n k row none (op, c, d) = none kind.LaterThanOwn k (omega arith) (omega arith) (op, c, later_found h n op row placed d)
   untested kind.RowsDiffer n k row none (op, c, d) = none kind.RowsDiffer k (omega arith) (omega arith) (op, c, (decides_rows h n k op row).1 d)
   untested kind.WritesDiffer n k row none (op, c, d) =
       none kind.WritesDiffer k (omega arith) (omega arith) (op, c, (decides_writes h n k op row (lists_due h n k op row (λ t. none kind.RowsDiffer k (omega arith) (omega arith) (op, c, t)))).1 d)
@@ -226,25 +204,21 @@ module _ (h : History) (placed : (row : Row) → InstallsOther h row → ⊥) wh
       denied (parts.Row row_kind.EndDiffers row) s = ends row s
 
   -- and where it isn't a read of what was never committed, whether they do or not
-  pub low_first : (found : Option Found) → IsFirstOf (ComesFirst h) (IsSought h KINDS) found → (x : LocalFault) → option_map as_fault found ≡ Some x → is_uncommitted_read x ≡ false → IsFirst h x
-  low_first found first x is reads =
-      let w = mapped_some as_fault found x is in
-      subst (IsFirst h) w.2 (found_first w.0 (subst (IsFirstOf (ComesFirst h) (IsSought h KINDS)) w.1 first) (inr (below_seven (op_place w.0.kind) (sym (reads_at w.0) ∙ ap is_uncommitted_read w.2 ∙ reads))))
+  pub low_first : (found : Option Found) → IsFirstOf (ComesFirst h) (IsSought h KINDS) found → may_follow (option_map as_fault found) ≡ false → IsFirstOf (Precedes h) (Stands h) (option_map as_fault found)
+  low_first None none low = absurd (false≢true (sym low))
+  low_first (Some f) first low = found_first f first (inr (below_seven (op_place f.kind) (sym (reads_at f) ∙ low)))
 
   -- else the first is a row that ends otherwise
-  pub end_first : (found : Option Found) → IsFirstOf (ComesFirst h) (IsSought h KINDS) found → ((x : LocalFault) → option_map as_fault found ≡ Some x → is_uncommitted_read x ≡ true) → (row : Row) → IsLeastRow (EndsOther h) (Some row)
-      → IsFirst h (EndDiffers row)
-  end_first found first reads row least = (least.0, by_parts h (EndDiffers row) denied)
-    where
-      low : (o : Option Found) → found ≡ o → IsFirstOf (ComesFirst h) (IsSought h KINDS) o → (kind : OpFault) (n k : ℕ) (r : Row) → op_place kind < 7 → IsTestedAt h kind n k r → ⊥
-      low None is none kind n k r less t = none (found_at kind n k r) (at_place kind, t)
-      low (Some f) is one kind n k r less t =
-          let up = seven_up (op_place f.kind) (sym (reads_at f) ∙ reads (as_fault f) (ap (option_map as_fault) is)) in
-          none_less f one kind n k r (omega (arith, less, up)) t
+  none_low : (found : Option Found) → IsFirstOf (ComesFirst h) (IsSought h KINDS) found → may_follow (option_map as_fault found) ≡ true → (kind : OpFault) (n k : ℕ) (row : Row) → op_place kind < 7 → IsTestedAt h kind n k row → ⊥
+  none_low None none high kind n k row low t = none (found_at kind n k row) (at_place kind, t)
+  none_low (Some f) first high kind n k row low t = let up = seven_up (op_place f.kind) (sym (reads_at f) ∙ high) in none_less f first kind n k row (omega (arith, low, up)) t
 
+  pub end_first : (found : Option Found) → IsFirstOf (ComesFirst h) (IsSought h KINDS) found → may_follow (option_map as_fault found) ≡ true → (row : Row) → IsLeastRow (EndsOther h) (Some row) → IsFirst h (EndDiffers row)
+  end_first found first high row least = (least.0, by_parts h (EndDiffers row) denied)
+    where
       denied : (p : FaultParts) → Stands h (fault_of p) → Precedes h (fault_of p) (EndDiffers row) → ⊥
       denied (parts.Operation kind n k r) s before = elim (op_before h kind n k r (EndDiffers row) before) [
-        | inl less ↦ untested kind n k r (λ other j le up t. low found refl first other n j r (omega (arith, less, up)) t) s
+        | inl less ↦ untested kind n k r (λ other j le up t. none_low found first high other n j r (omega (arith, less, up)) t) s
         | inr w ↦ kinds_apart kind row_kind.EndDiffers w.0
       ]
       denied (parts.Row row_kind.InstallOrder r) s before = placed r s

@@ -1,5 +1,5 @@
 -- What the walk over operations looks for.
-use Rattle.std.specs.Prelude.{◌≡◌, ◌⊎◌, ℕ, ◌-◌, ◌<◌, ◌≤◌, true, false, Option, Some, None, List, length, slice_get}
+use Rattle.std.specs.Prelude.{◌≡◌, ◌⊎◌, ℕ, ◌-◌, ◌<◌, ◌≤◌, Bool, true, false, Option, Some, None, List, length, slice_get}
 use Rattle.std.specs.Option.{option_copied}
 use Rattle.lab_table.specs.Row.{Row}
 use Rattle.lab_history.specs.History.{History}
@@ -10,7 +10,9 @@ use Rattle.lab_history.specs.declared.transaction.Txn.{Txn}
 use Rattle.lab_deps.specs.Soundness.{IsCommittedOp, HasOp}
 use Rattle.lab_deps.specs.Broken.{breaks_at, is_broken}
 use Rattle.lab_deps.specs.FaultOrder.{place_among, ComesBefore}
+use Rattle.lab_deps.specs.Refusal.{is_uncommitted_read}
 use Rattle.lab_deps.specs.declared.broken_rows.Step.{Step}
+use Rattle.lab_deps.specs.declared.fault.LocalFault.{LocalFault}
 use Rattle.lab_deps.specs.declared.kind.OpFault.{OpFault}
 use Rattle.lab_deps.specs.declared.search.Found.{Found}
 
@@ -38,6 +40,11 @@ IsSoughtTo h kinds p k f = IsSought h kinds f × ((place_among h.txns f.txn < p)
 -- and the operation is this one
 abbrev pub IsSoughtAt : History → List (Option OpFault) → ℕ → ℕ → Found → Type 0
 IsSoughtAt h kinds n k f = IsSought h kinds f × (f.txn ≡ n) × (f.op ≡ k)
+
+-- whether there is no fault, or it is a read of what was never committed
+abbrev pub may_follow : Option LocalFault → Bool
+may_follow None = true
+may_follow (Some fault) = is_uncommitted_read fault
 
 -- a transaction that is found by its number, of no more operations than the limit
 pub record IsTxnOf (h : History) (t : Txn) : Type 0 where
