@@ -90,6 +90,9 @@ row_kind_again : (kind : RowFault) → row_kind_at (row_place kind) ≡ kind
 row_kind_again row_kind.InstallOrder = refl
 row_kind_again row_kind.EndDiffers = refl
 
+pub same_row_kind : (a b : RowFault) → row_place a ≡ row_place b → a ≡ b
+same_row_kind a b e = sym (row_kind_again a) ∙ ap row_kind_at e ∙ row_kind_again b
+
 same_number : (a b : ℕ) → (a < b → ⊥) → (b < a → ⊥) → a ≡ b
 same_number a b p q = grind arith
 
@@ -166,7 +169,7 @@ module _ (h : History) where
   one_made (parts.Row kind row) (parts.Row same other) kinds stands also not_before not_after =
       let a = row_told kind row in
       let b = row_told same other in
-      ap (λ x. row_fault x row) (sym (row_kind_again kind) ∙ ap row_kind_at (sym a.0 ∙ kinds ∙ b.0) ∙ row_kind_again same)
+      ap (λ x. row_fault x row) (same_row_kind kind same (sym a.0 ∙ kinds ∙ b.0))
       ∙ ap (row_fault same) (one_row row other (λ l. not_before (placed _ _ (0, 0, row) (0, 0, other) a.1 b.1 (inr (refl, inr (refl, l))))) (λ l. not_after (placed _ _ (0, 0, other) (0, 0, row) b.1 a.1 (inr (refl, inr (refl, l))))))
   one_made (parts.Operation kind n k row) (parts.Row apart other) kinds stands also not_before not_after = absurd (kinds_apart kind apart (sym (op_told kind n k row).0 ∙ kinds ∙ (row_told apart other).0))
   one_made (parts.Row kind row) (parts.Operation apart m j other) kinds stands also not_before not_after = absurd (kinds_apart apart kind (sym (op_told apart m j other).0 ∙ sym kinds ∙ (row_told kind row).0))

@@ -13,7 +13,7 @@ module _ {A : Type 0} where
   get_take (y ∷ xs) (suc i) zero x g l = g
   get_take (y ∷ xs) (suc i) (suc j) x g l = get_take xs i j x g (omega arith)
 
-  taken_get : (xs : List A) (i j : ℕ) (x : A) → slice_get (take i xs) j ≡ Some x → (j < i) × (slice_get xs j ≡ Some x)
+  pub taken_get : (xs : List A) (i j : ℕ) (x : A) → slice_get (take i xs) j ≡ Some x → (j < i) × (slice_get xs j ≡ Some x)
   taken_get [] zero j x g = absurd (none-some x g)
   taken_get [] (suc i) j x g = absurd (none-some x g)
   taken_get (y ∷ xs) zero j x g = absurd (none-some x g)

@@ -41,10 +41,10 @@ IsSoughtTo h kinds p k f = IsSought h kinds f × ((place_among h.txns f.txn < p)
 abbrev pub IsSoughtAt : History → List (Option OpFault) → ℕ → ℕ → Found → Type 0
 IsSoughtAt h kinds n k f = IsSought h kinds f × (f.txn ≡ n) × (f.op ≡ k)
 
--- whether there is no fault, or it is a read of what was never committed
-abbrev pub may_follow : Option LocalFault → Bool
-may_follow None = true
-may_follow (Some fault) = is_uncommitted_read fault
+-- whether what is found, if anything is, comes behind rows that end otherwise: a read of what was never committed
+abbrev pub is_behind_ends : Option LocalFault → Bool
+is_behind_ends None = true
+is_behind_ends (Some fault) = is_uncommitted_read fault
 
 -- a transaction that is found by its number, of no more operations than the limit
 pub record IsTxnOf (h : History) (t : Txn) : Type 0 where

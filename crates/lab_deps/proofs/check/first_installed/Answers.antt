@@ -1,13 +1,13 @@
 use Rattle.std.proofs.Common.{Some, sym, ap, ◌∙◌, subst}
-use Rattle.lab_deps.specs.{FaultOrder.{Precedes}, FirstOf.{IsFirstOf, IsLeastRow}, Search.{may_follow}, Soundness.{Stands, EndsOther}}
+use Rattle.lab_deps.specs.{FaultOrder.{Precedes}, FirstOf.{IsFirstOf, IsLeastRow}, Search.{is_behind_ends}, Soundness.{Stands, EndsOther}}
 use Rattle.lab_deps.proofs.TestedFaults.{all_end, low_first, end_first}
 use Rattle.lab_deps.proofs.check.first_installed.Goals as goal
 
-pub returns-then-not-may_follow : goal.returns-then-not-may_follow
-returns-then-not-may_follow c =
+pub returns-then-not-is_behind_ends : goal.returns-then-not-is_behind_ends
+returns-then-not-is_behind_ends c =
     let h = c.args.history.now in
     subst (IsFirstOf (Precedes h) (Stands h)) (sym c.fault_of-found.ensures)
-    (low_first h c.requires c.first_at_ops.result c.first_at_ops.ensures (ap may_follow (sym c.fault_of-found.ensures) ∙ sym c.may_follow.ensures ∙ c.if-not-may_follow.true))
+    (low_first h c.requires c.first_at_ops.result c.first_at_ops.ensures (ap is_behind_ends (sym c.fault_of-found.ensures) ∙ sym c.is_behind_ends.ensures ∙ c.if-not-is_behind_ends.true))
 
 pub returns-in-None : goal.returns-in-None
 returns-in-None c =
@@ -17,5 +17,5 @@ returns-in-None c =
 pub returns-in-Some : goal.returns-in-Some
 returns-in-Some c =
     let h = c.args.history.now in
-    end_first h c.requires c.first_at_ops.result c.first_at_ops.ensures (ap may_follow (sym c.fault_of-found.ensures) ∙ sym c.may_follow.ensures ∙ c.if-not-may_follow.false) c.in-Some.row
+    end_first h c.requires c.first_at_ops.result c.first_at_ops.ensures (ap is_behind_ends (sym c.fault_of-found.ensures) ∙ sym c.is_behind_ends.ensures ∙ c.if-not-is_behind_ends.false) c.in-Some.row
     (subst (IsLeastRow (EndsOther h)) c.in-Some.is c.end_row.ensures)
