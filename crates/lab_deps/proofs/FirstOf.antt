@@ -47,6 +47,10 @@ either_least P Q (Some x) (Some y) p q =
       | false ↦ λ e. (inr q.0, λ row w l. elim w [ inl u ↦ p.1 row u (below_lesser row x y l e) | inr v ↦ q.1 row v l ])
     ] refl
 
+-- and so of what is so of those of which one or the other is
+pub least_where : (P Q R : Row → Type 0) (a b : Option Row) → ((row : Row) → P row ⊎ Q row → R row) → ((row : Row) → R row → (P row ⊎ Q row → ⊥) → ⊥) → IsLeastRow P a → IsLeastRow Q b → IsLeastRow R (least a b)
+least_where P Q R a b to back p q = first_like IsLess (λ row. P row ⊎ Q row) R (least a b) to back (either_least P Q a b p q)
+
 -- a row that passes a test is the least of what it alone can be
 pub only_least : (test : Row → Bool) (row : Row) → IsLeastRow (λ other. (other ≡ row) × (test row ≡ true)) (then_some (test row) row)
 only_least test row =

@@ -2,7 +2,7 @@
 use Rattle.std.{proofs.{Common.{◌≡◌, ℕ, ◌==◌, Bool, true, false, not, ◌&&◌, Option, Some, None, inl, inr, refl, sym, ap, ◌∙◌, subst}, lemmas.Bool.{false≢true, eq-eqb, and_parts, and_from}}, specs.{Prelude.{is_some, unwrap_or}, FinMap.{get, entries}}}
 use Rattle.lab_table.specs.{Row.{Row}, Table.{State}}
 use Rattle.lab_history.specs.{Version.{viewed}, declared.operation.{Op.{Op}, VersionName.{VersionName, TheVariants.{Initial, Of}}}}
-use Rattle.lab_deps.{specs.{Broken.{choose, is_version, is_of, own_changes, is_missed}, FirstOf.{IsLess, IsLeastRow, HasPassing, first_value, first_entry, least}}, proofs.FirstOf.{first_like, either_least, value_least}}
+use Rattle.lab_deps.{specs.{Broken.{choose, is_version, is_of, own_changes, is_missed}, FirstOf.{IsLess, IsLeastRow, HasPassing, first_value, first_entry, least}}, proofs.FirstOf.{first_like, least_where, value_least}}
 
 changes_own : (n : ℕ) (v u : VersionName) → own_changes n v u ≡ true → is_of n v ≡ true
 changes_own n Initial u t = absurd (false≢true t)
@@ -22,6 +22,9 @@ module _ (n k : ℕ) (before op : Op) where
 
   abbrev Written : Row → Type 0
   Written = HasPassing (λ row state. missed row) before.writes
+
+  abbrev Seen : Row → Type 0
+  Seen = HasPassing (λ row v. missed row) before.view
 
   -- what is tested of a row that the one before didn't write
   unwritten : (row : Row) → get before.writes row ≡ None → missed row ≡ own_changes n (viewed before row) (viewed op row)
@@ -45,13 +48,8 @@ module _ (n k : ℕ) (before op : Op) where
   -- the least of the rows that it misses was written or seen
   pub missed_least : IsLeastRow (λ row. missed row ≡ true) (least (first_entry missed (entries before.writes)) (first_entry missed (entries before.view)))
   missed_least =
-      first_like IsLess (λ row. Written row ⊎ Seen row) (λ row. missed row ≡ true) (least (first_entry missed (entries before.writes)) (first_entry missed (entries before.view)))
-      (λ row w. elim w [ inl u ↦ u.2 | inr v ↦ v.2 ]) (λ row t no. let own = own_seen row (missed_own row t (λ w. no (inl w))) in no (inr (own.0, own.1, t)))
-      (either_least Written Seen (first_entry missed (entries before.writes)) (first_entry missed (entries before.view)) (value_least (λ row state. missed row) before.writes) (value_least (λ row v. missed row) before.view))
-    where
-      abbrev Seen : Row → Type 0
-      Seen = HasPassing (λ row v. missed row) before.view
-
+      least_where Written Seen (λ row. missed row ≡ true) (first_entry missed (entries before.writes)) (first_entry missed (entries before.view)) (λ row w. elim w [ inl u ↦ u.2 | inr v ↦ v.2 ])
+      (λ row t no. let own = own_seen row (missed_own row t (λ w. no (inl w))) in no (inr (own.0, own.1, t))) (value_least (λ row state. missed row) before.writes) (value_least (λ row v. missed row) before.view)
   module _ (none : first_entry missed (entries before.writes) ≡ None) where
     none_written : (row : Row) → Written row → ⊥
     none_written = subst (IsLeastRow Written) none (value_least (λ row state. missed row) before.writes)

@@ -4,7 +4,7 @@ use Rattle.std.specs.{Prelude.{is_none, is_some}, Bool.{then_some}, FinMap.{get,
 use Rattle.lab_table.{specs.{Row.{Row, row_eq, row_test, rows_tested}, Table.{State}, Statement.{is_read_only, inserted, rewritten}}, proofs.{Maps.{same_row, row_eq_self}, OneRow.{reader_inserts_none}, Tests.{some_of}}}
 use Rattle.lab_history.specs.{History.{History}, Version.{viewed, new_state, state_of}, declared.operation.Op.{Op}}
 use Rattle.lab_deps.specs.{Broken.{leaves, result_differs, change_differs, choose, insert_differs, writes_other, is_added_otherwise}, FirstOf.{IsLess, IsLeastRow, HasPassing, first_value, first_entry, least}}
-use Rattle.lab_deps.proofs.{FirstOf.{first_like, either_least, only_least, value_least}, BrokenRows.{none_is}}
+use Rattle.lab_deps.proofs.{FirstOf.{first_like, least_where, only_least, value_least}, BrokenRows.{none_is}}
 
 module _ (h : History) (op : Op) where
   abbrev other : Row → Bool
@@ -29,52 +29,46 @@ module _ (h : History) (op : Op) where
       is : (row : Row) → other row ≡ is_some (new_state op row)
       is row = tested row None true (reader_inserts_none op.statement reads) reads
 
+  abbrev Elsewhere : Row → Row → Type 0
+  Elsewhere added = HasPassing (λ row state. not (row_test row added)) op.writes
+
   -- an insert writes the row that it adds, which wasn't there, and no other
   pub insert_least : (added : Row × ℤ) → inserted op.statement ≡ Some added
       → IsLeastRow (λ row. other row ≡ true) (least (first_entry (λ row. not (row_test row added.0)) (entries op.writes)) (then_some (is_added_otherwise h op added.1 added.0) added.0))
   insert_least added e =
-      first_like IsLess (λ row. Elsewhere row ⊎ ((row ≡ added.0) × (own added.0 ≡ true))) (λ row. other row ≡ true)
-      (least (first_entry (λ row. not (row_test row added.0)) (entries op.writes)) (then_some (own added.0) added.0)) found (λ row t no. back row t no (row_eq row added.0) refl)
-      (either_least Elsewhere (λ row. (row ≡ added.0) × (own added.0 ≡ true)) (first_entry (λ row. not (row_test row added.0)) (entries op.writes)) (then_some (own added.0) added.0)
-      (value_least (λ row state. not (row_test row added.0)) op.writes) (only_least own added.0))
+      least_where (Elsewhere added.0) (λ row. (row ≡ added.0) × (is_added_otherwise h op added.1 added.0 ≡ true)) (λ row. other row ≡ true) (first_entry (λ row. not (row_test row added.0)) (entries op.writes))
+      (then_some (is_added_otherwise h op added.1 added.0) added.0) found (λ row t no. back row t no (row_eq row added.0) refl)
+      (value_least (λ row state. not (row_test row added.0)) op.writes) (only_least (is_added_otherwise h op added.1) added.0)
     where
-      abbrev own : Row → Bool
-      own = is_added_otherwise h op added.1
-
-      abbrev Elsewhere : Row → Type 0
-      Elsewhere = HasPassing (λ row state. not (row_test row added.0)) op.writes
-
-      is : (row : Row) (b : Bool) → row_eq row added.0 ≡ b → other row ≡ choose b (own row) (is_some (new_state op row))
-      is row b same = tested row (Some added) (is_read_only op.statement) e refl ∙ ap (λ b. choose b (own row) (is_some (new_state op row))) same
+      is : (row : Row) (b : Bool) → row_eq row added.0 ≡ b → other row ≡ choose b (is_added_otherwise h op added.1 row) (is_some (new_state op row))
+      is row b same = tested row (Some added) (is_read_only op.statement) e refl ∙ ap (λ b. choose b (is_added_otherwise h op added.1 row) (is_some (new_state op row))) same
 
       not_same : (b : Bool) → not b ≡ true → b ≡ false
       not_same true t = absurd (false≢true t)
       not_same false t = refl
 
-      found : (row : Row) → Elsewhere row ⊎ ((row ≡ added.0) × (own added.0 ≡ true)) → other row ≡ true
+      found : (row : Row) → Elsewhere added.0 row ⊎ ((row ≡ added.0) × (is_added_otherwise h op added.1 added.0 ≡ true)) → other row ≡ true
       found row (inl w) = is row false (sym (rows_tested row added.0) ∙ not_same (row_test row added.0) w.2) ∙ ap is_some w.1
       found row (inr w) = subst (λ r. other r ≡ true) (sym w.0) (is added.0 true (row_eq_self added.0) ∙ w.1)
 
-      back : (row : Row) → other row ≡ true → (Elsewhere row ⊎ ((row ≡ added.0) × (own added.0 ≡ true)) → ⊥) → (b : Bool) → row_eq row added.0 ≡ b → ⊥
-      back row t no true same = let at = same_row row added.0 same in no (inr (at, subst (λ r. own r ≡ true) at (sym (is row true same) ∙ t)))
+      back : (row : Row) → other row ≡ true → (Elsewhere added.0 row ⊎ ((row ≡ added.0) × (is_added_otherwise h op added.1 added.0 ≡ true)) → ⊥) → (b : Bool) → row_eq row added.0 ≡ b → ⊥
+      back row t no true same = let at = same_row row added.0 same in no (inr (at, subst (λ r. is_added_otherwise h op added.1 r ≡ true) at (sym (is row true same) ∙ t)))
       back row t no false apart = let state = some_of (new_state op row) (sym (is row false apart) ∙ t) in no (inl (state.0, state.1, ap not (rows_tested row added.0 ∙ apart)))
+
+  abbrev Otherwise : Row → Type 0
+  Otherwise = HasPassing (λ row value. result_differs (rewritten op.statement value) (new_state op row)) op.rows
+
+  abbrev Unlisted : Row → Type 0
+  Unlisted = HasPassing (λ row state. is_none (get op.rows row)) op.writes
 
   -- another statement changes each row that it lists, and no other
   pub change_least : inserted op.statement ≡ None → is_read_only op.statement ≡ false
       → IsLeastRow (λ row. other row ≡ true) (least (first_value (λ row value. result_differs (rewritten op.statement value) (new_state op row)) (entries op.rows)) (first_entry (λ row. is_none (get op.rows row)) (entries op.writes)))
   change_least e reads =
-      first_like IsLess (λ row. Otherwise row ⊎ Unlisted row) (λ row. other row ≡ true)
-      (least (first_value (λ row value. result_differs (rewritten op.statement value) (new_state op row)) (entries op.rows)) (first_entry (λ row. is_none (get op.rows row)) (entries op.writes)))
-      found (λ row t no. back row t no (get op.rows row) refl)
-      (either_least Otherwise Unlisted (first_value (λ row value. result_differs (rewritten op.statement value) (new_state op row)) (entries op.rows)) (first_entry (λ row. is_none (get op.rows row)) (entries op.writes))
-      (value_least (λ row value. result_differs (rewritten op.statement value) (new_state op row)) op.rows) (value_least (λ row state. is_none (get op.rows row)) op.writes))
+      least_where Otherwise Unlisted (λ row. other row ≡ true) (first_value (λ row value. result_differs (rewritten op.statement value) (new_state op row)) (entries op.rows))
+      (first_entry (λ row. is_none (get op.rows row)) (entries op.writes)) found (λ row t no. back row t no (get op.rows row) refl)
+      (value_least (λ row value. result_differs (rewritten op.statement value) (new_state op row)) op.rows) (value_least (λ row state. is_none (get op.rows row)) op.writes)
     where
-      abbrev Otherwise : Row → Type 0
-      Otherwise = HasPassing (λ row value. result_differs (rewritten op.statement value) (new_state op row)) op.rows
-
-      abbrev Unlisted : Row → Type 0
-      Unlisted = HasPassing (λ row state. is_none (get op.rows row)) op.writes
-
       is : (row : Row) (listing : State) → get op.rows row ≡ listing → other row ≡ change_differs op.statement listing (new_state op row)
       is row listing at = tested row None false e reads ∙ ap (λ o. change_differs op.statement o (new_state op row)) at
 

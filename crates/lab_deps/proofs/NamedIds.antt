@@ -5,7 +5,7 @@ use Rattle.std.proofs.lemmas.{Bool.{false≢true, or_cases, Decides.{Decides-int
 use Rattle.std.proofs.Math.Bool.{or-false}
 use Rattle.lab_table.{specs.{Row.{Row, row_cmp, id_of, numbered, row_made}, NamedRow.{has_number}, Statement.{may_match}}, proofs.Tests.{mapped_some}}
 use Rattle.lab_history.specs.{History.{History}, declared.operation.Op.{Op}}
-use Rattle.lab_deps.{specs.{Broken.{is_unlisted, IsUnlisted}, FirstOf.{IsLess, IsLeastRow, least}}, proofs.{FirstOf.{first_like, either_least, not_itself}, RuledOut.{may_be_unlisted}, OwnTable.{own_table}}}
+use Rattle.lab_deps.{specs.{Broken.{is_unlisted, IsUnlisted}, FirstOf.{IsLess, IsLeastRow, least}}, proofs.{FirstOf.{first_like, least_where, not_itself}, RuledOut.{may_be_unlisted}, OwnTable.{own_table}}}
 
 module _ (h : History) (op : Op) where
   -- a row is left out that has this number
@@ -54,8 +54,7 @@ module _ (h : History) (op : Op) where
   -- among one number more
   pub one_more : (numbers : List ℤ) (number : ℤ) (found other : Option Row) → IsLeastRow (Within numbers) found → IsLeastRow (With number) other → IsLeastRow (Within (numbers ++ number ∷ [])) (least found other)
   one_more numbers number found other l m =
-      first_like IsLess (λ row. Within numbers row ⊎ With number row) (Within (numbers ++ number ∷ [])) (least found other) to (λ row w no. back row w no (or_cases _ _ (sym (split row) ∙ w.1)))
-      (either_least (Within numbers) (With number) found other l m)
+      least_where (Within numbers) (With number) (Within (numbers ++ number ∷ [])) found other to (λ row w no. back row w no (or_cases _ _ (sym (split row) ∙ w.1))) l m
     where
       split : (row : Row) → has_number (numbers ++ number ∷ []) row ≡ (has_number numbers row || has_number (number ∷ []) row)
       split row = list_any-append (int_eq (id_of row)) numbers (number ∷ [])

@@ -129,10 +129,10 @@ fn first_at_step(history: &History, kinds: &[Option<OpFault>], step: Step) -> Op
     ensures { IsFirstOf (ComesFirst history.now) (IsSoughtAt history.now kinds.now step.txn step.number) result }
 {
     for (place, kind) in kinds.iter().enumerate() {
-        if let Some(kind) = kind {
-            if let Some(row) = broken_row(history, *kind, step) {
+        if let Some(kind) = *kind {
+            if let Some(row) = broken_row(history, kind, step) {
                 return Some(Found {
-                    kind: *kind,
+                    kind,
                     place,
                     txn: step.txn,
                     op: step.number,
