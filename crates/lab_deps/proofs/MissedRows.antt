@@ -2,7 +2,7 @@
 use Rattle.std.{proofs.{Common.{◌≡◌, ℕ, ◌==◌, Bool, true, false, not, ◌&&◌, Option, Some, None, inl, inr, refl, sym, ap, ◌∙◌, subst}, lemmas.Bool.{false≢true, eq-eqb, and_parts, and_from}}, specs.{Prelude.{is_some, unwrap_or}, FinMap.{get, entries}}}
 use Rattle.lab_table.specs.{Row.{Row}, Table.{State}}
 use Rattle.lab_history.specs.{Version.{viewed}, declared.operation.{Op.{Op}, VersionName.{VersionName, TheVariants.{Initial, Of}}}}
-use Rattle.lab_deps.{specs.{Broken.{choose, is_version, is_of, own_changes, is_missed}, FirstOf.{IsLess, IsLeastRow, HasPassing, first_value, first_entry, least}}, proofs.FirstOf.{first_like, least_where, value_least}}
+use Rattle.lab_deps.{specs.{Broken.{choose, is_version, is_of, own_changes, is_missed, is_own_missed}, FirstOf.{IsLess, IsLeastRow, HasPassing, first_value, first_entry, least}}, proofs.FirstOf.{first_like, least_where, value_least}}
 
 changes_own : (n : ℕ) (v u : VersionName) → own_changes n v u ≡ true → is_of n v ≡ true
 changes_own n Initial u t = absurd (false≢true t)
@@ -55,13 +55,13 @@ module _ (n k : ℕ) (before op : Op) where
     none_written = subst (IsLeastRow Written) none (value_least (λ row state. missed row) before.writes)
 
     -- where it misses none that was written, it is enough to look at versions of its own
-    pub own_least : IsLeastRow (λ row. missed row ≡ true) (first_value (λ row v. is_of n v && (own_changes n v (viewed op row) && missed row)) (entries before.view))
+    pub own_least : IsLeastRow (λ row. missed row ≡ true) (first_value (is_own_missed n k before op) (entries before.view))
     own_least =
-        first_like IsLess (HasPassing (λ row v. is_of n v && (own_changes n v (viewed op row) && missed row)) before.view) (λ row. missed row ≡ true)
-        (first_value (λ row v. is_of n v && (own_changes n v (viewed op row) && missed row)) (entries before.view))
+        first_like IsLess (HasPassing (is_own_missed n k before op) before.view) (λ row. missed row ≡ true)
+        (first_value (is_own_missed n k before op) (entries before.view))
         (λ row w. (and_parts (own_changes n w.0 (viewed op row)) (missed row) (and_parts (is_of n w.0) _ w.2).1).1)
         (λ row t no. let own = own_seen row (missed_own row t (none_written row)) in no (own.0, own.1, and_from _ _ (changes_own n own.0 (viewed op row) own.2) (and_from _ _ own.2 t)))
-        (value_least (λ row v. is_of n v && (own_changes n v (viewed op row) && missed row)) before.view)
+        (value_least (is_own_missed n k before op) before.view)
 
     -- and it misses nothing where it sees what that one saw
     pub none_again : before.view ≡ op.view → IsLeastRow (λ row. missed row ≡ true) None

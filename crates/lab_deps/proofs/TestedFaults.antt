@@ -216,14 +216,14 @@ module _ (h : History) where
         denied (parts.Row row_kind.EndDiffers row) s = ends row s
 
     -- and where it isn't a read of what was never committed, whether they do or not
-    pub low_first : (found : Option Found) → IsFirstOf (ComesFirst h) (IsSought h KINDS) found → is_behind_ends (option_map as_fault found) ≡ false → IsFirstOf (Precedes h) (Stands h) (option_map as_fault found)
+    pub low_first : (found : Option Found) → IsFirstOf (ComesFirst h) (IsSought h KINDS) found → is_behind_ends found ≡ false → IsFirstOf (Precedes h) (Stands h) (option_map as_fault found)
     low_first None none low = absurd (false≢true (sym low))
     low_first (Some f) first low = found_first h 9 All f first (λ high. let less = below_seven (op_place f.kind) (sym (reads_at f) ∙ low) in absurd (omega (arith, high, less)))
 
     -- else the first is a row that ends otherwise
-    pub end_first : (found : Option Found) → IsFirstOf (ComesFirst h) (IsSought h KINDS) found → is_behind_ends (option_map as_fault found) ≡ true → (row : Row) → IsLeastRow (EndsOther h) (Some row) → IsFirst h (EndDiffers row)
+    pub end_first : (found : Option Found) → IsFirstOf (ComesFirst h) (IsSought h KINDS) found → is_behind_ends found ≡ true → (row : Row) → IsLeastRow (EndsOther h) (Some row) → IsFirst h (EndDiffers row)
     end_first found first high row least = row_first h 9 All row_kind.EndDiffers row (omega arith) least.0 least.1 (none_low found first high)
       where
-        none_low : (found : Option Found) → IsFirstOf (ComesFirst h) (IsSought h KINDS) found → is_behind_ends (option_map as_fault found) ≡ true → (kind : OpFault) (n k : ℕ) (r : Row) → op_place kind < 6 → IsTestedAt h kind n k r → ⊥
+        none_low : (found : Option Found) → IsFirstOf (ComesFirst h) (IsSought h KINDS) found → is_behind_ends found ≡ true → (kind : OpFault) (n k : ℕ) (r : Row) → op_place kind < 6 → IsTestedAt h kind n k r → ⊥
         none_low None none high kind n k r low t = none (found_at kind n k r) (at_place kind, t)
         none_low (Some f) first high kind n k r low t = let up = seven_up (op_place f.kind) (sym (reads_at f) ∙ high) in none_less h 9 All f first kind n k r (omega (arith, low, up)) t

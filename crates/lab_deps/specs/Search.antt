@@ -10,9 +10,9 @@ use Rattle.lab_history.specs.declared.transaction.Txn.{Txn}
 use Rattle.lab_deps.specs.Soundness.{IsCommittedOp, HasOp}
 use Rattle.lab_deps.specs.Broken.{breaks_at, is_broken}
 use Rattle.lab_deps.specs.FaultOrder.{place_among, ComesBefore}
+use Rattle.lab_deps.specs.FaultKinds.{op_fault}
 use Rattle.lab_deps.specs.Refusal.{is_uncommitted_read}
 use Rattle.lab_deps.specs.declared.broken_rows.Step.{Step}
-use Rattle.lab_deps.specs.declared.fault.LocalFault.{LocalFault}
 use Rattle.lab_deps.specs.declared.kind.OpFault.{OpFault}
 use Rattle.lab_deps.specs.declared.search.Found.{Found}
 
@@ -42,9 +42,9 @@ abbrev pub IsSoughtAt : History → List (Option OpFault) → ℕ → ℕ → Fo
 IsSoughtAt h kinds n k f = IsSought h kinds f × (f.txn ≡ n) × (f.op ≡ k)
 
 -- whether what is found, if anything is, comes behind rows that end otherwise: a read of what was never committed
-abbrev pub is_behind_ends : Option LocalFault → Bool
+abbrev pub is_behind_ends : Option Found → Bool
 is_behind_ends None = true
-is_behind_ends (Some fault) = is_uncommitted_read fault
+is_behind_ends (Some f) = is_uncommitted_read (op_fault f.kind f.txn f.op f.row)
 
 -- a transaction that is found by its number, of no more operations than the limit
 pub record IsTxnOf (h : History) (t : Txn) : Type 0 where

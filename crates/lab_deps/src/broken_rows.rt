@@ -31,9 +31,9 @@ pub struct Step<'a> {
 }
 
 /// The least row at which the test of a kind is true of an operation.
-pub fn broken_row(history: &History, kind: OpFault, step: Step) -> Option<RowName>
-    requires { IsStep history.now step }
-    ensures { IsLeastRow (λ row. test.is_broken kind history.now step.txn step.number step.op.now row ≡ true) result }
+pub fn broken_row(history: &History, kind: OpFault, step: &Step) -> Option<RowName>
+    requires { IsStep history.now step.now }
+    ensures { IsLeastRow (λ row. test.is_broken kind history.now step.now.txn step.now.number step.now.op.now row ≡ true) result }
 {
     match kind {
         OpFault::OwnWriteMissed => missed_row(step),
@@ -44,9 +44,9 @@ pub fn broken_row(history: &History, kind: OpFault, step: Step) -> Option<RowNam
 }
 
 /// The same of a kind whose test is of one version that is seen.
-fn seen_row(history: &History, kind: OpFault, step: Step) -> Option<RowName>
-    requires { IsStep history.now step }
-    ensures { IsLeastRow (λ row. test.breaks_at kind history.now step.txn step.number row (version.viewed step.op.now row) ≡ true) result }
+fn seen_row(history: &History, kind: OpFault, step: &Step) -> Option<RowName>
+    requires { IsStep history.now step.now }
+    ensures { IsLeastRow (λ row. test.breaks_at kind history.now step.now.txn step.now.number row (version.viewed step.now.op.now row) ≡ true) result }
 {
     if step.fine {
         return None;

@@ -83,21 +83,24 @@ fn first_in_ops(
     let mut hints = Hints::new();
     for (index, op) in ops.iter().enumerate() {
         let number = index as u32 + 1;
-        let left = kinds_before(kinds, found);
+        let left = kinds_before(kinds, &found);
         let before = op_of(ops, number - 1);
         let again = sees_again(fine, before, op);
         fine = sees_fine(history, txn, number, known, again, op, &mut hints);
         known = known_of(fine, op);
         let step = Step { txn, number, op, before, again, fine };
-        found = first_at_step(history, left, step).or(found);
+        found = first_at_step(history, left, &step).or(found);
     }
     found
 }
 
 /// The kinds that come before what is found, if anything is.
-fn kinds_before(kinds: &[Option<OpFault>], found: Option<Found>) -> &[Option<OpFault>]
-    requires { IfSome found (λ f. f.place ≤ length kinds.now) }
-    ensures { result.now ≡ take (limit kinds.now found) kinds.now }
+fn kinds_before<'k>(
+    kinds: &'k [Option<OpFault>],
+    found: &Option<Found>,
+) -> &'k [Option<OpFault>]
+    requires { IfSome found.now (λ f. f.place ≤ length kinds.now) }
+    ensures { result.now ≡ take (limit kinds.now found.now) kinds.now }
 {
     match found {
         None => kinds,
@@ -107,7 +110,7 @@ fn kinds_before(kinds: &[Option<OpFault>], found: Option<Found>) -> &[Option<OpF
 
 /// Whether an operation sees the same as the one before it, where there is one and what that sees is fine.
 fn sees_again(fine: bool, before: Option<&Op>, op: &Op) -> bool
-    ensures { result ≡ true → (fine ≡ true) × ((b : Before) × (option_copied before ≡ Some b) × (b.view ≡ op.now.view)) }
+    ensures { result ≡ true → (fine ≡ true) × ((b : Before) × (option_copied before.entry ≡ Some b) × (b.view ≡ op.now.view)) }
 {
     match before {
         None => false,
@@ -124,9 +127,9 @@ fn known_of(fine: bool, op: &Op) -> &[(RowName, VersionName)]
 }
 
 /// The first fault at an operation.
-fn first_at_step(history: &History, kinds: &[Option<OpFault>], step: Step) -> Option<Found>
-    requires { IsStep history.now step }
-    ensures { IsFirstOf (ComesFirst history.now) (IsSoughtAt history.now kinds.now step.txn step.number) result }
+fn first_at_step(history: &History, kinds: &[Option<OpFault>], step: &Step) -> Option<Found>
+    requires { IsStep history.now step.now }
+    ensures { IsFirstOf (ComesFirst history.now) (IsSoughtAt history.now kinds.now step.now.txn step.now.number) result }
 {
     for (place, kind) in kinds.iter().enumerate() {
         if let Some(kind) = *kind {

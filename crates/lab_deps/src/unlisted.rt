@@ -75,6 +75,7 @@ fn row_number(number: Value) -> Option<u32>
 }
 
 /// Where the next rows are looked for first.
+#[derive(Clone, Copy)]
 struct Near {
     /// Among those that are listed.
     listed: usize,

@@ -9,7 +9,7 @@ returns-then-fine c = λ row t. false≢true (sym (c.requires.fine c.if-fine.tru
 pub returns-else-fine : goal.returns-else-fine
 returns-else-fine c =
     let h = c.args.history.now in
-    let s = c.args.step in
+    let s = c.args.step.now in
     subst (IsLeastRow (λ row. breaks_at c.args.kind h s.txn s.number row (viewed s.op.now row) ≡ true))
     (sym (c.first_entry.ensures (breaks_at c.args.kind h s.txn s.number) (λ state row seen b post. search rules) ∙ ap (first_value (breaks_at c.args.kind h s.txn s.number)) c.entries.ensures))
     (seen_least h s.txn s.number s.op.now c.args.kind)

@@ -3,8 +3,8 @@ use Rattle.lab_deps.specs.{FaultOrder.{Precedes}, FirstOf.{IsFirstOf, IsLeastRow
 use Rattle.lab_deps.proofs.TestedFaults.{dangling_first}
 use Rattle.lab_deps.proofs.check.first_fault.Goals as goal
 
-pub first_installed-requires : goal.first_installed-requires
-first_installed-requires c = subst (IsLeastRow (InstallsOther c.args.history.now)) c.in-None.is c.install_row.ensures
+pub first_installed-requires-clause-placed : goal.first_installed-requires-clause-placed
+first_installed-requires-clause-placed c = subst (IsLeastRow (InstallsOther c.args.history.now)) c.in-None.is c.install_row.ensures
 
 pub returns-in-Some : goal.returns-in-Some
 returns-in-Some c =

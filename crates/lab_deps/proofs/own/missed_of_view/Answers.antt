@@ -1,6 +1,5 @@
-use Rattle.std.{proofs.Common.{◌≡◌, true, rules, sym, ap, ◌∙◌, subst, ◌&&◌}, specs.FinMap.{entries}}
-use Rattle.lab_history.specs.Version.{viewed}
-use Rattle.lab_deps.{specs.{Broken.{is_of, own_changes, is_missed}, FirstOf.{IsLeastRow, first_value}}, proofs.MissedRows.{own_least}}
+use Rattle.std.{proofs.Common.{◌≡◌, true, rules, sym, ap, ◌∙◌, subst}, specs.FinMap.{entries}}
+use Rattle.lab_deps.{specs.{Broken.{is_missed, is_own_missed}, FirstOf.{IsLeastRow, first_value}}, proofs.MissedRows.{own_least}}
 use Rattle.lab_deps.proofs.own.missed_of_view.Goals as goal
 
 pub returns : goal.returns
@@ -8,6 +7,6 @@ returns c =
     let n = c.args.txn in
     let before = c.args.before.now in
     let op = c.args.op.now in
-    let test = λ row v. is_of n v && (own_changes n v (viewed op row) && is_missed n c.args.number before op row) in
+    let test = is_own_missed n c.args.number before op in
     subst (IsLeastRow (λ row. is_missed n c.args.number before op row ≡ true)) (sym (c.first_entry.ensures test (λ state row v b post. search rules) ∙ ap (first_value test) c.entries.ensures))
     (own_least n c.args.number before op c.requires)

@@ -6,7 +6,7 @@ use Rattle.lab_deps.proofs.search.first_at_step.Goals as goal
 pub returns-in-Some : goal.returns-in-Some
 returns-in-Some c =
     let h = c.args.history.now in
-    let s = c.args.step in
+    let s = c.args.step.now in
     let kind = c.in-Some.kind.now in
     first_here h c.args.kinds.now s.txn s.number s.op.now c.requires.there c.loop-place.place kind c.in-Some-broken_row.row c.loop-place.invariant ?
     (subst (IsLeastRow (λ row. is_broken kind h s.txn s.number s.op.now row ≡ true)) c.in-Some-broken_row.is c.broken_row.ensures)
@@ -15,4 +15,4 @@ pub loop-place-preserved : goal.loop-place-preserved
 loop-place-preserved c = ?
 
 pub returns : goal.returns
-returns c = none_here c.args.history.now c.args.kinds.now c.args.step.txn c.args.step.number c.args.step.op.now c.requires.there ?
+returns c = none_here c.args.history.now c.args.kinds.now c.args.step.now.txn c.args.step.now.number c.args.step.now.op.now c.requires.there ?
