@@ -50,6 +50,7 @@ module _ (n k : ℕ) (before op : Op) where
   missed_least =
       least_where Written Seen (λ row. missed row ≡ true) (first_entry missed (entries before.writes)) (first_entry missed (entries before.view)) (λ row w. elim w [ inl u ↦ u.2 | inr v ↦ v.2 ])
       (λ row t no. let own = own_seen row (missed_own row t (λ w. no (inl w))) in no (inr (own.0, own.1, t))) (value_least (λ row state. missed row) before.writes) (value_least (λ row v. missed row) before.view)
+
   module _ (none : first_entry missed (entries before.writes) ≡ None) where
     none_written : (row : Row) → Written row → ⊥
     none_written = subst (IsLeastRow Written) none (value_least (λ row state. missed row) before.writes)

@@ -35,14 +35,11 @@ fn seen_otherwise(history: &History, op: &Op) -> Option<RowName>
 {
     let mut near = 0;
     let mut written = 0;
-    first_entry(
-        op.view.entries(),
-        |row, seen| {
-            let state = state_near(history, row, seen, &mut written);
-            let due = op.statement.listed(row, state);
-            !is_same(listed_near(op, row, &mut near), due)
-        },
-    )
+    first_entry(op.view.entries(), |row, seen| {
+        let state = state_near(history, row, seen, &mut written);
+        let due = op.statement.listed(row, state);
+        !is_same(listed_near(op, row, &mut near), due)
+    })
 }
 
 /// The first row that an operation lists, doesn't see, and that isn't due by the initial table.
@@ -51,12 +48,9 @@ fn extra_row(history: &History, op: &Op) -> Option<RowName>
 {
     let mut near = 0;
     let mut seen = 0;
-    first_entry(
-        op.rows.entries(),
-        |row, value| {
-            let state = initial_near(history, row, &mut near);
-            let due = op.statement.listed(row, state);
-            !is_same(Some(value), due) && seen_near(op, row, &mut seen).is_none()
-        },
-    )
+    first_entry(op.rows.entries(), |row, value| {
+        let state = initial_near(history, row, &mut near);
+        let due = op.statement.listed(row, state);
+        !is_same(Some(value), due) && seen_near(op, row, &mut seen).is_none()
+    })
 }

@@ -45,13 +45,10 @@ fn changed_otherwise(op: &Op) -> Option<RowName>
     ensures { result ≡ first_value (λ row value. test.result_differs (plain.rewritten op.now.statement value) (version.new_state op.now row)) (map.entries op.now.rows) }
 {
     let mut near = 0;
-    first_entry(
-        op.rows.entries(),
-        |row, value| {
-            let new = written_near(op, row, &mut near);
-            result_differs(op.statement.rewritten(value), new)
-        },
-    )
+    first_entry(op.rows.entries(), |row, value| {
+        let new = written_near(op, row, &mut near);
+        result_differs(op.statement.rewritten(value), new)
+    })
 }
 
 /// The first row that an operation writes and doesn't list.
@@ -59,8 +56,5 @@ fn changed_unlisted(op: &Op) -> Option<RowName>
     ensures { result ≡ first_entry (λ row. is_none (map.get op.now.rows row)) (map.entries op.now.writes) }
 {
     let mut near = 0;
-    first_written(
-        &op.writes,
-        |row| listed_near(op, row, &mut near).is_none(),
-    )
+    first_written(&op.writes, |row| listed_near(op, row, &mut near).is_none())
 }

@@ -88,17 +88,21 @@ fn first_in_ops(
         let again = sees_again(fine, before, op);
         fine = sees_fine(history, txn, number, known, again, op, &mut hints);
         known = known_of(fine, op);
-        let step = Step { txn, number, op, before, again, fine };
+        let step = Step {
+            txn,
+            number,
+            op,
+            before,
+            again,
+            fine,
+        };
         found = first_at_step(history, left, &step).or(found);
     }
     found
 }
 
 /// The kinds that come before what is found, if anything is.
-fn kinds_before<'k>(
-    kinds: &'k [Option<OpFault>],
-    found: &Option<Found>,
-) -> &'k [Option<OpFault>]
+fn kinds_before<'k>(kinds: &'k [Option<OpFault>], found: &Option<Found>) -> &'k [Option<OpFault>]
     requires { IfSome found.now (λ f. f.place ≤ length kinds.now) }
     ensures { result.now ≡ take (limit kinds.now found.now) kinds.now }
 {

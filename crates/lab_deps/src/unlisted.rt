@@ -34,10 +34,7 @@ fn first_unlisted(history: &History, op: &Op) -> Option<RowName>
 {
     let mut near = Near::new();
     let entries = within(&op.statement, history.initial().rows());
-    first_entry(
-        entries,
-        |row, value| is_unlisted(op, row, value, &mut near),
-    )
+    first_entry(entries, |row, value| is_unlisted(op, row, value, &mut near))
 }
 
 /// The least of the rows with these numbers that is so.
@@ -53,12 +50,7 @@ fn unlisted_among(history: &History, op: &Op, numbers: &[Value]) -> Option<RowNa
 }
 
 /// The row with this number that is so. It is one of the statement's table, as no other matches.
-fn unlisted_numbered(
-    history: &History,
-    op: &Op,
-    number: Value,
-    near: &mut Near,
-) -> Option<RowName>
+fn unlisted_numbered(history: &History, op: &Op, number: Value, near: &mut Near) -> Option<RowName>
     ensures { IsLeastRow (λ row. test.IsUnlisted history.now op.now row × (int_eq (id_of row) number ≡ true)) result }
 {
     let id = row_number(number)?;
