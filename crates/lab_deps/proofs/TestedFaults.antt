@@ -82,7 +82,7 @@ module _ (h : History) where
 
   -- an operation's place comes before what a later one's of its transaction does
   earlier_too : (at : ℕ × ℕ × Row) (n j k : ℕ) (row : Row) → j ≤ k → ComesBefore h (n, k, row) at → ComesBefore h (n, j, row) at
-  earlier_too at n j k row le (inl less) = inl less
+  earlier_too (m, i, other) n j k row le (inl less) = inl less
   earlier_too (m, i, other) n j k row le (inr (same, inl less)) = inr (same, inl (omega (arith, le, less)))
   earlier_too (m, i, other) n j k row le (inr (same, inr (alike, less))) =
       let cases : (j < i) ⊎ (j ≡ i) = grind arith in
