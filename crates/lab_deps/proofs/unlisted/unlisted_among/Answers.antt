@@ -17,4 +17,5 @@ loop-number-preserved c =
     (one_more h op (take i numbers) number c.loop-number.found c.unlisted_numbered.result c.loop-number.invariant c.unlisted_numbered.ensures))
 
 pub returns : goal.returns
-returns c = ?
+returns c =
+    subst (λ ns. IsLeastRow (Within c.args.history.now c.args.op.now ns) c.loop-number.found) (take_all c.loop-number.number-index c.args.numbers.now c.loop-number-test.false) c.loop-number.invariant
