@@ -155,14 +155,8 @@ module _ (h : History) (kinds : List (Option OpFault)) where
       let within = place_within h.txns f.txn a.0 a.1 in
       no (s, inl (omega (arith, within, all)))) first
 
-  module _ (n k : ℕ) (op : Op) (there : IsCommittedOp h n k op) where
-    -- what is sought at an operation is true of it
-    tested_here : (f : Found) → IsSoughtAt h kinds n k f → is_broken f.kind h n k op f.row ≡ true
-    tested_here f ((_, (other, (committed, is_op), t)), at, number) =
-        let same : other ≡ op = same_Some other op (sym is_op ∙ ap (λ m. op_at (ops_of h m) f.op) at ∙ ap (op_at (ops_of h n)) number ∙ there.1) in
-        subst (λ o. is_broken f.kind h n k o f.row ≡ true) same (subst (λ j. is_broken f.kind h n j other f.row ≡ true) number (subst (λ m. is_broken f.kind h m f.op other f.row ≡ true) at t))
-
-    -- no kind among so many first ones is true of it
+  module _ (n k : ℕ) (op : Op) where
+    -- no kind among so many first ones is true of an operation
     abbrev pub NoneBefore : ℕ → Type 0
     NoneBefore p = (q : ℕ) (kind : OpFault) (row : Row) → q < p → slice_get kinds q ≡ Some (Some kind) → is_broken kind h n k op row ≡ true → ⊥
 
@@ -171,18 +165,25 @@ module _ (h : History) (kinds : List (Option OpFault)) where
         let cases : (q < p) ⊎ (q ≡ p) = grind arith in
         elim cases [ inl earlier ↦ before q kind row earlier g t | inr here ↦ none kind row (ap (slice_get kinds) (sym here) ∙ g) t ]
 
-    pub none_here : NoneBefore (length kinds) → IsFirstOf (ComesFirst h) (IsSoughtAt h kinds n k) None
-    none_here none = λ f s. none f.place f.kind f.row (slice_get_within kinds f.place (Some f.kind) s.0.0) s.0.0 (tested_here f s)
+    module _ (there : IsCommittedOp h n k op) where
+      -- what is sought at the operation is true of it
+      tested_here : (f : Found) → IsSoughtAt h kinds n k f → is_broken f.kind h n k op f.row ≡ true
+      tested_here f ((_, (other, (committed, is_op), t)), at, number) =
+          let same : other ≡ op = same_Some other op (sym is_op ∙ ap (λ m. op_at (ops_of h m) f.op) at ∙ ap (op_at (ops_of h n)) number ∙ there.1) in
+          subst (λ o. is_broken f.kind h n k o f.row ≡ true) same (subst (λ j. is_broken f.kind h n j other f.row ≡ true) number (subst (λ m. is_broken f.kind h m f.op other f.row ≡ true) at t))
 
-    -- the first kind that is true of it, at its least row
-    pub first_here : (p : ℕ) (kind : OpFault) (row : Row) → NoneBefore p → slice_get kinds p ≡ Some (Some kind) → IsLeastRow (λ row. is_broken kind h n k op row ≡ true) (Some row)
-        → IsFirstOf (ComesFirst h) (IsSoughtAt h kinds n k) (Some (record { kind = kind; place = p; txn = n; op = k; row = row }))
-    first_here p kind row before at least = (((at, (op, there, least.0)), refl, refl), λ f s l. denied f s l)
-      where
-        denied : (f : Found) → IsSoughtAt h kinds n k f → ComesFirst h f (record { kind = kind; place = p; txn = n; op = k; row = row }) → ⊥
-        denied f s (inl less) = before f.place f.kind f.row less s.0.0 (tested_here f s)
-        denied f (s, here, number) (inr (same, inl less)) = let places = ap place here in absurd (omega (arith, places, less))
-        denied f (s, here, number) (inr (same, inr (alike, inl less))) = absurd (omega (arith, number, less))
-        denied f s (inr (same, inr (alike, inr (number, less)))) =
-            let is : f.kind ≡ kind = same_Some f.kind kind (same_Some (Some f.kind) (Some kind) (sym s.0.0 ∙ ap (slice_get kinds) same ∙ at)) in
-            least.1 f.row (subst (λ x. is_broken x h n k op f.row ≡ true) is (tested_here f s)) less
+      pub none_here : NoneBefore (length kinds) → IsFirstOf (ComesFirst h) (IsSoughtAt h kinds n k) None
+      none_here none = λ f s. none f.place f.kind f.row (slice_get_within kinds f.place (Some f.kind) s.0.0) s.0.0 (tested_here f s)
+
+      -- the first kind that is true of it, at its least row
+      pub first_here : (p : ℕ) (kind : OpFault) (row : Row) → NoneBefore p → slice_get kinds p ≡ Some (Some kind) → IsLeastRow (λ row. is_broken kind h n k op row ≡ true) (Some row)
+          → IsFirstOf (ComesFirst h) (IsSoughtAt h kinds n k) (Some (record { kind = kind; place = p; txn = n; op = k; row = row }))
+      first_here p kind row before at least = (((at, (op, there, least.0)), refl, refl), denied)
+        where
+          denied : (f : Found) → IsSoughtAt h kinds n k f → ComesFirst h f (record { kind = kind; place = p; txn = n; op = k; row = row }) → ⊥
+          denied f s (inl less) = before f.place f.kind f.row less s.0.0 (tested_here f s)
+          denied f (s, here, number) (inr (same, inl less)) = let places = ap place here in absurd (omega (arith, places, less))
+          denied f (s, here, number) (inr (same, inr (alike, inl less))) = absurd (omega (arith, number, less))
+          denied f s (inr (same, inr (alike, inr (number, less)))) =
+              let is : f.kind ≡ kind = same_Some f.kind kind (same_Some (Some f.kind) (Some kind) (sym s.0.0 ∙ ap (slice_get kinds) same ∙ at)) in
+              least.1 f.row (subst (λ x. is_broken x h n k op f.row ≡ true) is (tested_here f s)) less

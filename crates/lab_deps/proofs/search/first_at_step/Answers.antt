@@ -14,7 +14,7 @@ pub loop-place-preserved : goal.loop-place-preserved
 loop-place-preserved c =
     let h = c.args.history.now in
     let s = c.args.step.now in
-    one_more h c.args.kinds.now s.txn s.number s.op.now c.requires.there c.loop-place.place c.loop-place.invariant ?
+    one_more h c.args.kinds.now s.txn s.number s.op.now c.loop-place.place c.loop-place.invariant ?
 
 pub returns : goal.returns
 returns c = none_here c.args.history.now c.args.kinds.now c.args.step.now.txn c.args.step.now.number c.args.step.now.op.now c.requires.there
