@@ -1,10 +1,10 @@
 -- An operation that has to look at one row alone finds nothing at others.
-use Rattle.std.proofs.{Common.{◌≡◌, ◌≢◌, ℕ, true, false, ◌||◌, cond, T, Some, None, List, [], ◌∷◌, ◌++◌, refl, sym, ap, ◌∙◌, subst}, lemmas.{Bool.{false≢true, and_parts}, List.{append-nil}, Option.{none-some, same_Some}}}
+use Rattle.std.proofs.{Common.{◌≡◌, ◌≢◌, ℕ, true, false, ◌||◌, cond, T, Option, Some, None, List, [], ◌∷◌, ◌++◌, refl, sym, ap, ◌∙◌, subst}, lemmas.{Bool.{false≢true, and_parts}, List.{append-nil}, Option.{none-some, same_Some}}}
 use Rattle.std.specs.{Prelude.{is_some}, List.{flat_map, list_all}, FinMap.{find, get-entries, is_sorted, Entries.{below_all}}, Map.{lookup}, Ordering.{is_eq}}
 use Rattle.std.specs.FinMap as finite
 use Rattle.lab_table.{specs.{Row.{Row, row_cmp, row_test}, Statement.{may_match}}, proofs.{Maps.{same_row, tested_same, tests_itself}, Tests.{both}}}
 use Rattle.lab_history.specs.{History.{History}, declared.operation.Op.{Op}}
-use Rattle.lab_deps.{specs.{EdgesByRow.{Chain, looks_at, walked_in, found_at_row, found_by, rows_of}, Collected.{reading_of}}, proofs.NumberedRows.{other_row, rows_sorted}}
+use Rattle.lab_deps.{specs.{EdgesByRow.{Chain, looks_at, walked_in, found_at_row, found_by, rows_of}, Collected.{reading_of}, Meetings.{met_along}}, proofs.NumberedRows.{other_row, rows_sorted}}
 
 -- where all entries are at a row, another one has none
 pub only_listed : {A : Type 0} (row other : Row) (es : List (Row × A)) → list_all (λ e. row_test e.0 row) es ≡ true → is_some (find row_cmp other es) ≡ true → other ≡ row
@@ -67,8 +67,7 @@ module _ (h : History) (n : ℕ) (op : Op) (row : Row) (only : (other : Row) →
         | false ↦ λ other is. ap (λ fs. fs ++ flat_map (found_at_row h n op) es) (nothing e (apart_rows e.0 other)) ∙ at_no_row es is
       ] refl none
 
-  pub found_there : (chain : Chain) → lookup (row_test row) (rows_of h) ≡ Some chain → found_by h n op ≡ found_at_row h n op (row, chain)
-  found_there chain found = at_its_row (rows_of h) chain (rows_sorted h) found
-
-  pub found_nowhere : lookup (row_test row) (rows_of h) ≡ None → found_by h n op ≡ []
-  found_nowhere none = at_no_row (rows_of h) none
+  -- so what it finds is what it meets at the row
+  pub only_met : (o : Option Chain) → lookup (row_test row) (rows_of h) ≡ o → met_along h n op row o ≡ found_by h n op
+  only_met None none = sym (at_no_row (rows_of h) none)
+  only_met (Some chain) found = sym (at_its_row (rows_of h) chain (rows_sorted h) found)

@@ -8,7 +8,7 @@ use Rattle.lab_deps.proofs.{Installers.{entry_found, found_entry, installed_entr
 
 module _ (h : History) (installed : (row : Row) → Stands h (InstallOrder row) → ⊥) where
   -- an edge between neighbours is a write-dependency
-  neighbour_is_edge : (row : Row) (e : Edge) → IsNeighbour row (installers h row) e → IsEdge h e × (e.kind ≡ Write)
+  pub neighbour_is_edge : (row : Row) (e : Edge) → IsNeighbour row (installers h row) e → IsEdge h e × (e.kind ≡ Write)
   neighbour_is_edge row e r =
       subst (λ k. IsEdge h k × (k.kind ≡ Write)) r.is (
         (

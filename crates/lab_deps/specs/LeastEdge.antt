@@ -1,10 +1,9 @@
 -- The least of some edges.
-use Rattle.std.specs.Prelude.{◌≡◌, ℕ, ◌==◌, ◌&&◌, Bool, true, false, cond, Option, Some, None, List, Contains}
+use Rattle.std.specs.Prelude.{◌≡◌, ℕ, ◌==◌, ◌&&◌, Bool, true, false, cond, Option, Some, None, List, [], ◌∷◌, Contains}
 use Rattle.std.specs.Ordering.{is_lt}
 use Rattle.lab_deps.specs.EdgeOrder.{edge_cmp}
 use Rattle.lab_deps.specs.declared.edge.Edge.{Edge}
 use Rattle.lab_deps.specs.declared.edge.Kind.{Kind}
-use Rattle.lab_deps.specs.declared.edge.Kind.TheVariants.{Write, ItemRead, PredicateRead, ItemAnti, PredicateAnti}
 
 -- whether an edge leads from one transaction to another, and is of one of some kinds
 abbrev pub fits : ℕ → ℕ → (Kind → Bool) → Edge → Bool
@@ -20,12 +19,11 @@ pub record IsLeast (test : Edge → Bool) (es : List Edge) (found : Option Edge)
   pub there : (e : Edge) → found ≡ Some e → Contains es e × (test e ≡ true)
   pub least : (e : Edge) → Contains es e → test e ≡ true → comes_first e found ≡ false
 
--- whether two sets of kinds have a kind
-abbrev pub both_have : (Kind → Bool) → (Kind → Bool) → Kind → Bool
-both_have a b kind = a kind && b kind
+-- the lesser of an edge that there may be and one more, if that passes a test
+abbrev pub lesser : (Edge → Bool) → Option Edge → Edge → Option Edge
+lesser test found e = cond (test e && comes_first e found) (Some e) found
 
--- the first kind that both have
-abbrev pub least_kind : (Kind → Bool) → (Kind → Bool) → Option Kind
-least_kind a b =
-    cond (both_have a b Write) (Some Write) (cond (both_have a b ItemRead) (Some ItemRead) (cond (both_have a b PredicateRead) (Some PredicateRead)
-    (cond (both_have a b ItemAnti) (Some ItemAnti) (cond (both_have a b PredicateAnti) (Some PredicateAnti) None))))
+-- the least of an edge that there may be and those of a list that pass a test
+abbrev pub least_from : (Edge → Bool) → Option Edge → List Edge → Option Edge
+least_from test found [] = found
+least_from test found (e ∷ es) = least_from test (lesser test found e) es

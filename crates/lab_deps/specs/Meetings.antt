@@ -1,17 +1,15 @@
 -- The dependencies between two transactions, found at rows that one of them wrote.
-use Rattle.std.specs.Prelude.{◌≡◌, ℕ, suc, ◌-◌, ◌==◌, nat_lt, nat_le, Bool, ◌&&◌, true, false, Option, Some, None, is_some, List, [], ◌∷◌, ◌++◌, Contains}
+use Rattle.std.specs.Prelude.{◌≡◌, ℕ, true, Option, Some, None, is_some, List, [], ◌∷◌, ◌++◌, Contains}
+use Rattle.std.specs.List.{flat_map}
 use Rattle.std.specs.FinMap as finite
-use Rattle.lab_table.specs.Row.{Row}
-use Rattle.lab_table.specs.Statement.{matches, may_match}
-use Rattle.lab_table.specs.declared.statement.Statement.{Statement}
+use Rattle.std.specs.Map.{lookup}
+use Rattle.lab_table.specs.Row.{Row, row_test}
 use Rattle.lab_history.specs.History.{History}
-use Rattle.lab_history.specs.Version.{installers, place_in, new_state, viewed}
+use Rattle.lab_history.specs.Version.{installers, new_state}
 use Rattle.lab_history.specs.declared.operation.Op.{Op}
-use Rattle.lab_deps.specs.Collected.{committed_ops}
-use Rattle.lab_deps.specs.Edges.{differ, place_of}
-use Rattle.lab_deps.specs.Passes.{state_after}
-use Rattle.lab_deps.specs.declared.edge.Kind.{Kind}
-use Rattle.lab_deps.specs.declared.edge.Kind.TheVariants.{Write, ItemRead, PredicateRead, ItemAnti, PredicateAnti}
+use Rattle.lab_deps.specs.Collected.{neighbours, committed_ops}
+use Rattle.lab_deps.specs.EdgesByRow.{Chain, found_at_row, rows_of}
+use Rattle.lab_deps.specs.declared.edge.Edge.{Edge}
 
 -- the rows of entries
 abbrev pub named_in : {A : Type 0} → List (Row × A) → List Row
@@ -27,46 +25,18 @@ written_in (op ∷ ops) = named_in (finite.entries op.writes) ++ written_in ops
 abbrev pub HasWritten : History → ℕ → List Row → Type 0
 HasWritten h n rows = (op : Op) (row : Row) → Contains (committed_ops h n) op → is_some (new_state op row) ≡ true → Contains rows row
 
--- whether a place is the one after another
-abbrev pub is_next : Option ℕ → Option ℕ → Bool
-is_next None q = false
-is_next (Some p) None = false
-is_next (Some p) (Some q) = q == suc p
+-- the edges between neighbours in a row's list
+abbrev pub steps_in : History → Row → List Edge
+steps_in h row = neighbours row None (installers h row)
 
--- whether the second of two transactions installs the version of a row after the one of the first
-abbrev pub installs_next : History → ℕ → ℕ → Row → Bool
-installs_next h n m row = is_next (place_in (installers h row) n) (place_in (installers h row) m)
+-- those of a transaction's operation at a row, if that has a chain
+abbrev pub met_along : History → ℕ → Op → Row → Option Chain → List Edge
+met_along h n op row None = []
+met_along h n op row (Some chain) = found_at_row h n op (row, chain)
 
--- whether exactly one of the version at a place, counted from 1, and the one before matches
-abbrev pub turns : History → Statement → Row → ℕ → Bool
-turns h s row p = differ (matches s row (state_after h row (installers h row) (p - 1))) (matches s row (state_after h row (installers h row) p))
+abbrev pub met_at : History → ℕ → Op → Row → List Edge
+met_at h n op row = met_along h n op row (lookup (row_test row) (rows_of h))
 
--- whether a reader of the version at a place, where 0 is the initial one, and the installer of that at another are tied in a way
-abbrev pub is_tied : History → Statement → Row → Kind → ℕ → ℕ → Bool
-is_tied h s row Write v p = false
-is_tied h s row ItemRead v p = v == p
-is_tied h s row PredicateRead v p = nat_le p v && turns h s row p
-is_tied h s row ItemAnti v p = p == suc v
-is_tied h s row PredicateAnti v p = nat_lt v p && turns h s row p
-
--- the same, where there are two such places
-abbrev pub tied_in : History → Statement → Row → Kind → Option ℕ → Option ℕ → Bool
-tied_in h s row kind None p = false
-tied_in h s row kind (Some v) None = false
-tied_in h s row kind (Some v) (Some p) = is_tied h s row kind v p
-
--- whether an operation has to look at a row for dependencies of a kind
-abbrev pub looks_for : Kind → Op → Row → Bool
-looks_for Write op row = false
-looks_for ItemRead op row = is_some (finite.get op.rows row)
-looks_for PredicateRead op row = may_match op.statement row
-looks_for ItemAnti op row = is_some (finite.get op.rows row)
-looks_for PredicateAnti op row = may_match op.statement row
-
--- whether an operation of a reader is tied in a way to an installer of a row
-abbrev pub meets : History → Kind → ℕ → ℕ → Op → Row → Bool
-meets h kind n reader op row = looks_for kind op row && tied_in h op.statement row kind (place_of h reader row (viewed op row)) (place_in (installers h row) n)
-
--- whether one of a reader's operations is
-abbrev pub Meets : History → Kind → ℕ → ℕ → Row → Type 0
-Meets h kind n reader row = (op : Op) × Contains (committed_ops h reader) op × (meets h kind n reader op row ≡ true)
+-- at some rows
+abbrev pub met_by : History → ℕ → List Row → Op → List Edge
+met_by h n rows op = flat_map (met_at h n op) rows

@@ -1,168 +1,142 @@
 //! The least dependency of one transaction on another.
 
-ghost use Rattle.std.specs.Prelude.{◌≡◌, ◌↔◌, true, None, Contains, IfOk, option_map};
-ghost use Rattle.std.specs.FinMap as map;
-ghost use Rattle.lab_history.specs.Version.{IsCommitted};
-ghost use Rattle.lab_table.specs.Row.{Row};
+ghost use Rattle.std.specs.Prelude.{◌≡◌, ℕ, List, IfOk};
+ghost use Rattle.std.specs.List.{flat_map};
+ghost use Rattle.lab_history.specs.Version.{installers};
 ghost use Rattle.lab_deps.specs.Collected.{committed_ops};
-ghost use Rattle.lab_deps.specs.Edges.{Depends};
-ghost use Rattle.lab_deps.specs.KindBits.{edge_of};
+ghost use Rattle.lab_deps.specs.EdgesByRow.{rows_of};
 ghost use Rattle.lab_deps.specs.KindSets.{among};
-ghost use Rattle.lab_deps.specs.LeastEdge.{fits, least_kind, IsLeast};
-ghost use Rattle.lab_deps.specs.LeastRow.{first_row, least_at, IsLeastRow};
-ghost use Rattle.lab_deps.specs.Meetings.{installs_next, meets, Meets};
-ghost use Rattle.lab_deps.specs.Passes as pass;
+ghost use Rattle.lab_deps.specs.LeastEdge.{fits, comes_first, lesser, least_from, IsLeast};
+ghost use Rattle.lab_deps.specs.Meetings.{steps_in, met_by};
+ghost use Rattle.lab_deps.specs.Numbering.{HasPlaces};
 ghost use Rattle.lab_deps.specs.Scopes.{Allows, edges_in};
-ghost use Rattle.lab_deps.specs.Soundness.{Stands};
-ghost use Rattle.lab_deps.specs.declared.edge.Kind.{Kind as Way};
-ghost use Rattle.lab_deps.specs.declared.fault.LocalFault.TheVariants as fault;
 
-use crate::collect::committed_ops;
-use crate::edge::{Edge, Kind};
+use crate::collect::{committed_ops, edges_met};
+use crate::edge::Edge;
 use crate::kinds::Kinds;
-use crate::meeting::{first_meeting, first_next};
-use crate::row::least;
 use crate::scope::Scope;
+use crate::versions::Versions;
+use crate::writes::add_neighbours;
 use crate::written::rows_written;
-use lab_history::{History, Op};
+use indexmap::IndexMap;
+use lab_history::History;
 use lab_table::{NoMemory, RowName, TxnNo};
 use std::alloc::Global;
 
-/// The least of the edges of some kinds that are meant, from one transaction to another, between which there are edges of
-/// these kinds. NoMemory where an allocation was refused.
+/// Dependencies of one transaction on another, of some kinds.
+#[derive(Clone, Copy)]
+pub struct Wanted {
+    pub from: TxnNo,
+    pub to: TxnNo,
+    pub kinds: Kinds,
+}
+
+/// The least of the edges that are meant and wanted. NoMemory where an allocation was refused.
+///
+/// No row is looked at that neither of the two wrote: so it costs what the two did, however long the history is.
 pub fn least_of_two(
     alloc: Global,
     history: &History,
+    rows: &IndexMap<RowName, Versions>,
     scope: Scope,
-    from: TxnNo,
-    to: TxnNo,
-    there: Kinds,
-    kinds: Kinds,
+    wanted: Wanted,
 ) -> Result<Option<Edge>, NoMemory>
     requires allowed { Allows scope history.now }
-    requires there { (kind : Way) → among there kind ≡ true ↔ ((row : Row) × Contains (edges_in scope history.now) (edge_of from to kind row)) }
-    ensures { IfOk result (IsLeast (fits from to (among kinds)) (edges_in scope history.now)) }
+    requires versions { rows.now.entries ≡ rows_of history.now }
+    ensures { IfOk result (λ least. (ps : List ℕ) → HasPlaces history.now ps → IsLeast (fits wanted.from wanted.to (among wanted.kinds)) (edges_in scope history.now) least) }
 {
-    match least_kind(there, kinds) {
-        None => Ok(None),
-        Some(kind) => {
-            let row = least_row(alloc, history, from, to, kind)?;
-            Ok(edge_at(from, to, kind, row))
+    let written = rows_written(alloc, history, wanted.from)?;
+    let steps = steps_at(alloc, history, &written)?;
+    let step = least_from(None, wanted, &steps);
+    match scope {
+        Scope::Writes => Ok(step),
+        Scope::All => {
+            let read = least_of_ops(alloc, step, wanted, history, rows, wanted.to, &written)?;
+            let others = rows_written(alloc, history, wanted.to)?;
+            least_of_ops(alloc, read, wanted, history, rows, wanted.from, &others)
         }
     }
 }
 
-/// The first kind that is among both.
-fn least_kind(there: Kinds, kinds: Kinds) -> Option<Kind>
-    ensures { result ≡ least_kind (among there) (among kinds) }
+/// The edges between neighbours in the lists of these rows. NoMemory where an allocation was refused.
+fn steps_at(alloc: Global, history: &History, rows: &[RowName]) -> Result<Vec<Edge>, NoMemory>
+    ensures { IfOk result (λ edges. edges.items ≡ flat_map (steps_in history.now) rows.now) }
 {
-    if there.has(Kind::Write) && kinds.has(Kind::Write) {
-        Some(Kind::Write)
-    } else if there.has(Kind::ItemRead) && kinds.has(Kind::ItemRead) {
-        Some(Kind::ItemRead)
-    } else if there.has(Kind::PredicateRead) && kinds.has(Kind::PredicateRead) {
-        Some(Kind::PredicateRead)
-    } else if there.has(Kind::ItemAnti) && kinds.has(Kind::ItemAnti) {
-        Some(Kind::ItemAnti)
-    } else if there.has(Kind::PredicateAnti) && kinds.has(Kind::PredicateAnti) {
-        Some(Kind::PredicateAnti)
-    } else {
-        None
+    let mut edges = Vec::new(alloc);
+    for row in rows {
+        add_neighbours(&mut edges, *row, installers(history, *row))?;
+    }
+    Ok(edges)
+}
+
+/// The installers of a row, in order.
+fn installers(history: &History, row: RowName) -> &[TxnNo]
+    ensures { result.now ≡ installers history.now row }
+{
+    match history.installed().get(row) {
+        None => &[],
+        Some(found) => found.as_slice(),
     }
 }
 
-/// The edge at a row, if there is one.
-fn edge_at(from: TxnNo, to: TxnNo, kind: Kind, row: Option<RowName>) -> Option<Edge>
-    ensures { result ≡ option_map (edge_of from to kind) row }
-{
-    match row {
-        None => None,
-        Some(row) => Some(Edge {
-            from,
-            to,
-            kind,
-            row,
-        }),
-    }
-}
-
-/// The least row at which one transaction depends on another in a way; both have committed. NoMemory where an
+/// The least of an edge, if there is one, and those of a transaction's operations at some rows. NoMemory where an
 /// allocation was refused.
-///
-/// No row is looked at that neither of the two wrote: so it costs what the two did, however long the history is.
-fn least_row(
+fn least_of_ops(
     alloc: Global,
+    least: Option<Edge>,
+    wanted: Wanted,
     history: &History,
-    from: TxnNo,
-    to: TxnNo,
-    kind: Kind,
-) -> Result<Option<RowName>, NoMemory>
-    requires placed { (row : Row) → ¬ Stands history.now (fault.InstallOrder row) }
-    requires first { IsCommitted history.now from }
-    requires second { IsCommitted history.now to }
-    ensures { IfOk result (IsLeastRow (λ row. Depends history.now kind row from to)) }
+    rows: &IndexMap<RowName, Versions>,
+    txn: TxnNo,
+    written: &[RowName],
+) -> Result<Option<Edge>, NoMemory>
+    requires { rows.now.entries ≡ rows_of history.now }
+    ensures { IfOk result (λ found. (ps : List ℕ) → HasPlaces history.now ps → found ≡ least_from (fits wanted.from wanted.to (among wanted.kinds)) least (flat_map (met_by history.now txn written.now) (committed_ops history.now txn))) }
 {
-    match kind {
-        Kind::Write => Ok(least_step(history, from, to)),
-        Kind::ItemRead => least_meeting(alloc, history, Kind::ItemRead, from, to),
-        Kind::PredicateRead => least_meeting(alloc, history, Kind::PredicateRead, from, to),
-        Kind::ItemAnti => least_meeting(alloc, history, Kind::ItemAnti, to, from),
-        Kind::PredicateAnti => least_meeting(alloc, history, Kind::PredicateAnti, to, from),
-    }
-}
-
-/// The least row that the first of two transactions wrote and of which the second installs the version after its own.
-fn least_step(history: &History, from: TxnNo, to: TxnNo) -> Option<RowName>
-    ensures { result ≡ least_at (λ op. pass.first_entry (installs_next history.now from to) (map.entries op.writes)) None (committed_ops history.now from) }
-{
-    let ops = committed_ops(history, from);
-    let mut row = None;
+    let mut least = least;
+    let ops = committed_ops(history, txn);
     for op in ops {
-        row = least(row, first_step(history, op, from, to));
+        let edges = edges_met(alloc, history, rows, txn, op, written)?;
+        least = least_from(least, wanted, &edges);
     }
-    row
+    Ok(least)
 }
 
-/// The first row of an operation's writes of which the second of two transactions installs the version after the first's.
-fn first_step(history: &History, op: &Op, from: TxnNo, to: TxnNo) -> Option<RowName>
-    ensures { result ≡ pass.first_entry (installs_next history.now from to) (map.entries op.now.writes) }
+/// The least of an edge, if there is one, and those of a list that are wanted.
+fn least_from(least: Option<Edge>, wanted: Wanted, edges: &[Edge]) -> Option<Edge>
+    ensures { result ≡ least_from (fits wanted.from wanted.to (among wanted.kinds)) least edges.now }
 {
-    first_next(history, op.writes.entries(), from, to)
-}
-
-/// The least row at which a reader's operation is tied in a way to an installer. NoMemory where an allocation was
-/// refused.
-fn least_meeting(
-    alloc: Global,
-    history: &History,
-    kind: Kind,
-    installer: TxnNo,
-    reader: TxnNo,
-) -> Result<Option<RowName>, NoMemory>
-    requires placed { (row : Row) → ¬ Stands history.now (fault.InstallOrder row) }
-    ensures { IfOk result (IsLeastRow (Meets history.now kind installer reader)) }
-{
-    let rows = rows_written(alloc, history, installer)?;
-    Ok(least_among(history, kind, installer, reader, &rows))
-}
-
-/// The least of these rows at which a reader's operation is tied in a way to an installer.
-fn least_among(
-    history: &History,
-    kind: Kind,
-    installer: TxnNo,
-    reader: TxnNo,
-    rows: &[RowName],
-) -> Option<RowName>
-    ensures { result ≡ least_at (λ op. first_row (meets history.now kind installer reader op) rows.now) None (committed_ops history.now reader) }
-{
-    let ops = committed_ops(history, reader);
-    let mut row = None;
-    for op in ops {
-        row = least(
-            row,
-            first_meeting(history, rows, kind, installer, reader, op),
-        );
+    let mut least = least;
+    for edge in edges {
+        least = lesser(least, wanted, *edge);
     }
-    row
+    least
+}
+
+/// The lesser of an edge, if there is one, and another one, if that is wanted.
+fn lesser(least: Option<Edge>, wanted: Wanted, edge: Edge) -> Option<Edge>
+    ensures { result ≡ lesser (fits wanted.from wanted.to (among wanted.kinds)) least edge }
+{
+    if fits(wanted, edge) && comes_first(edge, least) {
+        Some(edge)
+    } else {
+        least
+    }
+}
+
+/// Whether an edge is wanted.
+fn fits(wanted: Wanted, edge: Edge) -> bool
+    ensures { result ≡ fits wanted.from wanted.to (among wanted.kinds) edge }
+{
+    edge.from == wanted.from && (edge.to == wanted.to && wanted.kinds.has(edge.kind))
+}
+
+/// Whether an edge is less than one that there may be.
+fn comes_first(edge: Edge, least: Option<Edge>) -> bool
+    ensures { result ≡ comes_first edge least }
+{
+    match least {
+        None => true,
+        Some(other) => edge.cmp(&other).is_lt(),
+    }
 }

@@ -10,4 +10,4 @@ returns c kind =
     let a = c.self.inside.arrows in
     let bits = bits_of a.places.items a.width a.cells.items from to in
     subst (λ b. (has_bit b kind ≡ true) ↔ ((row : Row) × Contains c.args.self.now (edge_of from to kind row))) (sym c.bits.ensures)
-    (subst (λ es. (has_bit bits kind ≡ true) ↔ ((row : Row) × Contains es (edge_of from to kind row))) c.self.view_is (c.self.invariant.exact from to kind))
+    (subst (λ es. (has_bit bits kind ≡ true) ↔ ((row : Row) × Contains es (edge_of from to kind row))) c.self.view_is (c.self.invariant.0.exact from to kind))

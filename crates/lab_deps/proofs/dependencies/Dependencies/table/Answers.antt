@@ -9,7 +9,7 @@ invariant_of-result c =
       record {
         exact = λ from to kind.
             subst (λ all. (has_bit (bits_of a.places.items a.width a.cells.items from to) kind ≡ true) ↔ ((row : Row) × Contains all (edge_of from to kind row))) c.self.view_is
-            (c.self.invariant.exact from to kind);
+            (c.self.invariant.0.exact from to kind);
         columns = c.in_ok-columns.ensures;
       },
       subst (IsRun c.start_of-start.result) c.deref.ensures.value c.start_of-start.ensures,
