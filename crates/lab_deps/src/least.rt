@@ -1,25 +1,28 @@
 //! The least dependency of one transaction on another.
 
-ghost use Rattle.std.specs.Prelude.{◌≡◌, ℕ, List, IfOk};
+ghost use Rattle.std.specs.Prelude.{◌≡◌, ◌++◌, ℕ, cond, Some, None, List, IfOk, OnOk};
 ghost use Rattle.std.specs.List.{flat_map};
-ghost use Rattle.lab_history.specs.Version.{installers};
+ghost use Rattle.std.specs.FinMap as map;
 ghost use Rattle.lab_deps.specs.Collected.{committed_ops};
 ghost use Rattle.lab_deps.specs.EdgesByRow.{rows_of};
 ghost use Rattle.lab_deps.specs.KindSets.{among};
 ghost use Rattle.lab_deps.specs.LeastEdge.{fits, comes_first, lesser, least_from, IsLeast};
-ghost use Rattle.lab_deps.specs.Meetings.{steps_in, met_by};
+ghost use Rattle.lab_deps.specs.Meetings.{installs_next, steps_found, first_steps, met_by};
 ghost use Rattle.lab_deps.specs.Numbering.{HasPlaces};
+ghost use Rattle.lab_deps.specs.Passes.{first_entry};
 ghost use Rattle.lab_deps.specs.Scopes.{Allows, edges_in};
+ghost use Rattle.lab_deps.specs.Soundness.{IsSound};
+ghost use Rattle.lab_deps.specs.declared.scope.Scope.TheVariants as meant;
 
 use crate::collect::{committed_ops, edges_met};
-use crate::edge::Edge;
+use crate::edge::{Edge, Kind};
 use crate::kinds::Kinds;
+use crate::row::first_written;
 use crate::scope::Scope;
 use crate::versions::Versions;
-use crate::writes::add_neighbours;
 use crate::written::rows_written;
 use indexmap::IndexMap;
-use lab_history::History;
+use lab_history::{History, Writes};
 use lab_table::{NoMemory, RowName, TxnNo};
 use std::alloc::Global;
 
@@ -39,44 +42,94 @@ pub fn least_of_two(
     history: &History,
     rows: &IndexMap<RowName, Versions>,
     scope: Scope,
-    wanted: Wanted,
+    wanted: &Wanted,
 ) -> Result<Option<Edge>, NoMemory>
     requires allowed { Allows scope history.now }
     requires versions { rows.now.entries ≡ rows_of history.now }
-    ensures { IfOk result (λ least. (ps : List ℕ) → HasPlaces history.now ps → IsLeast (fits wanted.from wanted.to (among wanted.kinds)) (edges_in scope history.now) least) }
+    ensures { IfOk result (λ least. (ps : List ℕ) → HasPlaces history.now ps → IsLeast (fits wanted.now.from wanted.now.to (among wanted.now.kinds)) (edges_in scope history.now) least) }
 {
-    let written = rows_written(alloc, history, wanted.from)?;
-    let steps = steps_at(alloc, history, &written)?;
+    let steps = steps_of(alloc, history, wanted.from, wanted.to)?;
     let step = least_from(None, wanted, &steps);
     match scope {
         Scope::Writes => Ok(step),
-        Scope::All => {
-            let read = least_of_ops(alloc, step, wanted, history, rows, wanted.to, &written)?;
-            let others = rows_written(alloc, history, wanted.to)?;
-            least_of_ops(alloc, read, wanted, history, rows, wanted.from, &others)
-        }
+        Scope::All => match step {
+            None => least_beyond(alloc, history, rows, wanted),
+            Some(edge) => Ok(Some(edge)),
+        },
     }
 }
 
-/// The edges between neighbours in the lists of these rows. NoMemory where an allocation was refused.
-fn steps_at(alloc: Global, history: &History, rows: &[RowName]) -> Result<Vec<Edge>, NoMemory>
-    ensures { IfOk result (λ edges. edges.items ≡ flat_map (steps_in history.now) rows.now) }
+/// The write-dependencies of one transaction on another, of each operation's rows at the first at which there is one.
+/// NoMemory where an allocation was refused.
+fn steps_of(
+    alloc: Global,
+    history: &History,
+    from: TxnNo,
+    to: TxnNo,
+) -> Result<Vec<Edge>, NoMemory>
+    ensures { IfOk result (λ edges. edges.items ≡ flat_map (first_steps history.now from to) (committed_ops history.now from)) }
 {
     let mut edges = Vec::new(alloc);
-    for row in rows {
-        add_neighbours(&mut edges, *row, installers(history, *row))?;
+    let ops = committed_ops(history, from);
+    for op in ops {
+        add_step(&mut edges, history, from, to, &op.writes)?;
     }
     Ok(edges)
 }
 
-/// The installers of a row, in order.
-fn installers(history: &History, row: RowName) -> &[TxnNo]
-    ensures { result.now ≡ installers history.now row }
+/// Adds the write-dependency at the first of these rows at which there is one.
+fn add_step(
+    edges: &mut Vec<Edge>,
+    history: &History,
+    from: TxnNo,
+    to: TxnNo,
+    written: &Writes,
+) -> Result<(), NoMemory>
+    ensures { OnOk result (edges.new.items ≡ edges.old.items ++ steps_found from to (first_entry (installs_next history.now from to) (map.entries written.now))) }
 {
-    match history.installed().get(row) {
-        None => &[],
-        Some(found) => found.as_slice(),
+    match first_written(written, |row| installs_next(history, row, from, to)) {
+        None => Ok(()),
+        Some(row) => {
+            edges.push(Edge {
+                from,
+                to,
+                kind: Kind::Write,
+                row,
+            })?;
+            Ok(())
+        }
     }
+}
+
+/// Whether the second of two transactions installs the version of a row after the one of the first.
+fn installs_next(history: &History, row: RowName, from: TxnNo, to: TxnNo) -> bool
+    ensures { result ≡ installs_next history.now from to row }
+{
+    match history.installer_place(row, from) {
+        None => false,
+        Some(place) => match history.installer_place(row, to) {
+            None => false,
+            Some(next) => place < next && next - place == 1,
+        },
+    }
+}
+
+/// The least of the edges that are wanted, where no write-dependency is. NoMemory where an allocation was refused.
+fn least_beyond(
+    alloc: Global,
+    history: &History,
+    rows: &IndexMap<RowName, Versions>,
+    wanted: &Wanted,
+) -> Result<Option<Edge>, NoMemory>
+    requires sound { IsSound history.now }
+    requires versions { rows.now.entries ≡ rows_of history.now }
+    requires none { IsLeast (fits wanted.now.from wanted.now.to (among wanted.now.kinds)) (edges_in meant.Writes history.now) None }
+    ensures { IfOk result (λ least. (ps : List ℕ) → HasPlaces history.now ps → IsLeast (fits wanted.now.from wanted.now.to (among wanted.now.kinds)) (edges_in meant.All history.now) least) }
+{
+    let written = rows_written(alloc, history, wanted.from)?;
+    let read = least_of_ops(alloc, None, wanted, history, rows, wanted.to, &written)?;
+    let others = rows_written(alloc, history, wanted.to)?;
+    least_of_ops(alloc, read, wanted, history, rows, wanted.from, &others)
 }
 
 /// The least of an edge, if there is one, and those of a transaction's operations at some rows. NoMemory where an
@@ -84,14 +137,14 @@ fn installers(history: &History, row: RowName) -> &[TxnNo]
 fn least_of_ops(
     alloc: Global,
     least: Option<Edge>,
-    wanted: Wanted,
+    wanted: &Wanted,
     history: &History,
     rows: &IndexMap<RowName, Versions>,
     txn: TxnNo,
     written: &[RowName],
 ) -> Result<Option<Edge>, NoMemory>
     requires { rows.now.entries ≡ rows_of history.now }
-    ensures { IfOk result (λ found. (ps : List ℕ) → HasPlaces history.now ps → found ≡ least_from (fits wanted.from wanted.to (among wanted.kinds)) least (flat_map (met_by history.now txn written.now) (committed_ops history.now txn))) }
+    ensures { IfOk result (λ found. (ps : List ℕ) → HasPlaces history.now ps → found ≡ least_from (fits wanted.now.from wanted.now.to (among wanted.now.kinds)) least (flat_map (met_by history.now txn written.now) (committed_ops history.now txn))) }
 {
     let mut least = least;
     let ops = committed_ops(history, txn);
@@ -103,40 +156,46 @@ fn least_of_ops(
 }
 
 /// The least of an edge, if there is one, and those of a list that are wanted.
-fn least_from(least: Option<Edge>, wanted: Wanted, edges: &[Edge]) -> Option<Edge>
-    ensures { result ≡ least_from (fits wanted.from wanted.to (among wanted.kinds)) least edges.now }
+fn least_from(least: Option<Edge>, wanted: &Wanted, edges: &[Edge]) -> Option<Edge>
+    ensures { result ≡ least_from (fits wanted.now.from wanted.now.to (among wanted.now.kinds)) least edges.now }
 {
     let mut least = least;
     for edge in edges {
-        least = lesser(least, wanted, *edge);
+        least = lesser(least, wanted, edge);
     }
     least
 }
 
 /// The lesser of an edge, if there is one, and another one, if that is wanted.
-fn lesser(least: Option<Edge>, wanted: Wanted, edge: Edge) -> Option<Edge>
-    ensures { result ≡ lesser (fits wanted.from wanted.to (among wanted.kinds)) least edge }
+fn lesser(least: Option<Edge>, wanted: &Wanted, edge: &Edge) -> Option<Edge>
+    ensures { result ≡ lesser (fits wanted.now.from wanted.now.to (among wanted.now.kinds)) least edge.now }
 {
-    if fits(wanted, edge) && comes_first(edge, least) {
-        Some(edge)
+    if fits(wanted, edge) {
+        first_of(edge, least)
     } else {
         least
     }
 }
 
 /// Whether an edge is wanted.
-fn fits(wanted: Wanted, edge: Edge) -> bool
-    ensures { result ≡ fits wanted.from wanted.to (among wanted.kinds) edge }
+fn fits(wanted: &Wanted, edge: &Edge) -> bool
+    ensures { result ≡ fits wanted.now.from wanted.now.to (among wanted.now.kinds) edge.now }
 {
     edge.from == wanted.from && (edge.to == wanted.to && wanted.kinds.has(edge.kind))
 }
 
-/// Whether an edge is less than one that there may be.
-fn comes_first(edge: Edge, least: Option<Edge>) -> bool
-    ensures { result ≡ comes_first edge least }
+/// The lesser of an edge and another one, if there is one.
+fn first_of(edge: &Edge, least: Option<Edge>) -> Option<Edge>
+    ensures { result ≡ cond (comes_first edge.now least) (Some edge.now) least }
 {
     match least {
-        None => true,
-        Some(other) => edge.cmp(&other).is_lt(),
+        None => Some(*edge),
+        Some(other) => {
+            if edge.cmp(&other).is_lt() {
+                Some(*edge)
+            } else {
+                Some(other)
+            }
+        }
     }
 }
