@@ -1,6 +1,6 @@
 use Rattle.std.{proofs.Common.{◌≡◌, None, Some, sym, ap, ◌∙◌, subst}, specs.List.{flat_map}}
 use Rattle.lab_deps.specs.{Collected.{committed_ops}, KindSets.{among}, LeastEdge.{fits, least_from, IsLeast}, Meetings.{first_steps}, Scopes.{Allows, edges_in}, Soundness.{IsSound}}
-use Rattle.lab_deps.specs.declared.{fault.LocalFault.TheVariants.{InstallOrder}, scope.Scope.TheVariants.{All, Writes}}
+use Rattle.lab_deps.specs.declared.{fault.LocalFault.TheVariants.{InstallOrder}, scope.Scope.TheVariants.{Writes}}
 use Rattle.lab_deps.proofs.LeastSteps.{least_step, stays_least}
 use Rattle.lab_deps.proofs.least.least_of_two.Goals as goal
 
