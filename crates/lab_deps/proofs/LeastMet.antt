@@ -1,19 +1,67 @@
 -- Where no write-dependency fits, the least dependency from one of two transactions to the other is met at rows that one of them wrote.
-use Rattle.std.proofs.{Common.{◌≡◌, ℕ, suc, Bool, true, false, cond, Option, Some, None, List, [], ◌∷◌, ◌++◌, map, refl, sym, ap, ◌∙◌, subst, inl, inr}, lemmas.List.Elements.{Contains-append_left, Contains-append_right, Contains-append_cases}}
+use Rattle.std.proofs.{Common.{◌≡◌, ℕ, suc, ◌≤◌, Bool, true, false, ◌&&◌, ◌||◌, cond, Option, Some, None, List, [], ◌∷◌, map, refl, sym, ap, ◌∙◌, subst, arith}, lemmas.Bool.{false≢true}}
 use Rattle.std.specs.{Prelude.{Contains, option_map, unwrap_or}, List.{flat_map}, Ordering.{is_lt}, Cmp.{tied_itself}, Map.{lookup}, FinMap.{find, get-entries}}
 use Rattle.std.specs.FinMap as finite
 use Rattle.lab_table.{specs.Row.{Row, row_cmp, row_test, rows_tested}, proofs.Maps.{tested_same}}
 use Rattle.lab_history.specs.{History.{History}, Version.{installers}, declared.operation.Op.{Op}}
-use Rattle.lab_deps.specs.Collected.{reading_edges, edges_at_row, op_edges, committed_ops, all_edges, reading_of}
+use Rattle.lab_deps.specs.Collected.{reading_edges, edges_at_row, op_edges, committed_ops, reading_of}
 use Rattle.lab_deps.specs.Edges.{InstallsAt, Depends, IsEdge}
 use Rattle.lab_deps.specs.EdgesByRow.{chain_of, with_versions, rows_of, found_at_row}
-use Rattle.lab_deps.specs.LeastEdge.{fits, least_from, IsLeast}
+use Rattle.lab_deps.specs.{EdgeOrder.{kind_place, edge_cmp}, KindBits.{edge_of}, KindSets.{is_anti}, LeastEdge.{fits, least_from, IsLeast, AreThere, have_read}}
 use Rattle.lab_deps.specs.Meetings.{HasWritten, met_along, met_at, met_by}
 use Rattle.lab_deps.specs.Scopes.{edges_in}
 use Rattle.lab_deps.specs.Soundness.{IsSound, Stands}
-use Rattle.lab_deps.specs.declared.{edge.{Edge.{Edge}, Kind.{Kind, TheVariants.{Write, ItemRead, PredicateRead, ItemAnti, PredicateAnti}}}, fault.LocalFault.TheVariants.{InstallOrder}, reading.Reading.{Reading}, scope.Scope.TheVariants.{All, Writes}}
+use Rattle.lab_deps.specs.declared.{edge.{Edge.{Edge}, Kind.{Kind, TheVariants.{Write, ItemRead, PredicateRead, ItemAnti, PredicateAnti}}}, fault.LocalFault.TheVariants.{InstallOrder}, reading.Reading.{Reading}, scope.Scope.TheVariants.{All}}
 use Rattle.lab_deps.proofs.{CollectedEdges.{op_place, at_row_is_edge, collected_is_edge, edge_is_collected, tie_listed}, EdgeOrders.{edges_total}, InstalledOnce.{row_written}}
-use Rattle.lab_deps.proofs.{LeastEdges.{least_joined, least_covering}, LeastSteps.{ends, none_writes}, Membership.{from_each, of_each}, Walks.{row_walked}}
+use Rattle.lab_deps.proofs.{LeastEdges.{least_covering}, LeastSteps.{ends, not_less, fits_both, no_write, some_edge}, Membership.{from_each, of_each}, Walks.{row_walked}}
+
+-- whether a kind is of read-dependencies
+abbrev is_read : Kind → Bool
+is_read Write = false
+is_read ItemRead = true
+is_read PredicateRead = true
+is_read ItemAnti = false
+is_read PredicateAnti = false
+
+is_rest : (kind : Kind) → (kind ≡ Write → ⊥) → is_read kind ≡ false → is_anti kind ≡ true
+is_rest Write other read = absurd (other refl)
+is_rest ItemRead other read = absurd (false≢true (sym read))
+is_rest PredicateRead other read = absurd (false≢true (sym read))
+is_rest ItemAnti other read = refl
+is_rest PredicateAnti other read = refl
+
+read_low : (kind : Kind) → is_read kind ≡ true → kind_place kind ≤ 2
+read_low Write is = absurd (false≢true is)
+read_low ItemRead is = omega arith
+read_low PredicateRead is = omega arith
+read_low ItemAnti is = absurd (false≢true is)
+read_low PredicateAnti is = absurd (false≢true is)
+
+anti_high : (kind : Kind) → is_anti kind ≡ true → 3 ≤ kind_place kind
+anti_high Write is = absurd (false≢true is)
+anti_high ItemRead is = absurd (false≢true is)
+anti_high PredicateRead is = absurd (false≢true is)
+anti_high ItemAnti is = omega arith
+anti_high PredicateAnti is = omega arith
+
+-- two sets that have a kind of read-dependency in common
+kind_read : (a b : Kind → Bool) → have_read a b ≡ true → (kind : Kind) × (is_read kind ≡ true) × ((a kind && b kind) ≡ true)
+kind_read a b reads =
+    elim (a ItemRead && b ItemRead) as (λ t. (a ItemRead && b ItemRead) ≡ t → (t || (a PredicateRead && b PredicateRead)) ≡ true → (kind : Kind) × (is_read kind ≡ true) × ((a kind && b kind) ≡ true)) [
+      | true ↦ λ is _. (ItemRead, refl, is)
+      | false ↦ λ _ is. (PredicateRead, refl, is)
+    ] refl reads
+
+either : (s t : Bool) → t ≡ true → (s || t) ≡ true
+either true t is = refl
+either false t is = is
+
+read_kind : (a b : Kind → Bool) (kind : Kind) → is_read kind ≡ true → (a kind && b kind) ≡ true → have_read a b ≡ true
+read_kind a b Write is both = absurd (false≢true is)
+read_kind a b ItemRead is both = ap (λ t. t || (a PredicateRead && b PredicateRead)) both
+read_kind a b PredicateRead is both = either (a ItemRead && b ItemRead) (a PredicateRead && b PredicateRead) both
+read_kind a b ItemAnti is both = absurd (false≢true is)
+read_kind a b PredicateAnti is both = absurd (false≢true is)
 
 module _ (h : History) where
   looked : (row : Row) (es : List (Row × List ℕ)) → lookup (row_test row) (map (with_versions h) es) ≡ option_map (chain_of h row) (find row_cmp row es)
@@ -58,59 +106,81 @@ module _ (h : History) where
       let of_row = from_each (met_at h n of_op.source) rows e of_op.is_made in
       at_row_is_edge h sound of_row.source n of_op.source e of_op.is_source (subst (λ es. Contains es e) (met_is n of_op.source of_row.source) of_row.is_made)
 
-  -- so what is met is all but the write-dependencies
-  module _ (sound : IsSound h) (rows others : List Row) where
+  module _ (sound : IsSound h) (rows : List Row) where
     placed : (row : Row) → Stands h (InstallOrder row) → ⊥
     placed row = sound (InstallOrder row)
 
-    abbrev read : ℕ → List Edge
-    read m = flat_map (met_by h m rows) (committed_ops h m)
+    abbrev met : ℕ → List Edge
+    met n = flat_map (met_by h n rows) (committed_ops h n)
 
-    abbrev passed : ℕ → List Edge
-    passed n = flat_map (met_by h n others) (committed_ops h n)
+    -- a read-dependency is met by the reader
+    met_read : (e : Edge) → HasWritten h e.from rows → IsEdge h e → is_read e.kind ≡ true → Contains (met e.to) e
+    met_read e has (a, b, differ, depends) read =
+        elim (e.kind) as (λ kind. is_read kind ≡ true → Depends h kind e.row e.from e.to → Contains (met e.to) (record { from = e.from; to = e.to; kind = kind; row = e.row })) [
+          | Write ↦ λ is _. absurd (false≢true is)
+          | ItemRead ↦ λ _ (op, p, ((k, is_op), sees), listed, installs).
+              met_there placed e.to e.from p rows (record { from = e.from; to = e.to; kind = ItemRead; row = e.row }) has installs
+              (tie_listed h e.row e.to k op (suc p) p e.from ItemRead b is_op sees installs (listed, refl) differ)
+          | PredicateRead ↦ λ _ (op, v, p, ((k, is_op), sees), below, installs, change).
+              met_there placed e.to e.from p rows (record { from = e.from; to = e.to; kind = PredicateRead; row = e.row }) has installs
+              (tie_listed h e.row e.to k op v p e.from PredicateRead b is_op sees installs (below, change) differ)
+          | ItemAnti ↦ λ is _. absurd (false≢true is)
+          | PredicateAnti ↦ λ is _. absurd (false≢true is)
+        ] read depends
 
-    is_edge : (n m : ℕ) (e : Edge) → Contains (read m ++ passed n) e → IsEdge h e
-    is_edge n m e found =
-        elim (Contains-append_cases (read m) (passed n) e found) [
-          | inl reads ↦ met_edge sound m rows e reads
-          | inr passes ↦ met_edge sound n others e passes
-        ]
+    -- so is an anti-dependency
+    met_anti : (e : Edge) → HasWritten h e.to rows → IsEdge h e → is_anti e.kind ≡ true → Contains (met e.from) e
+    met_anti e has (a, b, differ, depends) anti =
+        elim (e.kind) as (λ kind. is_anti kind ≡ true → Depends h kind e.row e.from e.to → Contains (met e.from) (record { from = e.from; to = e.to; kind = kind; row = e.row })) [
+          | Write ↦ λ is _. absurd (false≢true is)
+          | ItemRead ↦ λ is _. absurd (false≢true is)
+          | PredicateRead ↦ λ is _. absurd (false≢true is)
+          | ItemAnti ↦ λ _ (op, v, ((k, is_op), sees), listed, installs).
+              met_there placed e.from e.to v rows (record { from = e.from; to = e.to; kind = ItemAnti; row = e.row }) has installs
+              (tie_listed h e.row e.from k op v v e.to ItemAnti a is_op sees installs (listed, refl) differ)
+          | PredicateAnti ↦ λ _ (op, v, p, ((k, is_op), sees), above, installs, change).
+              met_there placed e.from e.to p rows (record { from = e.from; to = e.to; kind = PredicateAnti; row = e.row }) has installs
+              (tie_listed h e.row e.from k op v p e.to PredicateAnti a is_op sees installs (above, change) differ)
+        ] anti depends
 
-    is_met : (e : Edge) → HasWritten h e.from rows → HasWritten h e.to others → IsEdge h e → (e.kind ≡ Write → ⊥) → Contains (read e.to ++ passed e.from) e
-    is_met e first second (a, b, differ, depends) other =
-        elim (e.kind) as (λ kind. e.kind ≡ kind → Depends h kind e.row e.from e.to → Contains (read e.to ++ passed e.from) (record { from = e.from; to = e.to; kind = kind; row = e.row })) [
-          | Write ↦ λ is _. absurd (other is)
-          | ItemRead ↦ λ _ (op, p, ((k, is_op), sees), listed, installs). reads ItemRead p installs (tie_listed h e.row e.to k op (suc p) p e.from ItemRead b is_op sees installs (listed, refl) differ)
-          | PredicateRead ↦ λ _ (op, v, p, ((k, is_op), sees), below, installs, change). reads PredicateRead p installs (tie_listed h e.row e.to k op v p e.from PredicateRead b is_op sees installs (below, change) differ)
-          | ItemAnti ↦ λ _ (op, v, ((k, is_op), sees), listed, installs). passes ItemAnti v installs (tie_listed h e.row e.from k op v v e.to ItemAnti a is_op sees installs (listed, refl) differ)
-          | PredicateAnti ↦ λ _ (op, v, p, ((k, is_op), sees), above, installs, change). passes PredicateAnti p installs (tie_listed h e.row e.from k op v p e.to PredicateAnti a is_op sees installs (above, change) differ)
-        ] refl depends
-      where
-        as_kind : Kind → Edge
-        as_kind kind = record { from = e.from; to = e.to; kind = kind; row = e.row }
+    module _ (n m : ℕ) (there kinds : Kind → Bool) (exact : AreThere (edges_in All h) n m there) (none : (there Write && kinds Write) ≡ false) where
+      abbrev Covers : List Edge → Edge → Type 0
+      Covers es e = (f : Edge) × Contains es f × ((fits n m kinds f ≡ true) × (is_lt (edge_cmp e f) ≡ false))
 
-        reads : (kind : Kind) (p : ℕ) → InstallsAt h e.row p e.from → Contains (flat_map (op_edges h e.to) (committed_ops h e.to)) (as_kind kind) → Contains (read e.to ++ passed e.from) (as_kind kind)
-        reads kind p installs found =
-            Contains-append_left (read e.to) (passed e.from) (as_kind kind) (met_there placed e.to e.from p rows (as_kind kind) first installs found)
+      itself : (es : List Edge) (e : Edge) → Contains es e → fits n m kinds e ≡ true → Covers es e
+      itself es e there fit = (e, there, (fit, ap is_lt (tied_itself edges_total e)))
 
-        passes : (kind : Kind) (p : ℕ) → InstallsAt h e.row p e.to → Contains (flat_map (op_edges h e.from) (committed_ops h e.from)) (as_kind kind) → Contains (read e.to ++ passed e.from) (as_kind kind)
-        passes kind p installs found =
-            Contains-append_right (read e.to) (passed e.from) (as_kind kind) (met_there placed e.from e.to p others (as_kind kind) second installs found)
+      is_read_edge : HasWritten h n rows → (e : Edge) → Contains (edges_in All h) e → fits n m kinds e ≡ true → is_read e.kind ≡ true → Contains (met m) e
+      is_read_edge has e found fit read =
+          let w = ends n m kinds e fit in
+          subst (λ k. Contains (met k) e) w.1 (met_read e (subst (λ k. HasWritten h k rows) (sym w.0) has) (collected_is_edge h sound e found) read)
 
-    -- and where no write-dependency fits, the least of it is the least
-    pub least_met : (n m : ℕ) (kinds : Kind → Bool) → IsLeast (fits n m kinds) (edges_in Writes h) None → HasWritten h n rows → HasWritten h m others
-        → IsLeast (fits n m kinds) (edges_in All h) (least_from (fits n m kinds) (least_from (fits n m kinds) None (read m)) (passed n))
-    least_met n m kinds none first second =
-        let test = fits n m kinds in
-        subst (IsLeast test (all_edges h)) (least_joined test None (read m) (passed n))
-        (
-        least_covering test (read m ++ passed n) (all_edges h) (λ e there. edge_is_collected h e (is_edge n m e there))
-        (λ e there fit.
-        let edge = collected_is_edge h sound e there in
-        let w = ends n m kinds e fit in
-        let met : Contains (read m ++ passed n) e =
-        subst (λ i. Contains (read m ++ passed i) e) w.0
-        (subst (λ j. Contains (read j ++ passed e.from) e) w.1
-        (is_met e (subst (λ i. HasWritten h i rows) (sym w.0) first) (subst (λ j. HasWritten h j others) (sym w.1) second) edge (none_writes h sound n m kinds none e edge fit))) in
-        (e, met, (fit, ap is_lt (tied_itself edges_total e))))
-        )
+      -- where no write-dependency fits and a read-dependency does, the least is met by the reader
+      pub least_read : have_read there kinds ≡ true → HasWritten h n rows → IsLeast (fits n m kinds) (edges_in All h) (least_from (fits n m kinds) None (met m))
+      least_read reads has =
+          least_covering (fits n m kinds) (met m) (edges_in All h) (λ e found. edge_is_collected h e (met_edge sound m rows e found))
+          (λ e found fit.
+          elim (is_read e.kind) as (λ b. is_read e.kind ≡ b → Covers (met m) e) [
+            | true ↦ λ read. itself (met m) e (is_read_edge has e found fit read) fit
+            | false ↦ λ other.
+                let kind = kind_read there kinds reads in
+                let some = some_edge h sound n m there kinds exact kind.0 kind.2 in
+                let w = ends n m kinds e fit in
+                let low = read_low kind.0 kind.1 in
+                let high = anti_high e.kind (is_rest e.kind (no_write h sound n m there kinds exact none e found fit) other) in
+                (edge_of n m kind.0 some.0, is_read_edge has (edge_of n m kind.0 some.0) some.1 some.2 kind.1, (some.2, not_less e (edge_of n m kind.0 some.0) w.0 w.1 (omega (arith, low, high))
+                (λ same. absurd (omega (arith, low, high, ap kind_place same)))))
+          ] refl)
+
+      -- where none of both does, the least is met by the first
+      pub least_anti : have_read there kinds ≡ false → HasWritten h m rows → IsLeast (fits n m kinds) (edges_in All h) (least_from (fits n m kinds) None (met n))
+      least_anti reads has =
+          least_covering (fits n m kinds) (met n) (edges_in All h) (λ e found. edge_is_collected h e (met_edge sound n rows e found))
+          (λ e found fit.
+          elim (is_read e.kind) as (λ b. is_read e.kind ≡ b → Covers (met n) e) [
+            | true ↦ λ read. absurd (false≢true (sym reads ∙ read_kind there kinds e.kind read (fits_both h sound n m there kinds exact e found fit)))
+            | false ↦ λ other.
+                let w = ends n m kinds e fit in
+                let anti = is_rest e.kind (no_write h sound n m there kinds exact none e found fit) other in
+                itself (met n) e (subst (λ k. Contains (met k) e) w.0 (met_anti e (subst (λ k. HasWritten h k rows) (sym w.1) has) (collected_is_edge h sound e found) anti)) fit
+          ] refl)

@@ -5,7 +5,7 @@ use Rattle.std.specs.FinMap as finite
 use Rattle.lab_table.{specs.Row.{Row, row_cmp}, proofs.{Members.{no_member, first_member, only_member}, Tests.{some_of}}}
 use Rattle.lab_history.specs.{History.{History}, Version.{installers, place_in, new_state}, declared.operation.Op.{Op}}
 use Rattle.lab_deps.specs.{Collected.{committed_ops}, EdgeOrder.{kind_place, edge_cmp}, Edges.{InstallsAt, Depends, IsEdge}, KindBits.{edge_of}}
-use Rattle.lab_deps.specs.{LeastEdge.{fits, least_from, IsLeast}, Meetings.{is_next, installs_next, steps_found, first_steps}, Passes.{first_entry}, Scopes.{edges_in}, Soundness.{IsSound, Stands}}
+use Rattle.lab_deps.specs.{LeastEdge.{fits, least_from, IsLeast, AreThere}, Meetings.{is_next, installs_next, steps_found, first_steps}, Passes.{first_entry}, Scopes.{edges_in}, Soundness.{IsSound, Stands}}
 use Rattle.lab_deps.specs.declared.{edge.{Edge.{Edge}, Kind.{Kind, TheVariants.{Write, ItemRead, PredicateRead, ItemAnti, PredicateAnti}}}, fault.LocalFault.TheVariants.{InstallOrder}, scope.Scope.TheVariants.{All, Writes}}
 use Rattle.lab_deps.proofs.{Above.{Above}, CollectedEdges.{collected_is_edge, edge_is_collected}, EdgeOrders.{same_kind}, InstalledOnce.{found_place, writing_op}, Installers.{installer_committed}}
 use Rattle.lab_deps.proofs.{LeastEdges.{least_covering}, Membership.{from_each, of_each}, Places.{place_there}, Rows.{found_passes, above_in_map}, WriteEdges.{are_writes, writes_are}}
@@ -23,7 +23,7 @@ by_kind a b rest behind same =
     ] refl
 
 -- an edge of a kind that isn't before another's, and of the same kind at no lesser row, isn't less
-not_less : (e f : Edge) → e.from ≡ f.from → e.to ≡ f.to → kind_place f.kind ≤ kind_place e.kind → (e.kind ≡ f.kind → is_lt (row_cmp e.row f.row) ≡ false) → is_lt (edge_cmp e f) ≡ false
+pub not_less : (e f : Edge) → e.from ≡ f.from → e.to ≡ f.to → kind_place f.kind ≤ kind_place e.kind → (e.kind ≡ f.kind → is_lt (row_cmp e.row f.row) ≡ false) → is_lt (edge_cmp e f) ≡ false
 not_less e f from to behind rows =
     ap is_lt
     (
@@ -131,12 +131,12 @@ module _ (h : History) (placed : (row : Row) → Stands h (InstallOrder row) →
       least_covering (fits n m kinds) (flat_map (first_steps h n m) (committed_ops h n)) (edges_in Writes h) (λ e there. writes_are h placed e (step_edge n m e there))
       (λ e there fit. let w = are_writes h placed e there in step_cover n m kinds e w.0 w.1 fit)
 
-module _ (h : History) (sound : IsSound h) (n m : ℕ) (kinds : Kind → Bool) where
+module _ (h : History) (sound : IsSound h) (n m : ℕ) (there kinds : Kind → Bool) (exact : AreThere (edges_in All h) n m there) where
   placed_of : (row : Row) → Stands h (InstallOrder row) → ⊥
   placed_of row = sound (InstallOrder row)
 
   -- the least write-dependency is the least of all
-  pub stays_least : (e : Edge) → IsLeast (fits n m kinds) (edges_in Writes h) (Some e) → IsLeast (fits n m kinds) (edges_in All h) (Some e)
+  stays_least : (e : Edge) → IsLeast (fits n m kinds) (edges_in Writes h) (Some e) → IsLeast (fits n m kinds) (edges_in All h) (Some e)
   stays_least e l = record {
     there = λ f is. (edge_is_collected h f (are_writes h placed_of f (l.there f is).0).0, (l.there f is).1);
     least = λ f has fit.
@@ -152,6 +152,25 @@ module _ (h : History) (sound : IsSound h) (n m : ℕ) (kinds : Kind → Bool) w
           not_less f e (mine.0 ∙ sym its.0) (mine.1 ∙ sym its.1) (subst (λ k. kind_place k ≤ kind_place f.kind) (sym is_write) (none_before f.kind))
           (λ same. absurd (false≢true (sym off ∙ ap (λ k. kind_place k == 0) (same ∙ is_write))))
 
-  -- where there is none, no edge that fits is one
-  pub none_writes : IsLeast (fits n m kinds) (edges_in Writes h) None → (e : Edge) → IsEdge h e → fits n m kinds e ≡ true → e.kind ≡ Write → ⊥
-  none_writes l e edge fit is_write = false≢true (sym (l.least e (writes_are h placed_of e (edge, is_write)) fit))
+  -- a kind of an edge that fits is in both sets
+  pub fits_both : (e : Edge) → Contains (edges_in All h) e → fits n m kinds e ≡ true → (there e.kind && kinds e.kind) ≡ true
+  fits_both e has fit =
+      let w = ends n m kinds e fit in
+      and_from (there e.kind) (kinds e.kind) ((exact e.kind).1 (e.row, subst (Contains (edges_in All h)) (λ i. edge_of (w.0 i) (w.1 i) e.kind e.row) has)) w.2
+
+  pub no_write : (there Write && kinds Write) ≡ false → (e : Edge) → Contains (edges_in All h) e → fits n m kinds e ≡ true → e.kind ≡ Write → ⊥
+  no_write none e has fit is = false≢true (sym none ∙ subst (λ k. (there k && kinds k) ≡ true) is (fits_both e has fit))
+
+  -- and of a kind in both there is one
+  pub some_edge : (kind : Kind) → (there kind && kinds kind) ≡ true → (row : Row) × Contains (edges_in All h) (edge_of n m kind row) × (fits n m kinds (edge_of n m kind row) ≡ true)
+  some_edge kind both =
+      let parts = and_parts (there kind) (kinds kind) both in
+      let w = (exact kind).0 parts.0 in
+      (w.0, w.1, and_from (n == n) (m == m && kinds kind) (eq-eqb n n refl) (and_from (m == m) (kinds kind) (eq-eqb m m refl) parts.1))
+
+  -- so where one is wanted and there, the least of the write-dependencies is the least of all
+  pub writes_least : (there Write && kinds Write) ≡ true → (found : Option Edge) → IsLeast (fits n m kinds) (edges_in Writes h) found → IsLeast (fits n m kinds) (edges_in All h) found
+  writes_least both None l =
+      let w = some_edge Write both in
+      absurd (false≢true (sym (l.least (edge_of n m Write w.0) (writes_are h placed_of (edge_of n m Write w.0) (collected_is_edge h sound (edge_of n m Write w.0) w.1, refl)) w.2)))
+  writes_least both (Some e) l = stays_least e l

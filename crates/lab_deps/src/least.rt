@@ -1,17 +1,18 @@
 //! The least dependency of one transaction on another.
 
-ghost use Rattle.std.specs.Prelude.{◌≡◌, ◌++◌, ℕ, cond, Some, None, List, IfOk, OnOk};
+ghost use Rattle.std.specs.Prelude.{◌≡◌, ◌++◌, ◌&&◌, ℕ, cond, false, Some, None, List, IfOk, OnOk};
 ghost use Rattle.std.specs.List.{flat_map};
 ghost use Rattle.std.specs.FinMap as map;
 ghost use Rattle.lab_deps.specs.Collected.{committed_ops};
 ghost use Rattle.lab_deps.specs.EdgesByRow.{rows_of};
 ghost use Rattle.lab_deps.specs.KindSets.{among};
-ghost use Rattle.lab_deps.specs.LeastEdge.{fits, comes_first, lesser, least_from, IsLeast};
+ghost use Rattle.lab_deps.specs.LeastEdge.{fits, comes_first, lesser, least_from, IsLeast, AreThere, have_read};
 ghost use Rattle.lab_deps.specs.Meetings.{installs_next, steps_found, first_steps, met_by};
 ghost use Rattle.lab_deps.specs.Numbering.{HasPlaces};
 ghost use Rattle.lab_deps.specs.Passes.{first_entry};
 ghost use Rattle.lab_deps.specs.Scopes.{Allows, edges_in};
 ghost use Rattle.lab_deps.specs.Soundness.{IsSound};
+ghost use Rattle.lab_deps.specs.declared.edge.Kind.TheVariants as kind;
 ghost use Rattle.lab_deps.specs.declared.scope.Scope.TheVariants as meant;
 
 use crate::collect::{committed_ops, edges_met};
@@ -34,7 +35,8 @@ pub struct Wanted {
     pub kinds: Kinds,
 }
 
-/// The least of the edges that are meant and wanted. NoMemory where an allocation was refused.
+/// The least of the edges that are meant and wanted; these kinds of edges are there between the two. NoMemory where an
+/// allocation was refused.
 ///
 /// No row is looked at that neither of the two wrote: so it costs what the two did, however long the history is.
 pub fn least_of_two(
@@ -42,21 +44,36 @@ pub fn least_of_two(
     history: &History,
     rows: &IndexMap<RowName, Versions>,
     scope: Scope,
+    there: Kinds,
     wanted: &Wanted,
 ) -> Result<Option<Edge>, NoMemory>
     requires allowed { Allows scope history.now }
     requires versions { rows.now.entries ≡ rows_of history.now }
+    requires there { AreThere (edges_in scope history.now) wanted.now.from wanted.now.to (among there) }
     ensures { IfOk result (λ least. (ps : List ℕ) → HasPlaces history.now ps → IsLeast (fits wanted.now.from wanted.now.to (among wanted.now.kinds)) (edges_in scope history.now) least) }
 {
-    let steps = steps_of(alloc, history, wanted.from, wanted.to)?;
-    let step = least_from(None, wanted, &steps);
     match scope {
-        Scope::Writes => Ok(step),
-        Scope::All => match step {
-            None => least_beyond(alloc, history, rows, wanted),
-            Some(edge) => Ok(Some(edge)),
-        },
+        Scope::Writes => least_step(alloc, history, wanted),
+        Scope::All => {
+            if there.has(Kind::Write) && wanted.kinds.has(Kind::Write) {
+                least_step(alloc, history, wanted)
+            } else {
+                least_beyond(alloc, history, rows, there, wanted)
+            }
+        }
     }
+}
+
+/// The least of the write-dependencies that are wanted. NoMemory where an allocation was refused.
+fn least_step(
+    alloc: Global,
+    history: &History,
+    wanted: &Wanted,
+) -> Result<Option<Edge>, NoMemory>
+    ensures { IfOk result (λ least. least ≡ least_from (fits wanted.now.from wanted.now.to (among wanted.now.kinds)) None (flat_map (first_steps history.now wanted.now.from wanted.now.to) (committed_ops history.now wanted.now.from))) }
+{
+    let steps = steps_of(alloc, history, wanted.from, wanted.to)?;
+    Ok(least_from(None, wanted, &steps))
 }
 
 /// The write-dependencies of one transaction on another, of each operation's rows at the first at which there is one.
@@ -119,24 +136,36 @@ fn least_beyond(
     alloc: Global,
     history: &History,
     rows: &IndexMap<RowName, Versions>,
+    there: Kinds,
     wanted: &Wanted,
 ) -> Result<Option<Edge>, NoMemory>
     requires sound { IsSound history.now }
     requires versions { rows.now.entries ≡ rows_of history.now }
-    requires none { IsLeast (fits wanted.now.from wanted.now.to (among wanted.now.kinds)) (edges_in meant.Writes history.now) None }
+    requires there { AreThere (edges_in meant.All history.now) wanted.now.from wanted.now.to (among there) }
+    requires none { (among there kind.Write && among wanted.now.kinds kind.Write) ≡ false }
     ensures { IfOk result (λ least. (ps : List ℕ) → HasPlaces history.now ps → IsLeast (fits wanted.now.from wanted.now.to (among wanted.now.kinds)) (edges_in meant.All history.now) least) }
 {
-    let written = rows_written(alloc, history, wanted.from)?;
-    let read = least_of_ops(alloc, None, wanted, history, rows, wanted.to, &written)?;
-    let others = rows_written(alloc, history, wanted.to)?;
-    least_of_ops(alloc, read, wanted, history, rows, wanted.from, &others)
+    if have_read(there, wanted.kinds) {
+        let written = rows_written(alloc, history, wanted.from)?;
+        least_of_ops(alloc, wanted, history, rows, wanted.to, &written)
+    } else {
+        let written = rows_written(alloc, history, wanted.to)?;
+        least_of_ops(alloc, wanted, history, rows, wanted.from, &written)
+    }
 }
 
-/// The least of an edge, if there is one, and those of a transaction's operations at some rows. NoMemory where an
-/// allocation was refused.
+/// Whether a kind of read-dependency is among both.
+fn have_read(there: Kinds, kinds: Kinds) -> bool
+    ensures { result ≡ have_read (among there) (among kinds) }
+{
+    (there.has(Kind::ItemRead) && kinds.has(Kind::ItemRead))
+        || (there.has(Kind::PredicateRead) && kinds.has(Kind::PredicateRead))
+}
+
+/// The least of the edges of a transaction's operations at some rows that are wanted. NoMemory where an allocation was
+/// refused.
 fn least_of_ops(
     alloc: Global,
-    least: Option<Edge>,
     wanted: &Wanted,
     history: &History,
     rows: &IndexMap<RowName, Versions>,
@@ -144,10 +173,10 @@ fn least_of_ops(
     written: &[RowName],
 ) -> Result<Option<Edge>, NoMemory>
     requires { rows.now.entries ≡ rows_of history.now }
-    ensures { IfOk result (λ found. (ps : List ℕ) → HasPlaces history.now ps → found ≡ least_from (fits wanted.now.from wanted.now.to (among wanted.now.kinds)) least (flat_map (met_by history.now txn written.now) (committed_ops history.now txn))) }
+    ensures { IfOk result (λ found. (ps : List ℕ) → HasPlaces history.now ps → found ≡ least_from (fits wanted.now.from wanted.now.to (among wanted.now.kinds)) None (flat_map (met_by history.now txn written.now) (committed_ops history.now txn))) }
 {
-    let mut least = least;
     let ops = committed_ops(history, txn);
+    let mut least = None;
     for op in ops {
         let edges = edges_met(alloc, history, rows, txn, op, written)?;
         least = least_from(least, wanted, &edges);

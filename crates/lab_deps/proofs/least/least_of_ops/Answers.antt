@@ -1,4 +1,4 @@
-use Rattle.std.{proofs.{Common.{◌≡◌, ◌+◌, ◌∷◌, drop, sym, ap, ◌∙◌}, lemmas.List.{drop_all, drop_more}}, specs.List.{flat_map}}
+use Rattle.std.{proofs.{Common.{◌≡◌, ◌+◌, ◌∷◌, None, drop, sym, ap, ◌∙◌}, lemmas.List.{drop_all, drop_more}}, specs.List.{flat_map}}
 use Rattle.lab_deps.{specs.{KindSets.{among}, LeastEdge.{fits, least_from}, Meetings.{met_by}}, proofs.LeastEdges.{least_joined}}
 use Rattle.lab_deps.proofs.least.least_of_ops.Goals as goal
 
@@ -23,4 +23,4 @@ returns c ps has =
     let f = met_by a.history.now a.txn a.written.now in
     let xs = c.committed_ops-ops.result.now in
     ap (λ ys. least_from test c.loop-op.least (flat_map f ys)) (sym (drop_all c.loop-op.op-index xs c.loop-op-test.false))
-    ∙ (c.loop-op.invariant ps has ∙ ap (λ os. least_from test a.least (flat_map f os)) c.committed_ops-ops.ensures)
+    ∙ (c.loop-op.invariant ps has ∙ ap (λ os. least_from test None (flat_map f os)) c.committed_ops-ops.ensures)
