@@ -65,11 +65,7 @@ pub fn least_of_two(
 }
 
 /// The least of the write-dependencies that are wanted. NoMemory where an allocation was refused.
-fn least_step(
-    alloc: Global,
-    history: &History,
-    wanted: &Wanted,
-) -> Result<Option<Edge>, NoMemory>
+fn least_step(alloc: Global, history: &History, wanted: &Wanted) -> Result<Option<Edge>, NoMemory>
     ensures { IfOk result (λ least. least ≡ least_from (fits wanted.now.from wanted.now.to (among wanted.now.kinds)) None (flat_map (first_steps history.now wanted.now.from wanted.now.to) (committed_ops history.now wanted.now.from))) }
 {
     let steps = steps_of(alloc, history, wanted.from, wanted.to)?;
@@ -78,12 +74,7 @@ fn least_step(
 
 /// The write-dependencies of one transaction on another, of each operation's rows at the first at which there is one.
 /// NoMemory where an allocation was refused.
-fn steps_of(
-    alloc: Global,
-    history: &History,
-    from: TxnNo,
-    to: TxnNo,
-) -> Result<Vec<Edge>, NoMemory>
+fn steps_of(alloc: Global, history: &History, from: TxnNo, to: TxnNo) -> Result<Vec<Edge>, NoMemory>
     ensures { IfOk result (λ edges. edges.items ≡ flat_map (first_steps history.now from to) (committed_ops history.now from)) }
 {
     let mut edges = Vec::new(alloc);
