@@ -15,6 +15,7 @@ mod laws;
 mod member;
 mod part;
 mod reading;
+mod straight;
 mod write_fault;
 mod writing;
 

@@ -8,7 +8,7 @@ ghost use Rattle.lab_history_file.specs.FileRead.{ReadsAs};
 ghost use Rattle.lab_history_file.specs.Format.{format_in, version_in, parts_in, history_in};
 ghost use Rattle.lab_history_file.specs.HistoryFile.{HoldsHistory, IsFileFault};
 
-mod earlier;
+pub(crate) mod earlier;
 mod keys;
 mod lists;
 mod operation;
@@ -84,6 +84,9 @@ fn parts_of(alloc: Global, json: &Json) -> Result<Parts, FileFault>
 fn parts_in_file(alloc: Global, bytes: &[u8]) -> Result<Parts, FileFault>
     ensures { ReadsAs parts_in bytes.now result }
 {
+    if let Some(parts) = crate::straight::parts_in(alloc, bytes) {
+        return Ok(parts);
+    }
     match Json::from_slice(alloc, bytes) {
         Ok(json) => parts_of(alloc, &json),
         Err(error) => {
