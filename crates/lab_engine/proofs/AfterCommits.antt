@@ -64,7 +64,7 @@ module _ (level : Level) (setup : Table) (past : Past) (e : ℕ) (command : Comm
   after = record { session = e; command = command; outcome = Committed } ∷ past
 
   -- the committed version of a row is the transaction's, if it has one
-  committed_is : (row : Row) (own : Option Version) → version_by t row ≡ own → committed_version setup after row ≡ unwrap_or own (committed_version setup past row)
+  pub committed_is : (row : Row) (own : Option Version) → version_by t row ≡ own → committed_version setup after row ≡ unwrap_or own (committed_version setup past row)
   committed_is row None none = ap (λ o. unwrap_or (last_installed (commits_after Committed o (commits past)) row) (initial_version setup row)) is
       ∙ ap (λ o. unwrap_or (option_or o (last_installed (commits past) row)) (initial_version setup row)) none
   committed_is row (Some v) some = ap (λ o. unwrap_or (last_installed (commits_after Committed o (commits past)) row) (initial_version setup row)) is

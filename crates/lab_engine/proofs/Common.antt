@@ -33,7 +33,7 @@ pub use Rattle.lab_engine.specs.Recording.{IsLeastRetryable, IsLegalRecording, I
 pub use Rattle.lab_engine.specs.Sight.{comes_after, initially}
 pub use Rattle.lab_engine.specs.declared.session_state.{SessionState.{SessionState}, RunningTxn.{RunningTxn}}
 pub use Rattle.lab_engine.specs.declared.situation.Situation.{Situation}
-pub use Rattle.lab_engine.specs.Laws.{AllDone, AllNumbered, AllRan, AllRecorded, AreNumbered, AreRecorded, Began, BeginsHold, CommitsHold, IsDone, IsNumber, IsRecorded, LocksHold, NoneHas, NumbersHold, RanAt, RanBy, RecordsHold, Untouched, UntouchedAt}
+pub use Rattle.lab_engine.specs.Laws.{AllApart, AllDone, AllNumbered, AllRan, AllRecorded, AreNumbered, AreRecorded, Began, BeginsHold, CommitsHold, IsDone, IsNumber, IsRecorded, LocksHold, NoneHas, NumbersHold, RanAt, RanBy, RecordsHold, Untouched, UntouchedAt}
 pub use Rattle.lab_engine.specs.WaitsFor.{AreBlockers, AreWaits, IsRound, IsWalk, WaitsForOne, WaitsOn, is_session}
 pub use Rattle.lab_engine.specs.Gathered.{AreActive, Gathers, IsWithin, changed, changed_by, committed, new_txn, number_after, number_of, recorded, txns_after, with_ops}
 pub use Rattle.lab_engine.specs.EachRow.{each_row, first_failing, stored, value_rewritten, with_row}
