@@ -21,7 +21,7 @@ pub use Rattle.std.proofs.lemmas.Bool.{and_from, and_parts, and_right, both_ways
 pub use Rattle.std.proofs.lemmas.List.{append-nil, drop_all, drop_more, get_or-set_other, get_or-set_same, get_or_default, length-map, length-reverse, length-set, length-take-le, map-append, reverse-append, reverse-reverse, take-append-drop, take_more}
 pub use Rattle.std.specs.FinMap.{FinMap, entries, entries_sorted, find, from_sorted, get, get-entries, get-from_sorted, is_sorted, put}
 pub use Rattle.std.specs.FinMap.Entries.{below_all, by_order, find-put, is_sorted-put}
-pub use Rattle.lab_engine.specs.Rules.{Asks, BlockedBy, Blocks, ChangesRead, ComesFirst, Conflicts, ConflictsBy, ConflictsRead, Gives, HasRead, HoldsMatch, HoldsWrite, IsBelow, IsChain, IsCircle, IsEffect, IsFirstCommitter, IsFirstConflict, IsFree, IsInsertOf, IsLegal, IsUpdate, MayAsk, MayCommit, NoneChangesRead, Permitted, ReadsStand, in_view, state_after}
+pub use Rattle.lab_engine.specs.Rules.{Asks, BlockedBy, Blocks, ChangesRead, ComesFirst, Conflicts, ConflictsBy, ConflictsRead, Gives, HasRead, HoldsMatch, HoldsWrite, IsBelow, IsChain, IsCircle, IsEffect, IsEffectOn, IsFirstCommitter, IsFirstConflict, IsFree, IsInsertOf, IsLegal, IsUpdate, MayAsk, MayCommit, NoneChangesRead, Permitted, ReadsStand, in_view, state_after}
 pub use Rattle.lab_engine.specs.Situation.{Agree, Describes, DescribesAll, DescribesRows, DescribesSession, HasPlaces, HasRoom, HoldsOutcome, IsRunning, all_sessions, grown, has_written, kept_of, keeps_commits, keeps_statements, running_of, statements_of, waiting_of, written_by}
 pub use Rattle.lab_engine.specs.KeptRows.{IsReadyAt, IsSame, chain_in, chain_kept, entries_in, kept_at, pending_in, pending_kept}
 pub use Rattle.lab_engine.specs.Kept.{IsReady, IsRoomy, Kept, count, pending_of}
@@ -63,7 +63,7 @@ pub use Rattle.lab_engine.specs.Answer.{Answers, HasPlacesOfCommits, HasPlacesOf
 pub use Rattle.lab_engine.specs.EventQuery.{is_ending, is_over}
 pub use Rattle.lab_engine.specs.Engine.{Appends, IsRetry, IsStep}
 pub use Rattle.lab_table.specs.Sessions.{of_session}
-pub use Rattle.lab_engine.specs.Effect.{IsEffectFault, IsEffectOn, IsRefusalOn, IsResultOn}
+pub use Rattle.lab_engine.specs.Effect.{IsEffectFault, IsRefusalOn, IsResultOn}
 pub use Rattle.lab_engine.specs.Journal.{EngineRun}
 pub use Rattle.lab_engine.specs.RuleTable.{If, Where, rules_of}
 pub use Rattle.lab_engine.specs.declared.rules.{ConflictKind.{ConflictKind, TheVariants.{Read, Write}}, Conflict.{Conflict}}
