@@ -22,7 +22,7 @@ pub use Rattle.std.proofs.lemmas.List.{append-nil, drop_all, drop_more, get_or-s
 pub use Rattle.std.specs.FinMap.{FinMap, entries, entries_sorted, find, from_sorted, get, get-entries, get-from_sorted, is_sorted, put}
 pub use Rattle.std.specs.FinMap.Entries.{below_all, by_order, find-put, is_sorted-put}
 pub use Rattle.lab_engine.specs.Rules.{Asks, BlockedBy, Blocks, ChangesRead, ComesFirst, Conflicts, ConflictsBy, ConflictsRead, Gives, HasRead, HoldsMatch, HoldsWrite, IsBelow, IsChain, IsCircle, IsEffect, IsEffectOn, IsFirstCommitter, IsFirstConflict, IsFree, IsInsertOf, IsLegal, IsUpdate, MayAsk, MayCommit, NoneChangesRead, Permitted, ReadsStand, in_view, state_after}
-pub use Rattle.lab_engine.specs.Situation.{Agree, Describes, DescribesAll, DescribesRows, DescribesSession, HasPlaces, HasRoom, HoldsOutcome, IsRunning, all_sessions, grown, has_written, kept_of, keeps_commits, keeps_statements, running_of, statements_of, waiting_of, written_by}
+pub use Rattle.lab_engine.specs.Situation.{Agree, Describes, DescribesAll, DescribesDoing, DescribesRows, DescribesSession, HasPlaces, HasRoom, HoldsOutcome, IsRunning, all_sessions, grown, has_written, kept_by, kept_of, keeps_commits, keeps_statements, running_of, statements_of, waiting_of, written_by}
 pub use Rattle.lab_engine.specs.KeptRows.{IsReadyAt, IsSame, chain_in, chain_kept, entries_in, kept_at, pending_in, pending_kept}
 pub use Rattle.lab_engine.specs.Kept.{IsReady, IsRoomy, Kept, count, pending_of}
 pub use Rattle.lab_engine.specs.KeptCommits.{AreCommits, AreInstalled, AreWritten, commits_by, installs, kept_rows}

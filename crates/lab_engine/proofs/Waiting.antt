@@ -2,7 +2,7 @@
 use Rattle.std.proofs.lemmas.{Map.Views.{any-filter_same}, List.Kept.{IsStrictlyIncreasing-filter}}
 use Rattle.lab_engine.proofs.Common.{active, Agree, all_sessions, and_from, and_parts, Any-from_list_any, ap, AreBlockers, AreOthers, AreWaits, Asker, BlockedBy, Blocks, cases_eq, cond, Contains, Describes, DescribesSession, eq-eqb, eqb-true, filter, get_or, has, inl, inr, IsAsker, IsRunning, IsTrue, length, length-map, Level, List, list_any, list_any_at, MayAsk, ne_eqb, none_some, or_cases, or_left, or_right, Past, refl, RunningTxn, same_Some, SessionState, Situation, Some, some_is, Statement, subst, sym, Table, take, take_all, Txn, waiting, waits_for, WaitsOn, ℕ, ◌&&◌, ◌+◌, ◌<◌, ◌==◌, ◌↔◌, ◌∙◌, ◌≡◌, ◌≢◌, ◌≤◌}
 use Rattle.lab_engine.proofs.Describing.{kept_txn}
-use Rattle.lab_engine.proofs.States.{describes_one}
+use Rattle.lab_engine.proofs.States.{described_there}
 use Rattle.lab_engine.proofs.Rising.{rising, sessions_rise, kept_sessions, sessions_of, is_among, among, among_more}
 
 -- a state stands at a place of a list
@@ -25,7 +25,8 @@ module _ {level : Level} (past : Past) (situation : Situation) (d : Describes le
 
 -- a state of a situation is described
 pub described_at : {level : Level} (past : Past) (situation : Situation) (i : ℕ) (state : SessionState) → Describes level past situation → StandsAt situation.sessions i state → DescribesSession level past state
-described_at {level} past situation i state d at = subst (DescribesSession level past) (sym at.is) (describes_one level past i situation.sessions state at.lt d.states)
+described_at {level} past situation i state d at =
+    described_there situation.sessions (i + 1) i state d.sessions (omega arith) (omega (arith, at.lt, nine past situation d)) (omega arith) at.is level past d.states
 
 -- the active transaction that a state keeps
 pub running_txn : {level : Level} (past : Past) (state : SessionState) (running : RunningTxn) → DescribesSession level past state → state.running ≡ Some running

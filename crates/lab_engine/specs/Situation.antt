@@ -68,25 +68,30 @@ Agree level None (Some running) = ⊥
 Agree level (Some txn) None = ⊥
 Agree level (Some txn) (Some running) = IsRunning level txn running
 
+-- something that may be kept of a session, by the session's state
+abbrev pub kept_by : {A : Type 0} → (SessionState → Option A) → List SessionState → ℕ → Option A
+kept_by f [] session = None
+kept_by f (state ∷ states) session = cond (state.session == session) (f state) (kept_by f states session)
+
 -- the active transaction that is kept of a session, if any
 abbrev pub running_of : List SessionState → ℕ → Option RunningTxn
-running_of [] session = None
-running_of (state ∷ states) session = cond (state.session == session) state.running (running_of states session)
+running_of states session = kept_by (λ state. state.running) states session
 
 -- the statement that is kept of a session as the one that it waits with, if any
 abbrev pub waiting_of : List SessionState → ℕ → Option Statement
-waiting_of [] session = None
-waiting_of (state ∷ states) session = cond (state.session == session) state.waits (waiting_of states session)
+waiting_of states session = kept_by (λ state. state.waits) states session
 
--- what is kept of a session agrees with the log
-pub record DescribesSession (level : Level) (past : Past) (state : SessionState) : Type 0 where
-  pub waits : state.waits ≡ waiting past state.session
-  pub running : Agree level (active past state.session) state.running
+-- what is kept of a session agrees with the log: the statement that it waits with, and its active transaction
+pub record DescribesDoing (level : Level) (past : Past) (session : ℕ) (held : Option Statement) (kept : Option RunningTxn) : Type 0 where
+  pub waits : held ≡ waiting past session
+  pub running : Agree level (active past session) kept
 
--- so is it for each of some sessions
+-- so of a state, and of each session
+abbrev pub DescribesSession : Level → Past → SessionState → Type 0
+DescribesSession level past state = DescribesDoing level past state.session state.waits state.running
+
 abbrev pub DescribesAll : Level → Past → List SessionState → Type 0
-DescribesAll level past [] = ⊤
-DescribesAll level past (state ∷ states) = DescribesSession level past state × DescribesAll level past states
+DescribesAll level past states = (session : ℕ) → DescribesDoing level past session (waiting_of states session) (running_of states session)
 
 -- the version of a row that a transaction, if any, has written last
 abbrev pub written_by : Option Txn → Row → Option Version

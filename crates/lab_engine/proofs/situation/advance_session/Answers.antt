@@ -22,7 +22,7 @@ returns-clause-sessions c =
 pub returns-clause-goes_on : goal.returns-clause-goes_on
 returns-clause-goes_on c = λ level past kept at all rows.
     states_go_on c.args.states.now c.args.event.now.session c.place.result c.index-states-place.result c.requires.sessions c.place.ensures.low c.place.ensures.high c.place.ensures.value c.index-states-place.is
-    level past c.args.event.now c.take_in.new.self refl all
+    c.take_in.new.self (c.take_in.ensures.session ∙ sym (ap (λ s. s.session) c.index-states-place.is)) level past c.args.event.now refl all
     (λ d own. c.take_in.ensures.goes_on level past kept (own ∙ ap (λ s. s.session) c.index-states-place.is) at (subst (λ s. DescribesSession level past s) c.index-states-place.is d, rows))
 
 pub returns-clause-installed : goal.returns-clause-installed
