@@ -23,18 +23,10 @@ IsEffectFault sees s (OutOfRange row) = IsUpdate s × IsTrue (fails s row (sees 
 abbrev pub IsRefusalOn : (Row → Version) → Statement → EngineFault → Type 0
 IsRefusalOn sees s (refusal.DuplicateKey row) = IsEffectFault sees s (DuplicateKey row)
 IsRefusalOn sees s (refusal.OutOfRange row) = IsEffectFault sees s (OutOfRange row)
-IsRefusalOn sees s (refusal.Deadlock circle) = ⊥
-IsRefusalOn sees s (refusal.WriteConflict row by) = ⊥
-IsRefusalOn sees s refusal.NoTransaction = ⊥
-IsRefusalOn sees s refusal.AlreadyBegun = ⊥
-IsRefusalOn sees s refusal.Busy = ⊥
-IsRefusalOn sees s (refusal.ReadConflict row by) = ⊥
+IsRefusalOn sees s other = ⊥
 
 -- what a statement that nobody blocks answers: its effect, or a refusal
 abbrev pub IsResultOn : (Row → Version) → Statement → Outcome → Type 0
-IsResultOn sees s (outcome.Begun number) = ⊥
 IsResultOn sees s (outcome.Rows view rows writes) = IsEffectOn sees s view rows writes
-IsResultOn sees s outcome.Committed = ⊥
-IsResultOn sees s outcome.Aborted = ⊥
-IsResultOn sees s (outcome.Waits on) = ⊥
 IsResultOn sees s (outcome.Refused fault) = IsRefusalOn sees s fault
+IsResultOn sees s other = ⊥

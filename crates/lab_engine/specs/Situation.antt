@@ -1,5 +1,5 @@
 -- What a situation says of a log, read from its newest event.
-use Rattle.std.specs.Prelude.{◌≡◌, ◌==◌, ◌+◌, ◌≤◌, ◌<◌, ℕ, Bool, true, false, cond, Option, Some, None, option_map, option_and_then, is_some, List, [], ◌∷◌, length, reverse, IsSome, Contains, ⊤}
+use Rattle.std.specs.Prelude.{◌≡◌, ◌==◌, ◌+◌, ◌≤◌, ◌<◌, ℕ, Bool, true, cond, Option, Some, None, option_and_then, is_some, List, [], ◌∷◌, length, reverse, IsSome, Contains, ⊤}
 use Rattle.std.specs.Prelude as list
 use Rattle.std.specs.Vec.{vec_capacity}
 use Rattle.std.specs.FinMap as map
@@ -11,7 +11,7 @@ use Rattle.lab_table.specs.declared.statement.Command.{Command}
 use Rattle.lab_history.specs.declared.operation.Op.{Op}
 use Rattle.lab_engine.specs.declared.event.Level.{Level}
 use Rattle.lab_engine.specs.declared.event.Outcome.{Outcome}
-use Rattle.lab_engine.specs.declared.event.Outcome.TheVariants.{Begun, Rows as Listed, Committed, Aborted, Waits, Refused}
+use Rattle.lab_engine.specs.declared.event.Outcome.TheVariants.{Rows as Listed, Waits}
 use Rattle.lab_engine.specs.declared.row_states.RowStates.{RowStates}
 use Rattle.lab_engine.specs.declared.session_state.RunningTxn.{RunningTxn}
 use Rattle.lab_engine.specs.declared.session_state.SessionState.{SessionState}
@@ -117,12 +117,9 @@ pub record Describes (level : Level) (past : Past) (situation : Situation) : Typ
 
 -- the statement of an event that is kept behind it: one that ran, where those are kept, or one that waits
 abbrev pub kept_of : Bool → Command → Outcome → Option Statement
-kept_of keeps command (Begun n) = None
 kept_of keeps command (Listed view rows writes) = cond keeps (asked command) None
-kept_of keeps command Committed = None
-kept_of keeps command Aborted = None
 kept_of keeps command (Waits on) = asked command
-kept_of keeps command (Refused fault) = None
+kept_of keeps command other = None
 
 -- an active transaction, if one is kept, has room for these rows and, where it is kept, one more statement
 abbrev pub HasPlaces : Bool → Option RunningTxn → Writes → Type 0
@@ -132,9 +129,5 @@ HasPlaces keeps (Some running) writes = (keeps ≡ true → length running.state
 
 -- there is room for what an outcome writes
 abbrev pub HoldsOutcome : Bool → Outcome → Option RunningTxn → RowStates → Type 0
-HoldsOutcome keeps (Begun n) running rows = ⊤
 HoldsOutcome keeps (Listed view written writes) running rows = HasPlaces keeps running writes × AreReady rows writes
-HoldsOutcome keeps Committed running rows = ⊤
-HoldsOutcome keeps Aborted running rows = ⊤
-HoldsOutcome keeps (Waits on) running rows = ⊤
-HoldsOutcome keeps (Refused fault) running rows = ⊤
+HoldsOutcome keeps other running rows = ⊤
