@@ -70,7 +70,7 @@ module _ (states : List SessionState) (n k : ℕ) (state : SessionState) (sessio
   there : k < length states
   there = omega (arith, length-map states (λ state. state.session), ap length sessions, place, low, high)
 
-  number : state.session ≡ n
+  pub number : state.session ≡ n
   number = ap (λ s. s.session) is ∙ session_one 1 k states state (all_rise states sessions) there ∙ omega (arith, place, low)
 
   kept_there : {A : Type 0} (f : SessionState → Option A) → kept_by f states n ≡ f state
