@@ -108,24 +108,19 @@ module _ (level : Level) (setup : Table) (past : Past) (e k : ℕ) (off : e ≢ 
     grew = own_active ran ∙ (λ i. active_after (run i) ran past (is_txn i))
 
     before : Unasked level t ⊎ WaitsOn level setup past k e → WaitsOn level setup (after ran) k e → WaitsOn level setup past k e
-    before (inl unasked) = waits_map (after ran) past e (same_waiting ran) (other_active ran k off) (λ u asker holder is own held b. (
-      txn,
-      is_txn,
-      reads_off level setup past asker u txn op none (subst (Unasked level) (same_Some t u (sym waits ∙ sym (same_waiting ran) ∙ is)) unasked)
-          ((same_blocks level setup past e command ran (λ eq. cc) asker (grown txn op) u).0 (subst (Blocks level setup (after ran) asker u) (sym (same_Some (grown txn op) holder (sym grew ∙ held))) b)),
-    ))
+    before (inl unasked) = waits_map (after ran) past e (same_waiting ran) (other_active ran k off) (λ u asker holder is own held b.
+        let now = subst (Blocks level setup (after ran) asker u) (sym (same_Some (grown txn op) holder (sym grew ∙ held))) b in
+        let lists = subst (Unasked level) (same_Some t u (sym waits ∙ sym (same_waiting ran) ∙ is)) unasked in
+        (txn, is_txn, reads_off level setup past asker u txn op none lists ((same_blocks level setup past e command ran (λ eq. cc) asker (grown txn op) u).0 now)))
     before (inr was) = λ _. was
 
+    behind : WaitsOn level setup past k e → WaitsOn level setup (after ran) k e
+    behind = waits_map past (after ran) e (sym (same_waiting ran)) (sym (other_active ran k off)) (λ u asker holder is own held b.
+        let was = subst (Blocks level setup past asker u) (same_Some holder txn (sym held ∙ is_txn)) b in
+        (grown txn op, grew, (same_blocks level setup past e command ran (λ eq. cc) asker (grown txn op) u).1 (reads_on level setup past asker u txn op none was)))
+
     reads_waits : Unasked level t ⊎ WaitsOn level setup past k e → (other : ℕ) → SameFor ran other
-    reads_waits why = quiet ran (λ eq. cc) (
-      before why,
-      waits_map past (after ran) e (sym (same_waiting ran)) (sym (other_active ran k off)) (λ u asker holder is own held b. (
-        grown txn op,
-        grew,
-        (same_blocks level setup past e command ran (λ eq. cc) asker (grown txn op) u).1
-            (reads_on level setup past asker u txn op none (subst (Blocks level setup past asker u) (same_Some holder txn (sym held ∙ is_txn)) b)),
-      )),
-    )
+    reads_waits why = quiet ran (λ eq. cc) (before why, behind)
 
   -- another session that waits behind an event waits for the same, where it waited for no transaction that the event ended, and
   pub same_waits : (outcome : Outcome) (t : Statement) → IsLegal level setup past → Permitted level setup past e command outcome → (IsTrue (is_over outcome) → ¬ WaitsOn level setup past k e)
