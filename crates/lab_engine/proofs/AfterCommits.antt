@@ -1,8 +1,6 @@
 -- Whom a commit leaves blocked as before: those whom its transaction didn't block.
-use Rattle.lab_table.specs.{Statement.{kind_matches, kind_would_write, applied, new_state}, declared.statement.StatementKind.TheVariants.{Select, Update, Insert, Delete}}
-use Rattle.lab_engine.proofs.Common.{active, ap, Blocks, Bool, both_ways, Command, commits, commits_after, Committed, committed_version, cond, false, false_from_ne_true, has_read, initial_version, inl, inr, is_some, IsSome, IsTrue, last_installed, Level, List, matches, None, Option, option_map, option_or, or_parts, Past, refl, Row, rules_of, seen, sees_as_of_begin, Some, State, Statement, StatementKind, subst, sym, Table, true, Txn, unwrap_or, Version, version_by, would_write, ℕ, ℤ, ◌||◌, ◌↔◌, ◌∙◌, ◌∷◌, ◌≡◌, ◌⊎◌}
-use Rattle.lab_engine.proofs.Blockers.{blocks_by_match, blocks_by_write, blocks_map}
-use Rattle.lab_engine.proofs.RuleTables.{readers_locked}
+use Rattle.lab_table.specs.{Statement.{applied, kind_matches, kind_would_write, new_state}, declared.statement.StatementKind.TheVariants.{Delete, Insert, Select, Update}}
+use Rattle.lab_engine.proofs.{Common.{active, ap, Blocks, Bool, both_ways, Command, commits, commits_after, Committed, committed_version, cond, false, false_from_ne_true, has_read, initial_version, inl, inr, is_some, IsSome, IsTrue, last_installed, Level, List, matches, None, Option, option_map, option_or, or_parts, Past, refl, Row, rules_of, seen, sees_as_of_begin, Some, State, Statement, StatementKind, subst, sym, Table, true, Txn, unwrap_or, Version, version_by, would_write, ℕ, ℤ, ◌||◌, ◌↔◌, ◌∙◌, ◌∷◌, ◌≡◌, ◌⊎◌}, Blockers.{blocks_by_match, blocks_by_write, blocks_map}, RuleTables.{readers_locked}}
 
 -- what a statement wouldn't write in one state it wouldn't write in one that it doesn't match either
 still_unwritten : (t : List ℕ) (kind : StatementKind) (row : Row) (old new : State) → kind_matches t kind row new ≡ false → kind_would_write t kind row old ≡ false

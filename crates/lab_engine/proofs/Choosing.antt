@@ -1,7 +1,5 @@
 -- Which sessions are chosen by a test of their active transactions.
-use Rattle.lab_engine.proofs.Common.{active, Agree, and_comm, and_from, and_parts, ap, AreOthers, arith, Asker, Bool, both_ways, cond, Describes, eq-eqb, eqb_tells, false, has, inl, inr, IsOther, IsRunning, IsTrue, Level, List, ne_eqb, None, none_some, not, Option, or-false, Past, refl, running_of, RunningTxn, same_Some, SessionState, Situation, Some, subst, suc, sym, true≢false, Txn, [], ℕ, ◌&&◌, ◌<◌, ◌==◌, ◌||◌, ◌↔◌, ◌∙◌, ◌∷◌, ◌≡◌}
-use Rattle.lab_engine.specs.Chosen.{has_passing, is_passing_other, is_chosen}
-use Rattle.lab_engine.proofs.States.{Rise, all_rise}
+use Rattle.lab_engine.{proofs.{Common.{active, Agree, and_comm, and_from, and_parts, ap, AreOthers, arith, Asker, Bool, both_ways, cond, Describes, eq-eqb, eqb_tells, false, has, inl, inr, IsOther, IsRunning, IsTrue, Level, List, ne_eqb, None, none_some, not, Option, or-false, Past, refl, running_of, RunningTxn, same_Some, SessionState, Situation, Some, subst, suc, sym, true≢false, Txn, ℕ, [], ◌&&◌, ◌<◌, ◌==◌, ◌||◌, ◌↔◌, ◌∙◌, ◌∷◌, ◌≡◌}, States.{all_rise, Rise}}, specs.Chosen.{has_passing, is_chosen, is_passing_other}}
 
 -- a test says of what is kept of each active transaction whether something holds of it
 abbrev pub Tells : Level → Past → (ℕ → RunningTxn → Bool) → (Txn → Type 0) → Type 0

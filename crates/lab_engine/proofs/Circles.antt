@@ -1,7 +1,5 @@
 -- Cycles of sessions, each blocked by the next, as walks along the graph of who waits for whom.
-use Rattle.lab_engine.proofs.Common.{ap, AreWaits, arith, BlockedBy, both_ways, cases_eq, Contains, Err, false, false_from_ne_true, IfOk, inl, inr, IsChain, IsCircle, IsLeastCircle, IsRetryable, IsRound, IsTrue, IsWalk, length, Level, List, list_any, MatchOption, MayAsk, None, NotAfter, Ok, Option, Past, refl, Result, same_Some, Some, Statement, subst, suc, sym, Table, waiting, waits_for, WaitsOn, [], ℕ, ◌<◌, ◌==◌, ◌∙◌, ◌∷◌, ◌≡◌, ◌≢◌, ◌≤◌, ◌⊎◌}
-use Rattle.lab_engine.specs.{LeastWalk.{IsLeastRound}, Released.{IsReleased}}
-use Rattle.lab_engine.proofs.Waiting.{contains_any, asked_is, AreWaitsWith}
+use Rattle.lab_engine.{proofs.{Common.{ap, AreWaits, arith, BlockedBy, both_ways, cases_eq, Contains, Err, false, false_from_ne_true, IfOk, inl, inr, IsChain, IsCircle, IsLeastCircle, IsRetryable, IsRound, IsTrue, IsWalk, length, Level, List, list_any, MatchOption, MayAsk, None, NotAfter, Ok, Option, Past, refl, Result, same_Some, Some, Statement, subst, suc, sym, Table, waiting, waits_for, WaitsOn, ℕ, [], ◌<◌, ◌==◌, ◌∙◌, ◌∷◌, ◌≡◌, ◌≢◌, ◌≤◌, ◌⊎◌}, Waiting.{AreWaitsWith, asked_is, contains_any}}, specs.{LeastWalk.{IsLeastRound}, Released.{IsReleased}}}
 
 -- a walk begins with a step
 first_step : (waits : List ℕ) (session : ℕ) (rest : List ℕ) (goal : ℕ) → IsWalk waits session rest goal → (other : ℕ) × IsTrue (waits_for waits session other)

@@ -1,6 +1,5 @@
 -- Nothing that a log tells is more than its events are.
-use Rattle.lab_engine.proofs.Common.{active, Agree, arith, Begun, begun, begun_after, DescribesSession, HasRoom, length, Level, None, Option, Outcome, Past, refl, RunningTxn, SessionState, Some, Txn, [], ℕ, ◌+◌, ◌<◌, ◌∷◌, ◌≡◌, ◌≤◌}
-use Rattle.lab_engine.proofs.LockSteps.{each_active}
+use Rattle.lab_engine.proofs.{Common.{active, Agree, arith, Begun, begun, begun_after, DescribesSession, HasRoom, length, Level, None, Option, Outcome, Past, refl, RunningTxn, SessionState, Some, Txn, ℕ, [], ◌+◌, ◌<◌, ◌∷◌, ◌≡◌, ◌≤◌}, LockSteps.{each_active}}
 
 -- an active transaction has run at most as many operations as there were events
 at_most : (past : Past) (session : ℕ) (txn : Txn) → active past session ≡ Some txn → length txn.ops ≤ length past

@@ -1,7 +1,6 @@
 -- What is gathered goes on with the log.
-use Rattle.lab_engine.proofs.Common.{active, active_after, ap, AreActive, arith, begun, Command, cond, eqb_tells, Gathering, Gathers, get_or, inl, inr, is_fatal, IsLegal, IsWithin, length, length-map, Level, List, Listed, LogEvent, map as each, None, number_after, number_of, of_session, Option, Outcome, Past, past_of, recorded, refl, Refused, same_Some, Some, subst, sym, Table, take, true, false, Txn, txns_after, [], ℕ, ◌+◌, ◌<◌, ◌==◌, ◌∙◌, ◌∷◌, ◌≡◌, ◌≤◌}
-use Rattle.lab_table.proofs.SessionOrder.{own_value, other_value}
-use Rattle.lab_engine.proofs.{GatheredNumbers.{recorded_length}, Numbers.{numbers_hold}, Runs.{front_more}, TxnsAfterEvents.{txns_go}}
+use Rattle.lab_engine.proofs.{Common.{active, active_after, ap, AreActive, arith, begun, Command, cond, eqb_tells, false, Gathering, Gathers, get_or, inl, inr, is_fatal, IsLegal, IsWithin, length, length-map, Level, List, Listed, LogEvent, map as each, None, number_after, number_of, of_session, Option, Outcome, Past, past_of, recorded, refl, Refused, same_Some, Some, subst, sym, Table, take, true, Txn, txns_after, ℕ, [], ◌+◌, ◌<◌, ◌==◌, ◌∙◌, ◌∷◌, ◌≡◌, ◌≤◌}, GatheredNumbers.{recorded_length}, Numbers.{numbers_hold}, Runs.{front_more}, TxnsAfterEvents.{txns_go}}
+use Rattle.lab_table.proofs.SessionOrder.{other_value, own_value}
 
 -- nothing is told before the first event
 pub nothing_gathered : (gathered : Gathering) → AreActive [] gathered.active → gathered.txns.items ≡ [] → Gathers [] gathered

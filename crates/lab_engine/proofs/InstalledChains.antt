@@ -1,7 +1,5 @@
 -- Chains of installed versions: what they say of the versions at a begin.
-use Rattle.lab_engine.proofs.Common.{active, ap, append_assoc, arith, Began, chain, chain_after, commits, commits_after, Committed, cond, false, first_since, if_any, installed_by, installers, is_some, last_before, last_installed, le-ltb, length, length-append, List, longer, lt-ltb, map, map-append, None, Option, option_or, Outcome, Past, refl, reverse, reverse-append, reverse-reverse, Row, Some, subst, sym, true≢false, Txn, unwrap_or, Version, version_by, writers, [], ℕ, ◌++◌, ◌<◌, ◌==◌, ◌∙◌, ◌∷◌, ◌≡◌, ◌≤◌}
-use Rattle.lab_engine.specs.declared.row_state.Installed.{Installed}
-use Rattle.lab_engine.proofs.Begins.{begins_hold}
+use Rattle.lab_engine.{proofs.{Common.{active, ap, append_assoc, arith, Began, chain, chain_after, commits, commits_after, Committed, cond, false, first_since, if_any, installed_by, installers, is_some, last_before, last_installed, le-ltb, length, length-append, List, longer, lt-ltb, map, map-append, None, Option, option_or, Outcome, Past, refl, reverse, reverse-append, reverse-reverse, Row, Some, subst, sym, true≢false, Txn, unwrap_or, Version, version_by, writers, ℕ, [], ◌++◌, ◌<◌, ◌==◌, ◌∙◌, ◌∷◌, ◌≡◌, ◌≤◌}, Begins.{begins_hold}}, specs.declared.row_state.Installed.{Installed}}
 
 -- ---- what a chain says
 

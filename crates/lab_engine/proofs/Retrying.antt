@@ -1,7 +1,5 @@
 -- Which waiting sessions are retryable.
-use Rattle.lab_engine.proofs.Common.{ap, arith, AreWaits, cases_eq, DescribesSession, inl, inr, is_some, IsRetryable, IsSome, Level, List, Past, SessionState, some_is, some_of, subst, sym, Table, waiting, ℕ, ◌+◌, ◌∙◌, ◌≡◌, ◌≤◌}
-use Rattle.lab_engine.specs.Released.{IsReleased}
-use Rattle.lab_engine.proofs.Circles.{released_retryable, retryable_released}
+use Rattle.lab_engine.{proofs.{Common.{ap, AreWaits, arith, cases_eq, DescribesSession, inl, inr, is_some, IsRetryable, IsSome, Level, List, Past, SessionState, some_is, some_of, subst, sym, Table, waiting, ℕ, ◌+◌, ◌∙◌, ◌≡◌, ◌≤◌}, Circles.{released_retryable, retryable_released}}, specs.Released.{IsReleased}}
 
 -- a state waits where its session does
 state_waits : {level : Level} (past : Past) (state : SessionState) → DescribesSession level past state → is_some state.waits ≡ is_some (waiting past state.session)

@@ -1,7 +1,6 @@
 -- What is kept of the sessions, as a list.
-use Rattle.lab_engine.proofs.Common.{active, active_after, Agree, all_sessions, and_parts, ap, arith, cases_eq, cond, DescribesAll, DescribesDoing, DescribesSession, eq-eqb, false, get_or, get_or-set_same, HasRoom, inl, inr, is_none, kept_by, length, length-map, length-set, IsTrue, Level, list_all, List, LogEvent, map, ne_eqb, None, Option, Past, refl, running_of, RunningTxn, SessionState, set, Statement, subst, suc, sym, waiting, waiting_after, waiting_of, zero, [], ℕ, ⊤, ◌+◌, ◌-◌, ◌<◌, ◌==◌, ◌∙◌, ◌∷◌, ◌≡◌, ◌≢◌, ◌≤◌}
+use Rattle.lab_engine.proofs.{Common.{active, active_after, Agree, all_sessions, and_parts, ap, arith, cases_eq, cond, DescribesAll, DescribesDoing, DescribesSession, eq-eqb, false, get_or, get_or-set_same, HasRoom, inl, inr, is_none, IsTrue, kept_by, length, length-map, length-set, Level, List, list_all, LogEvent, map, ne_eqb, None, Option, Past, refl, running_of, RunningTxn, SessionState, set, Statement, subst, suc, sym, waiting, waiting_after, waiting_of, zero, ℕ, ⊤, [], ◌+◌, ◌-◌, ◌<◌, ◌==◌, ◌∙◌, ◌∷◌, ◌≡◌, ◌≢◌, ◌≤◌}, EventBounds.{has_room}}
 use Rattle.std.proofs.Math.Seq.{map-set_same}
-use Rattle.lab_engine.proofs.EventBounds.{has_room}
 
 -- numbers rise by one from a number on
 abbrev NumbersRise : ℕ → List ℕ → Type 0

@@ -1,7 +1,5 @@
 -- Which rows of a transaction others have installed since its begin.
-use Rattle.lab_engine.proofs.Common.{ap, append_assoc, Asker, Bool, chain, chain_in, ComesFirst, commits, Conflict, ConflictKind, Conflicts, ConflictsBy, false, first_since, If, inl, inr, IsAsker, IsBelow, IsFirstCommitter, IsFirstConflict, IsSome, length, Level, List, None, none_some, Option, Past, Read, refl, Row, rules_of, same_Some, Some, subst, sym, Table, true, true≢false, Txn, unwrap_or, version_by, Write, writers, [], ℕ, ◌++◌, ◌∙◌, ◌∷◌, ◌≡◌}
-use Rattle.lab_engine.specs.Taken.{IsFirstTaken, IsLeastTaken}
-use Rattle.lab_engine.proofs.{InstalledChains.{SinceThen, since_begin, last_no}, RisingLists.{none_before}}
+use Rattle.lab_engine.{proofs.{Common.{ap, append_assoc, Asker, Bool, chain, chain_in, ComesFirst, commits, Conflict, ConflictKind, Conflicts, ConflictsBy, false, first_since, If, inl, inr, IsAsker, IsBelow, IsFirstCommitter, IsFirstConflict, IsSome, length, Level, List, None, none_some, Option, Past, Read, refl, Row, rules_of, same_Some, Some, subst, sym, Table, true, true≢false, Txn, unwrap_or, version_by, Write, writers, ℕ, [], ◌++◌, ◌∙◌, ◌∷◌, ◌≡◌}, InstalledChains.{last_no, since_begin, SinceThen}, RisingLists.{none_before}}, specs.Taken.{IsFirstTaken, IsLeastTaken}}
 
 -- ---- who has installed a row since a begin
 

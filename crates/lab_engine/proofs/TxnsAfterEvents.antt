@@ -1,10 +1,6 @@
 -- The transactions of a log after one more event.
-use Rattle.lab_engine.proofs.Common.{active, AllNumbered, ap, arith, Begun, begun, Bool, changed, changed_by, Command, commits, commits_after, Committed, committed, cond, end_of, eq-eqb, false, GatheredTxn, get_or, has_number, IsLegal, IsWithin, length, Level, List, list_any, Listed, LogEvent, map as each, map-append, ne_eqb, new_txn, number_of, numbers_from, Op, op_of, ops_of, Option, Outcome, Past, Permitted, recorded, Recorded, recorded_txn, recorded_txns, refl, Rows, set, Some, subst, suc, sym, Table, true, Txn, txns_after, View, with_ops, Writes, zero, [], ℕ, ◌++◌, ◌+◌, ◌-◌, ◌<◌, ◌==◌, ◌||◌, ◌∙◌, ◌∷◌, ◌≡◌, ◌≢◌, ◌≤◌}
-use Rattle.lab_history.specs.declared.transaction.Outcome.TheVariants.{Committed as EndCommitted, Aborted as EndAborted}
-use Rattle.lab_engine.proofs.Numbers.{numbers_hold}
-use Rattle.lab_engine.proofs.Records.{records_hold, nothing_added}
-use Rattle.lab_engine.specs.Recording.{has_committed}
-use Rattle.lab_engine.proofs.GatheredNumbers.{numbers_more}
+use Rattle.lab_engine.{proofs.{Common.{active, AllNumbered, ap, arith, Begun, begun, Bool, changed, changed_by, Command, commits, commits_after, Committed, committed, cond, end_of, eq-eqb, false, GatheredTxn, get_or, has_number, IsLegal, IsWithin, length, Level, List, list_any, Listed, LogEvent, map as each, map-append, ne_eqb, new_txn, number_of, numbers_from, Op, op_of, ops_of, Option, Outcome, Past, Permitted, recorded, Recorded, recorded_txn, recorded_txns, refl, Rows, set, Some, subst, suc, sym, Table, true, Txn, txns_after, View, with_ops, Writes, zero, ℕ, [], ◌++◌, ◌+◌, ◌-◌, ◌<◌, ◌==◌, ◌||◌, ◌∙◌, ◌∷◌, ◌≡◌, ◌≢◌, ◌≤◌}, Numbers.{numbers_hold}, Records.{nothing_added, records_hold}, GatheredNumbers.{numbers_more}}, specs.Recording.{has_committed}}
+use Rattle.lab_history.specs.declared.transaction.Outcome.TheVariants.{Aborted as EndAborted, Committed as EndCommitted}
 
 -- ---- transactions
 

@@ -1,7 +1,5 @@
 -- Layers of those from which walks lead to a goal, by how many stand between.
-use Rattle.lab_engine.proofs.Common.{and_from, and_parts, ap, append_assoc, arith, both_ways, cases_eq, cases_lt, eq-eqb, eqb-true, false, get_or, get_or-set_other, get_or-set_same, has, IfSome, inl, inr, is_some, IsRound, IsTrue, IsWalk, length, List, list_any, None, NotAfter, Option, or-false, or_left, refl, replicate, set, Some, subst, sym, waits_for, WaitsForOne, [], ℕ, ◌&&◌, ◌++◌, ◌+◌, ◌-◌, ◌<◌, ◌==◌, ◌↔◌, ◌∙◌, ◌∷◌, ◌≡◌, ◌≤◌, ◌⊎◌}
-use Rattle.lab_engine.specs.LeastWalk.{Leads, AreLayers, IsLeastRound, IsLeastWalk}
-use Rattle.lab_engine.proofs.Walks.{shortest_once, once_walk, once_few}
+use Rattle.lab_engine.{proofs.{Common.{and_from, and_parts, ap, append_assoc, arith, both_ways, cases_eq, cases_lt, eq-eqb, eqb-true, false, get_or, get_or-set_other, get_or-set_same, has, IfSome, inl, inr, is_some, IsRound, IsTrue, IsWalk, length, List, list_any, None, NotAfter, Option, or-false, or_left, refl, replicate, set, Some, subst, sym, waits_for, WaitsForOne, ℕ, [], ◌&&◌, ◌++◌, ◌+◌, ◌-◌, ◌<◌, ◌==◌, ◌↔◌, ◌∙◌, ◌∷◌, ◌≡◌, ◌≤◌, ◌⊎◌}, Walks.{once_few, once_walk, shortest_once}}, specs.LeastWalk.{AreLayers, IsLeastRound, IsLeastWalk, Leads}}
 
 module _ (graph : List ℕ) (goal : ℕ) where
   -- those that wait for the goal

@@ -1,10 +1,5 @@
 -- Whom a session waits for after an event that leaves this as it was.
-use Rattle.lab_engine.proofs.Common.{Aborted, active, active_after, AlreadyBegun, ap, Begun, Blocks, both_ways, Busy, cases_eq, Command, Committed, cond, eq-eqb, grown, inl, inr, is_over, IsLegal, IsTrue, Level, Listed, ne_eqb, None, none_some, NoTransaction, Op, Outcome, Past, Permitted, refl, Refused, Rows, Run, same_Some, Some, some_of, Statement, subst, sym, Table, Txn, version_by, View, waiting, waiting_after, Waits, WaitsOn, Writes, ℕ, ⊤, ◌==◌, ◌↔◌, ◌∙◌, ◌∷◌, ◌≡◌, ◌≢◌, ◌⊎◌}
-use Rattle.lab_engine.proofs.Blockers.{blocks_none}
-use Rattle.lab_engine.proofs.LockSteps.{fresh}
-use Rattle.lab_engine.proofs.Locks.{writes_apart}
-use Rattle.lab_engine.proofs.AfterCommits.{blocks_alike, still_blocked}
-use Rattle.lab_engine.proofs.AfterReads.{Unasked, reads_off, reads_on}
+use Rattle.lab_engine.proofs.{Common.{Aborted, active, active_after, AlreadyBegun, ap, Begun, Blocks, both_ways, Busy, cases_eq, Command, Committed, cond, eq-eqb, grown, inl, inr, is_over, IsLegal, IsTrue, Level, Listed, ne_eqb, None, none_some, NoTransaction, Op, Outcome, Past, Permitted, refl, Refused, Rows, Run, same_Some, Some, some_of, Statement, subst, sym, Table, Txn, version_by, View, waiting, waiting_after, Waits, WaitsOn, Writes, ℕ, ⊤, ◌==◌, ◌↔◌, ◌∙◌, ◌∷◌, ◌≡◌, ◌≢◌, ◌⊎◌}, Blockers.{blocks_none}, LockSteps.{fresh}, Locks.{writes_apart}, AfterCommits.{blocks_alike, still_blocked}, AfterReads.{reads_off, reads_on, Unasked}}
 use Rattle.std.specs.FinMap as map
 
 -- a transaction that has run nothing blocks nobody

@@ -1,5 +1,4 @@
-use Rattle.std.proofs.Common.{sym, ◌∙◌}
-use Rattle.lab_engine.proofs.{SeenRows.{seen_is}, Answering.{asking, unblocked_answers, nobody_blocks, waits_answers, deadlock_answers, none_empty, some_empty}}
+use Rattle.lab_engine.proofs.{Common.{sym, ◌∙◌}, SeenRows.{seen_is}, Answering.{asking, deadlock_answers, nobody_blocks, none_empty, some_empty, unblocked_answers, waits_answers}}
 use Rattle.lab_engine.proofs.answer.run_statement.Goals as goal
 
 pub returns-then-is_empty : goal.returns-then-is_empty

@@ -1,5 +1,4 @@
-use Rattle.std.proofs.Common.{refl, sym, subst, ap, is_some, ◌∙◌}
-use Rattle.lab_engine.{specs.Situation.{DescribesSession, HasRoom, HoldsOutcome}, proofs.States.{described_there, own_there, room_at, sessions_stay, states_go_on, running_there}}
+use Rattle.lab_engine.proofs.{Common.{ap, DescribesSession, HasRoom, HoldsOutcome, is_some, refl, subst, sym, ◌∙◌}, States.{described_there, own_there, room_at, running_there, sessions_stay, states_go_on}}
 use Rattle.lab_engine.proofs.situation.advance_session.Goals as goal
 
 pub take_in-requires-clause-few : goal.take_in-requires-clause-few

@@ -1,5 +1,4 @@
-use Rattle.std.proofs.Common.{◌&&◌, ap, ◌∙◌}
-use Rattle.lab_engine.{specs.SessionBits.{has}, proofs.SessionBits.{has_common, sessions_common}}
+use Rattle.lab_engine.proofs.{Common.{ap, has, ◌&&◌, ◌∙◌}, SessionBits.{has_common, sessions_common}}
 use Rattle.lab_engine.proofs.session_set.SessionSet.common.Goals as goal
 
 pub invariant_of-result : goal.invariant_of-result
