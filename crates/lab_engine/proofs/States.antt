@@ -48,9 +48,9 @@ none_kept f (state ∷ states) all session =
 -- what is kept of a session agrees with the log by another name of each
 doing_as : {level : Level} {past : Past} {session other : ℕ} {held again : Option Statement} {kept anew : Option RunningTxn} → session ≡ other → held ≡ again → kept ≡ anew
     → DescribesDoing level past session held kept → DescribesDoing level past other again anew
-doing_as {level} {past} p q r d = record {
+doing_as {level} {past} {session} {other} {held} {again} {kept} p q r d = record {
   waits = sym q ∙ d.waits ∙ ap (waiting past) p;
-  running = subst (Agree level (active past _)) r (subst (λ s. Agree level (active past s) _) p d.running);
+  running = subst (Agree level (active past other)) r (subst (λ s. Agree level (active past s) kept) p d.running);
 }
 
 -- after an event of another session too
