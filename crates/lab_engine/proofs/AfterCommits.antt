@@ -25,11 +25,6 @@ alike_over : (s : Statement) (row : Row) (own : Option Version) (old new : Versi
 alike_over s row (Some v) old new off h = inl refl
 alike_over s row None old new off h = inr (h, still_unwritten s.table s.kind row old.state new.state off h)
 
--- a row that a statement would write is seen as before
-seen_as : (s : Statement) (row : Row) (old new : Version) → Alike s row old new → IsTrue (would_write s row old.state) → old ≡ new
-seen_as s row old new (inl same) writes = same
-seen_as s row old new (inr (before, now)) writes = absurd (both_ways _ before writes)
-
 module _ (level : Level) (setup : Table) (asker : Txn) where
   -- a row whose committed version is the same is seen the same
   seen_same : (past after : Past) (row : Row) → committed_version setup past row ≡ committed_version setup after row → seen level setup past asker row ≡ seen level setup after asker row
@@ -100,5 +95,5 @@ module _ (level : Level) (setup : Table) (past : Past) (e : ℕ) (command : Comm
           blocks_over level setup asker after past s holder (λ on row. sym (match_as on row (version_by t row) refl)) (λ on row some. seen_same level setup asker after past row (same on row some))
               (λ on row would. elim (alike on row (version_by t row) refl) [ inl eq ↦ sym eq | inr off ↦ absurd (both_ways _ off.1 would) ]),
           blocks_over level setup asker past after s holder (λ on row. match_as on row (version_by t row) refl) (λ on row some. seen_same level setup asker past after row (sym (same on row some)))
-              (λ on row. seen_as s row _ _ (alike on row (version_by t row) refl)),
+              (λ on row would. elim (alike on row (version_by t row) refl) [ inl eq ↦ eq | inr off ↦ absurd (both_ways _ off.0 would) ]),
         )

@@ -1,6 +1,6 @@
 -- What a session gives, and what the rules answer to it.
-use Rattle.std.{specs.{Prelude.{MatchOption, Result, IfOk, Contains, is_some, true, false, ◌==◌}, declared.alloc.AllocError.{AllocError}}, proofs.lemmas.List.{nil_from_length}}
-use Rattle.lab_engine.proofs.Common.{active, Answers, ap, AreBlockers, arith, asked, Asks, Bool, both_ways, Command, Commit, Conflict, conflict_fault, ConflictKind, Deadlock, DuplicateKey, EngineFault, eqb-false, eqb-true, Gives, IfOk-weaker, inl, inr, IsCircle, IsFirstConflict, IsFree, IsLeastCircle, IsRefusalOn, IsResultOn, length, Level, List, Listed, MayAsk, MayCommit, MayGive, None, none_of, none_some, Option, Outcome, OutOfRange, Past, Read, refl, Refused, Row, Run, seen, Some, Statement, subst, sym, Table, Txn, Version, waiting, Waits, Write, [], ℕ, ◌∙◌, ◌≡◌, ◌≢◌}
+use Rattle.std.specs.{Prelude.{MatchOption, Result, IfOk, Contains, is_some, false}, declared.alloc.AllocError.{AllocError}}
+use Rattle.lab_engine.proofs.Common.{active, Answers, ap, AreBlockers, arith, asked, Asks, Bool, both_ways, Command, Commit, Conflict, conflict_fault, ConflictKind, Deadlock, DuplicateKey, EngineFault, Gives, IfOk-weaker, inl, inr, IsCircle, IsFirstConflict, IsFree, IsLeastCircle, IsRefusalOn, IsResultOn, Level, List, Listed, MayAsk, MayCommit, MayGive, None, none_of, none_some, Option, Outcome, OutOfRange, Past, Read, refl, Refused, Row, Run, seen, Some, Statement, subst, sym, Table, Txn, Version, waiting, Waits, Write, [], ℕ, ◌∙◌, ◌≡◌, ◌≢◌}
 
 -- a command that runs no statement is given at rest
 at_rest : (past : Past) (session : ℕ) (command : Command) → asked command ≡ None → MayGive past session command → waiting past session ≡ None
@@ -73,13 +73,6 @@ module _ (level : Level) (setup : Table) (past : Past) (session : ℕ) (s : Stat
 -- a session with an active transaction asks for a statement that it may ask for
 pub asking : {past : Past} {session : ℕ} (s : Statement) (txn : Txn) → MayAsk past session s → active past session ≡ Some txn → Asks past session (Run s) s txn
 asking s txn may has = record { command_is = refl; may_ask = may; active_is = has }
-
--- a list that is empty, and one that isn't, by what is_empty says of it
-pub none_empty : (shown xs : List ℕ) → shown ≡ xs → true ≡ (length shown == 0) → xs ≡ []
-none_empty shown xs same is = sym same ∙ nil_from_length shown (eqb-true (length shown) 0 (sym is))
-
-pub some_empty : (shown xs : List ℕ) → shown ≡ xs → (length shown == 0) ≡ false → xs ≢ []
-some_empty shown xs same is none = eqb-false (length shown) 0 is (ap length (same ∙ none))
 
 -- what the rules say of a commit, where they found no conflict and where they found one
 abbrev Looked : Level → Table → Past → Txn → Option Conflict → Type 0

@@ -18,7 +18,7 @@ pub use Rattle.lab_engine.specs.declared.event.EngineFault.TheVariants.{AlreadyB
 pub use Rattle.lab_engine.specs.declared.event.LogEvent.{LogEvent}
 pub use Rattle.lab_engine.specs.Log.{Past, Txn, Version, active, active_after, asked, begun, begun_after, commits, commits_after, committed_version, has_read, initial_version, installers, is_fatal, last_installed, last_version, ops_after, past_of, seen, sight, version_by, version_or, waiting, waiting_after, writers}
 pub use Rattle.std.proofs.lemmas.Bool.{and_from, and_parts, and_right, both_ways, cases_eq, cases_lt, eq-eqb, eqb-false, eqb-true, false_from_ne_true, false≢true, ne_eqb, not-true, or_cases, or_from, or_left, or_parts, or_right, true≢false}
-pub use Rattle.std.proofs.lemmas.List.{append-nil, drop_all, drop_more, get_or-set_other, get_or-set_same, get_or_default, length-map, length-reverse, length-set, length-take-le, map-append, reverse-append, reverse-reverse, take-append-drop, take_more}
+pub use Rattle.std.proofs.lemmas.List.{append-nil, drop_all, drop_more, get_or-set_other, get_or-set_same, get_or_default, length-map, length-reverse, length-set, length-take-le, map-append, nil_from_length, reverse-append, reverse-reverse, take-append-drop, take_more}
 pub use Rattle.std.specs.FinMap.{FinMap, entries, entries_sorted, find, from_sorted, get, get-entries, get-from_sorted, is_sorted, put}
 pub use Rattle.std.specs.FinMap.Entries.{below_all, by_order, find-put, is_sorted-put}
 pub use Rattle.lab_engine.specs.Rules.{Asks, BlockedBy, Blocks, ChangesRead, ComesFirst, Conflicts, ConflictsBy, ConflictsRead, Gives, HasRead, HoldsMatch, HoldsWrite, IsBelow, IsChain, IsCircle, IsEffect, IsEffectOn, IsFirstCommitter, IsFirstConflict, IsFree, IsInsertOf, IsLegal, IsUpdate, MayAsk, MayCommit, NoneChangesRead, Permitted, ReadsStand, in_view, state_after}

@@ -14,22 +14,14 @@ pub running_txn : {level : Level} (past : Past) (situation : Situation) → Desc
     → (txn : Txn) × (active past session ≡ Some txn) × IsRunning level txn running
 running_txn {level} past situation is session running kept = kept_txn level (active past session) running (subst (λ r. Agree level (active past session) r) kept (is.states session).running)
 
--- where none is kept, it has none
-pub running_none : {level : Level} (past : Past) (situation : Situation) → Describes level past situation → (session : ℕ) → running_of situation.sessions session ≡ None → active past session ≡ None
-running_none {level} past situation is session kept = kept_none level (active past session) (subst (λ r. Agree level (active past session) r) kept (is.states session).running)
-
 -- where no state waits, no session does
 pub nobody_waits : {level : Level} (past : Past) (situation : Situation) → Describes level past situation → IsTrue (list_all (λ state. is_none state.waits) situation.sessions) → (session : ℕ) → waiting past session ≡ None
 nobody_waits past situation is all session = sym (is.states session).waits ∙ none_kept (λ state. state.waits) situation.sessions all session
 
-some_agree : (level : Level) (txn : Option Txn) (running : Option RunningTxn) → Agree level txn running → is_some running ≡ is_some txn
+pub some_agree : (level : Level) (txn : Option Txn) (running : Option RunningTxn) → Agree level txn running → is_some running ≡ is_some txn
 some_agree level None None agree = refl
 some_agree level (Some txn) (Some running) agree = refl
 some_agree level txn running agree = absurd agree
-
--- a situation keeps an active transaction of a session that has one
-pub active_agrees : {level : Level} (past : Past) (situation : Situation) → Describes level past situation → (session : ℕ) → is_some (running_of situation.sessions session) ≡ is_some (active past session)
-active_agrees {level} past situation is session = some_agree level (active past session) (running_of situation.sessions session) (is.states session).running
 
 -- what is made of something is something
 pub some_made : {A B : Type 0} (f : A → B) (o : Option A) → is_some (option_map f o) ≡ is_some o

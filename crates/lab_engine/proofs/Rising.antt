@@ -1,6 +1,6 @@
 -- Some of the sessions, by rising number.
 use Rattle.std.specs.Prelude as list
-use Rattle.lab_engine.proofs.Common.{all_sessions, ap, arith, Bool, cond, false, filter, IsStrictlyIncreasing, List, refl, SessionState, slice_index, subst, suc, true, zero, [], ℕ, ⊤, ◌+◌, ◌<◌, ◌∷◌, ◌≡◌}
+use Rattle.lab_engine.proofs.Common.{ap, arith, Bool, cond, false, filter, IsStrictlyIncreasing, List, refl, SessionState, slice_index, subst, suc, true, zero, [], ℕ, ⊤, ◌+◌, ◌<◌, ◌∷◌, ◌≡◌}
 
 -- numbers that rise from above a bound
 abbrev pub RiseFrom : ℕ → List ℕ → Type 0
@@ -16,10 +16,6 @@ pub rising : (low : ℕ) (xs : List ℕ) → RiseFrom low xs → IsStrictlyIncre
 rising low (x ∷ y ∷ zs) h zero lt = h.1.0
 rising low (x ∷ y ∷ zs) h (suc k) lt = subst (λ n. slice_index (y ∷ zs) k < slice_index (x ∷ y ∷ zs) n) (next k) (rising x (y ∷ zs) h.1 k (omega arith))
 rising low xs h k lt = absurd (omega arith)
-
--- the sessions rise
-pub sessions_rise : RiseFrom 0 all_sessions
-sessions_rise = (omega arith, (omega arith, (omega arith, (omega arith, (omega arith, (omega arith, (omega arith, (omega arith, (omega arith, tt)))))))))
 
 -- the sessions of states
 abbrev pub sessions_of : List SessionState → List ℕ

@@ -1,5 +1,5 @@
 -- Whom a session waits for after an event that leaves this as it was.
-use Rattle.lab_engine.proofs.{Common.{Aborted, active, active_after, AlreadyBegun, ap, Begun, Blocks, both_ways, Busy, cases_eq, Command, Committed, cond, eq-eqb, grown, inl, inr, is_over, IsLegal, IsTrue, Level, Listed, ne_eqb, None, none_some, NoTransaction, Op, Outcome, Past, Permitted, refl, Refused, Rows, Run, same_Some, Some, some_of, Statement, subst, sym, Table, Txn, version_by, View, waiting, waiting_after, Waits, WaitsOn, Writes, ℕ, ⊤, ◌==◌, ◌↔◌, ◌∙◌, ◌∷◌, ◌≡◌, ◌≢◌, ◌⊎◌}, Blockers.{blocks_none}, LockSteps.{fresh}, Locks.{writes_apart}, AfterCommits.{blocks_alike, still_blocked}, AfterReads.{reads_off, reads_on, Unasked}}
+use Rattle.lab_engine.proofs.{Common.{Aborted, active, active_after, AlreadyBegun, ap, Begun, Blocks, both_ways, Busy, cases_eq, Command, Committed, cond, eq-eqb, grown, inl, inr, is_over, IsLegal, IsTrue, Level, Listed, ne_eqb, None, none_some, NoTransaction, Op, Outcome, Past, Permitted, refl, Refused, Rows, Run, same_Some, Some, some_of, Statement, subst, sym, Table, Txn, version_by, View, waiting, waiting_after, Waits, WaitsOn, Writes, ℕ, ⊤, ◌==◌, ◌↔◌, ◌∙◌, ◌∷◌, ◌≡◌, ◌≢◌, ◌⊎◌}, Blockers.{blocks_none}, LockSteps.{fresh}, Locks.{are_off}, AfterCommits.{blocks_alike, still_blocked}, AfterReads.{reads_off, reads_on, Unasked}}
 use Rattle.std.specs.FinMap as map
 
 -- a transaction that has run nothing blocks nobody
@@ -88,7 +88,7 @@ module _ (level : Level) (setup : Table) (past : Past) (e k : ℕ) (off : e ≢ 
       still_blocked level setup past e command t gives.active_is asker s (λ b. before (s, is, (asker, t, (λ same. off (sym same)), own, gives.active_is, b))) holder
       (λ locks row some.
       let v = some_of (version_by holder row) some in
-      writes_apart level locks setup past legal other e holder t row v.0 (λ same. there (sym same)) held gives.active_is v.1)))
+      (are_off level locks setup past legal other e holder t row v.0 (λ same. there (sym same)) held gives.active_is v.1).0))
 
   -- a statement ran that wrote nothing, and what was read is of no weight, or its session was waited for
   module _ (s t : Statement) (view : View) (rows : Rows) (writes : Writes) (txn : Txn) (run : command ≡ Run s) (is_txn : active past e ≡ Some txn) (waits : waiting past k ≡ Some t)
