@@ -1,5 +1,5 @@
 -- What is gathered goes on with the log.
-use Rattle.lab_engine.proofs.{Common.{active, active_after, ap, AreActive, arith, begun, Command, cond, eqb_tells, false, Gathering, Gathers, inl, inr, is_fatal, IsLegal, IsWithin, length, length-map, Level, List, Listed, LogEvent, map as each, None, number_after, number_of, of_session, Option, Outcome, Past, recorded, refl, Refused, same_Some, Some, subst, sym, Table, true, Txn, txns_after, ℕ, ◌==◌, ◌∙◌, ◌∷◌, ◌≡◌, ◌≤◌}, GatheredNumbers.{recorded_length}, Numbers.{numbers_hold}, TxnsAfterEvents.{txns_go}}
+use Rattle.lab_engine.proofs.{Common.{active, active_after, ap, AreActive, arith, begun, Command, cond, eqb_tells, false, Gathering, Gathers, inl, inr, is_fatal, IsLegal, IsWithin, length, length-map, Level, List, Listed, LogEvent, map as each, None, number_after, number_of, of_session, Option, Outcome, Past, recorded, refl, Refused, same_Some, Some, subst, sym, Table, true, Txn, txns_after, ℕ, ◌==◌, ◌∙◌, ◌∷◌, ◌≡◌, ◌≤◌}, GatheredNumbers.{recorded_length}, Numbers.{numbers_hold}, TxnsAfterEvents.{txns_goes}}
 use Rattle.lab_table.proofs.SessionOrder.{other_value, own_value}
 
 -- ---- the numbers of the active transactions
@@ -46,5 +46,5 @@ module _ (level : Level) (setup : Table) (past : Past) (event : LogEvent) (old :
       → each recorded new.txns.items ≡ txns_after event.command event.outcome by (each recorded old.txns.items) → Gathers (event ∷ past) new
   gathers_by new next made goes gone = record {
     active = active_goes past event old.active new.active next tells.active (made ∙ ap (number_after event.outcome) by_is) goes;
-    txns = gone ∙ (λ i. txns_after event.command event.outcome (by_is i) (tells.txns i)) ∙ sym (txns_go level setup past event legal);
+    txns = gone ∙ (λ i. txns_after event.command event.outcome (by_is i) (tells.txns i)) ∙ sym (txns_goes level setup past legal.0 event.session event.command event.outcome legal.1);
   }

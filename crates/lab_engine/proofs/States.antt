@@ -1,5 +1,5 @@
 -- What is kept of the sessions, as a list.
-use Rattle.lab_engine.proofs.{Common.{active, active_after, Agree, all_sessions, and_parts, ap, arith, cases_eq, cond, DescribesAll, DescribesDoing, DescribesSession, eq-eqb, false, get_or, get_or-set_same, HasRoom, inl, inr, is_none, IsTrue, kept_by, length, length-map, length-set, Level, List, list_all, LogEvent, map, ne_eqb, None, Option, Past, refl, running_of, RunningTxn, SessionState, set, Statement, subst, suc, sym, waiting, waiting_after, waiting_of, zero, ℕ, ⊤, [], ◌+◌, ◌-◌, ◌<◌, ◌==◌, ◌∙◌, ◌∷◌, ◌≡◌, ◌≢◌, ◌≤◌}, EventBounds.{has_room}}
+use Rattle.lab_engine.proofs.Common.{active, active_after, Agree, all_sessions, and_parts, ap, arith, cases_eq, cond, DescribesAll, DescribesDoing, DescribesSession, eq-eqb, false, get_or, get_or-set_same, inl, inr, is_none, IsTrue, kept_by, length, length-map, length-set, Level, List, list_all, LogEvent, map, ne_eqb, None, Option, Past, refl, running_of, RunningTxn, SessionState, set, Statement, subst, suc, sym, waiting, waiting_after, waiting_of, zero, ℕ, ⊤, [], ◌+◌, ◌-◌, ◌<◌, ◌==◌, ◌∙◌, ◌∷◌, ◌≡◌, ◌≢◌, ◌≤◌}
 use Rattle.std.proofs.Math.Seq.{map-set_same}
 
 -- numbers rise by one from a number on
@@ -72,23 +72,12 @@ module _ (states : List SessionState) (n k : ℕ) (state : SessionState) (sessio
   pub number : state.session ≡ n
   number = ap (λ s. s.session) is ∙ session_one 1 k states state (all_rise states sessions) there ∙ omega (arith, place, low)
 
-  kept_there : {A : Type 0} (f : SessionState → Option A) → kept_by f states n ≡ f state
+  pub kept_there : {A : Type 0} (f : SessionState → Option A) → kept_by f states n ≡ f state
   kept_there f = kept_own f 1 k n states state (all_rise states sessions) (omega (arith, place, low)) there ∙ ap f (sym is)
 
   -- it agrees with the log
   pub described_there : (level : Level) (past : Past) → DescribesAll level past states → DescribesSession level past state
   described_there level past all = doing_as (sym number) (kept_there (λ s. s.waits)) (kept_there (λ s. s.running)) (all n)
-
-  -- what is kept of it has room for one more statement
-  pub room_at : (level : Level) (past : Past) → DescribesAll level past states → length past < 100000 → HasRoom state.running
-  room_at level past all few = has_room past state (described_there level past all) few
-
-  -- it is the session's, and has its transaction
-  pub own_there : (session : ℕ) → n ≡ session → session ≡ state.session
-  own_there session own = sym own ∙ sym number
-
-  pub running_there : (session : ℕ) → n ≡ session → running_of states session ≡ state.running
-  running_there session own = ap (running_of states) (sym own) ∙ kept_there (λ s. s.running)
 
   module _ (new : SessionState) (same : new.session ≡ state.session) where
     -- with another state there the sessions stay
@@ -116,7 +105,7 @@ module _ (states : List SessionState) (n k : ℕ) (state : SessionState) (sessio
     pub states_go_on : {A : Type 0} (level : Level) (past : Past) (event : LogEvent) → n ≡ event.session → DescribesAll level past states
         → (DescribesSession level past state → event.session ≡ state.session → DescribesSession level (event ∷ past) new × A) → DescribesAll level (event ∷ past) (set states k new) × A
     states_go_on level past event own all go_on =
-        let next = go_on (described_there level past all) (own_there event.session own) in
+        let next = go_on (described_there level past all) (sym own ∙ sym number) in
         (all_put level (event ∷ past) next.0 (λ session apart. other_session level past event session _ _ (λ at. apart (own ∙ at)) (all session)), next.1)
 
     -- all states agree with the log still where another one in its place does

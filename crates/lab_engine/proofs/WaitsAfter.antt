@@ -2,10 +2,6 @@
 use Rattle.lab_engine.proofs.{Common.{Aborted, active, active_after, AlreadyBegun, ap, Begun, Blocks, both_ways, Busy, cases_eq, Command, Committed, cond, eq-eqb, grown, inl, inr, is_over, IsLegal, IsTrue, Level, Listed, ne_eqb, None, none_some, NoTransaction, Op, Outcome, Past, Permitted, refl, Refused, Rows, Run, same_Some, Some, some_of, Statement, subst, sym, Table, Txn, version_by, View, waiting, waiting_after, Waits, WaitsOn, Writes, ℕ, ⊤, ◌==◌, ◌↔◌, ◌∙◌, ◌∷◌, ◌≡◌, ◌≢◌, ◌⊎◌}, Blockers.{blocks_none}, LockSteps.{fresh}, Locks.{are_off}, AfterCommits.{blocks_alike, still_blocked}, AfterReads.{reads_off, reads_on, Unasked}}
 use Rattle.std.specs.FinMap as map
 
--- a transaction that has run nothing blocks nobody
-fresh_blocks : (level : Level) (setup : Table) (past : Past) (asker : Txn) (s : Statement) (n : ℕ) (begun : Past) → ¬ Blocks level setup past asker s (fresh n begun)
-fresh_blocks level setup past asker s n begun = blocks_none level setup past asker s (fresh n begun) (λ h. none_some _ h.2) (λ h. absurd (both_ways _ refl h.1)) (λ h. absurd (both_ways _ refl h.2))
-
 -- where nothing commits, who blocks whom is the same
 same_blocks : (level : Level) (setup : Table) (past : Past) (e : ℕ) (command : Command) (outcome : Outcome) → outcome ≢ Committed → (asker holder : Txn) (s : Statement)
     → Blocks level setup (record { session = e; command = command; outcome = outcome } ∷ past) asker s holder ↔ Blocks level setup past asker s holder
@@ -79,7 +75,7 @@ module _ (level : Level) (setup : Table) (past : Past) (e k : ℕ) (off : e ≢ 
 
   begins_waits : (n : ℕ) → Permitted level setup past e command (Begun n) → (other : ℕ) → SameFor (Begun n) other
   begins_waits n (is, idle, number) = quiet (Begun n) (λ eq. cc) (neither (Begun n) (λ w. none_some _ (sym idle ∙ w.2.4))
-      (λ w. fresh_blocks level setup (after (Begun n)) w.2.0 w.0 n past
+      (λ w. blocks_none level setup (after (Begun n)) w.2.0 w.0 (fresh n past) (λ h. none_some _ h.2) (λ h. absurd (both_ways _ refl h.1)) (λ h. absurd (both_ways _ refl h.2))
       (subst (Blocks level setup (after (Begun n)) w.2.0 w.0) (sym (same_Some (fresh n past) w.2.1 (sym (own_active (Begun n)) ∙ w.2.4))) w.2.5)))
 
   commits_waits : IsLegal level setup past → Permitted level setup past e command Committed → ¬ WaitsOn level setup past k e → (other : ℕ) → SameFor Committed other

@@ -1,17 +1,18 @@
-use Rattle.lab_engine.proofs.{Common.{ap, DescribesSession, HasRoom, HoldsOutcome, is_some, refl, subst, sym, ◌∙◌}, States.{described_there, own_there, room_at, running_there, sessions_stay, states_go_on}}
+use Rattle.lab_engine.proofs.{Common.{ap, DescribesSession, HasRoom, HoldsOutcome, is_some, refl, subst, sym, ◌∙◌}, EventBounds.{has_room}, States.{described_there, kept_there, number, sessions_stay, states_go_on}}
 use Rattle.lab_engine.proofs.situation.advance_session.Goals as goal
 
 pub take_in-requires-clause-few : goal.take_in-requires-clause-few
 take_in-requires-clause-few c =
     subst (λ s. HasRoom s.running) c.index-states-place.is
-    (room_at c.args.states.now c.args.event.now.session c.place.result c.index-states-place.result c.requires.sessions c.place.ensures.low c.place.ensures.high c.place.ensures.value c.index-states-place.is
-    c.requires.few.0 c.requires.few.1 c.requires.few.2 c.requires.few.3)
+    (has_room c.requires.few.1 c.index-states-place.result
+    (described_there c.args.states.now c.args.event.now.session c.place.result c.index-states-place.result c.requires.sessions c.place.ensures.low c.place.ensures.high c.place.ensures.value c.index-states-place.is
+    c.requires.few.0 c.requires.few.1 c.requires.few.2) c.requires.few.3)
 
 pub take_in-requires-clause-room : goal.take_in-requires-clause-room
 take_in-requires-clause-room c =
     subst (λ r. HoldsOutcome (is_some c.args.kept.now) c.args.event.now.outcome r c.args.rows.now)
-    (running_there c.args.states.now c.args.event.now.session c.place.result c.index-states-place.result c.requires.sessions c.place.ensures.low c.place.ensures.high c.place.ensures.value c.index-states-place.is
-    c.args.event.now.session refl ∙ ap (λ s. s.running) c.index-states-place.is) c.requires.room
+    (kept_there c.args.states.now c.args.event.now.session c.place.result c.index-states-place.result c.requires.sessions c.place.ensures.low c.place.ensures.high c.place.ensures.value c.index-states-place.is
+    (λ s. s.running) ∙ ap (λ s. s.running) c.index-states-place.is) c.requires.room
 
 pub returns-clause-sessions : goal.returns-clause-sessions
 returns-clause-sessions c =
@@ -27,8 +28,8 @@ returns-clause-goes_on c = λ level past kept at all rows.
 pub returns-clause-installed : goal.returns-clause-installed
 returns-clause-installed c = λ level past all.
     c.take_in.ensures.installed level past
-    (own_there c.args.states.now c.args.event.now.session c.place.result c.index-states-place.result c.requires.sessions c.place.ensures.low c.place.ensures.high c.place.ensures.value c.index-states-place.is
-    c.args.event.now.session refl ∙ ap (λ s. s.session) c.index-states-place.is)
+    (sym (number c.args.states.now c.args.event.now.session c.place.result c.index-states-place.result c.requires.sessions c.place.ensures.low c.place.ensures.high c.place.ensures.value c.index-states-place.is)
+    ∙ ap (λ s. s.session) c.index-states-place.is)
     (subst (λ s. DescribesSession level past s) c.index-states-place.is
     (described_there c.args.states.now c.args.event.now.session c.place.result c.index-states-place.result c.requires.sessions c.place.ensures.low c.place.ensures.high c.place.ensures.value c.index-states-place.is
     level past all))
