@@ -1,5 +1,5 @@
 -- What a situation says of sessions, rows and numbers.
-use Rattle.lab_engine.proofs.{States.{none_kept}, Common.{active, active_after, Agree, all_sessions, ap, AreCommits, arith, begun_after, cond, Contains, Describes, DescribesAll, DescribesRows, eqb_tells, inl, inr, is_some, IsRunning, IsSame, IsSome, IsTrue, keeps_commits, kept_rows, Level, list_all, LogEvent, map as each, None, Option, option_map, Past, refl, reverse, RowStates, running_of, RunningTxn, Situation, Some, subst, sym, Txn, waiting, waiting_after, ℕ, ◌+◌, ◌==◌, ◌∙◌, ◌∷◌, ◌≡◌}}
+use Rattle.lab_engine.proofs.{States.{none_kept}, Common.{is_none, Where, active, active_after, Agree, all_sessions, ap, AreCommits, arith, begun_after, cond, Contains, Describes, DescribesAll, DescribesRows, eqb_tells, inl, inr, is_some, IsRunning, IsSame, IsSome, IsTrue, keeps_commits, kept_rows, Level, list_all, LogEvent, map as each, None, Option, option_map, Past, refl, reverse, RowStates, running_of, RunningTxn, Situation, Some, subst, sym, Txn, waiting, waiting_after, ℕ, ◌+◌, ◌==◌, ◌∙◌, ◌∷◌, ◌≡◌}}
 
 pub kept_txn : (level : Level) (txn : Option Txn) (running : RunningTxn) → Agree level txn (Some running) → (t : Txn) × (txn ≡ Some t) × IsRunning level t running
 kept_txn level None running agree = absurd agree

@@ -1,6 +1,6 @@
 -- Which sessions wait for which after a log.
 use Rattle.std.proofs.lemmas.{Map.Views.{any-filter_same}, List.Kept.{IsStrictlyIncreasing-filter}}
-use Rattle.lab_engine.proofs.{Common.{active, Agree, all_sessions, and_from, and_parts, Any-from_list_any, ap, AreBlockers, AreOthers, AreWaits, Asker, BlockedBy, Blocks, cases_eq, cond, Contains, Describes, DescribesSession, eq-eqb, eqb-true, filter, get_or, has, inl, inr, IsAsker, IsRunning, IsTrue, length, length-map, Level, List, list_any, list_any_at, MayAsk, ne_eqb, none_some, Past, refl, RunningTxn, same_Some, SessionState, Situation, Some, some_is, Statement, subst, sym, Table, take, take_all, Txn, waiting, waits_for, WaitsOn, ℕ, ◌&&◌, ◌+◌, ◌<◌, ◌==◌, ◌↔◌, ◌∙◌, ◌≡◌, ◌≢◌, ◌≤◌}, Describing.{kept_txn}, States.{described_there, number}, Rising.{kept_sessions, rising, sessions_of}, WaitGraphs.{session_range}}
+use Rattle.lab_engine.proofs.{Common.{arith, active, Agree, all_sessions, and_from, and_parts, Any-from_list_any, ap, AreBlockers, AreOthers, AreWaits, Asker, BlockedBy, Blocks, cases_eq, cond, Contains, Describes, DescribesSession, eq-eqb, eqb-true, filter, get_or, has, inl, inr, IsAsker, IsRunning, IsTrue, length, length-map, Level, List, list_any, list_any_at, MayAsk, ne_eqb, none_some, Past, refl, RunningTxn, same_Some, SessionState, Situation, Some, some_is, Statement, subst, sym, Table, take, take_all, Txn, waiting, waits_for, WaitsOn, ℕ, ◌&&◌, ◌+◌, ◌<◌, ◌==◌, ◌↔◌, ◌∙◌, ◌≡◌, ◌≢◌, ◌≤◌}, Describing.{kept_txn}, States.{described_there, number}, Rising.{kept_sessions, rising, sessions_of}, WaitGraphs.{session_range}}
 
 -- what is said of the state at a place of a situation
 pub record StandsAt (level : Level) (past : Past) (i : ℕ) (state : SessionState) : Type 0 where
