@@ -1,5 +1,5 @@
 -- An entry of a sorted list has the value of its row.
-use Rattle.std.proofs.{Common.{◌≡◌, ℕ, zero, suc, ◌+◌, ◌<◌, Bool, true, false, cond, T, Option, Some, List, [], ◌∷◌, length, get_or, drop, refl, sym, ap, ◌∙◌, subst, add-one}, lemmas.Option.{none-some, same_Some, slice_get_read}}
+use Rattle.std.proofs.{Common.{◌≡◌, ℕ, zero, suc, ◌+◌, ◌<◌, Bool, true, false, cond, T, Option, Some, None, List, [], ◌∷◌, length, get_or, take, drop, refl, sym, ap, ◌∙◌, subst, add-one}, lemmas.Option.{none-some, same_Some, slice_get_read}}
 use Rattle.std.specs.{Prelude.{slice_get}, FinMap.{FinMap, find, get, entries, entries_sorted, is_sorted, get-entries, Entries.{below_all}}}
 use Rattle.lab_table.{specs.Row.{Row, row_cmp, row_eq}, proofs.{Maps.{find_below, same_row, row_eq_self}, Tests.{both}}}
 use Rattle.lab_deps.specs.Passes.{first_entry, first_value}
@@ -32,6 +32,17 @@ module _ {A : Type 0} where
       → first_value test (drop i es) ≡ found → first_value test (drop (i + 1) es) ≡ found
   passed test es i e found l is fails before =
       ap (λ j. first_value test (drop j es)) (add-one i) ∙ (sym (next_value test es i e (slice_get_read es (length es) i e refl l is) fails) ∙ before)
+
+  -- where the first of some entries fail a test, what is found among all is found behind them
+  pub behind_block : (test : Row → A → Bool) (count : ℕ) (es : List (Row × A)) → first_value test (take count es) ≡ None → first_value test (drop count es) ≡ first_value test es
+  behind_block test zero [] none = refl
+  behind_block test zero (x ∷ es) none = refl
+  behind_block test (suc count) [] none = refl
+  behind_block test (suc count) (x ∷ es) none =
+      elim (test x.0 x.1) as (λ b. cond b (Some x.0) (first_value test (take count es)) ≡ None → first_value test (drop count es) ≡ cond b (Some x.0) (first_value test es)) [
+        | true ↦ λ e. absurd (none-some x.0 (sym e))
+        | false ↦ λ e. behind_block test count es e
+      ] none
 
   -- the same of a test of rows
   next_entry : (test : Row → Bool) (es : List (Row × A)) (i : ℕ) (e : Row × A) → slice_get es i ≡ Some e → test e.0 ≡ false → first_entry test (drop i es) ≡ first_entry test (drop (suc i) es)

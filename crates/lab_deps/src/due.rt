@@ -1,7 +1,8 @@
 //! Whether an operation lists and writes what is due.
 
-ghost use Rattle.std.specs.Prelude.{◌≡◌, ℕ, true, false, Some, None, is_some, option_map};
+ghost use Rattle.std.specs.Prelude.{◌≡◌, ◌≤◌, ◌*◌, ℕ, true, false, Some, None, is_some, length, take, drop, option_map};
 ghost use Rattle.lab_table.specs.Row.{Row};
+ghost use Rattle.lab_table.specs.Statement.{matches};
 ghost use Rattle.lab_table.specs.Table.{State as Left};
 ghost use Rattle.lab_history.specs.VersionName.{state_value};
 ghost use Rattle.std.specs.FinMap as map;
@@ -101,23 +102,80 @@ fn lists_unseen(history: &History, op: &Op) -> bool
     }
 }
 
-/// The same, where all rows between the statement's bounds are looked at.
+/// The same, where all rows between the statement's bounds are looked at, 64 at a time.
 fn lists_initial(history: &History, op: &Op) -> bool
-    ensures { result ≡ true → pass.first_value (test.is_unlisted op.now) (map.entries history.now.initial) ≡ None }
+    ensures { result ≡ true → first_value (test.is_unlisted op.now) (map.entries history.now.initial) ≡ None }
 {
-    let mut near = 0;
-    let mut seen = 0;
+    let mut near = Near { row: 0, version: 0 };
     let entries = within(&op.statement, history.initial().rows());
-    for entry in entries {
-        if op.statement.matches(entry.0, Some(entry.1)) {
-            let found = value_near(op.rows.entries(), near, entry.0);
-            near = found.1;
-            if !is_same(found.0, Some(entry.1)) && !is_seen(op, &mut seen, entry.0) {
-                return false;
-            }
+    for number in 0..entries.len() / 64 + 1 {
+        if !lists_block(op, block_of(entries, number), &mut near) {
+            return false;
         }
     }
     true
+}
+
+/// The block of 64 entries of this number, counted from 0; the last one may be shorter.
+fn block_of<V>(entries: &[(RowName, V)], number: usize) -> &[(RowName, V)]
+    requires { 64 * number ≤ length entries.now }
+    ensures value { result.now ≡ take 64 (drop (64 * number) entries.now) }
+    ensures few { length result.now ≤ 64 }
+{
+    let rest = &entries[64 * number..];
+    if rest.len() < 64 { rest } else { &rest[..64] }
+}
+
+/// Where an operation's entries of the next row are looked for first.
+#[derive(Clone, Copy)]
+struct Near {
+    /// The row that it lists.
+    row: usize,
+    /// The version that it sees.
+    version: usize,
+}
+
+/// Whether an operation lists each of up to 64 rows of the initial table that it doesn't see otherwise and that matches.
+fn lists_block(op: &Op, entries: &[(RowName, Value)], near: &mut Near) -> bool
+    requires { length entries.now ≤ 64 }
+    ensures { result ≡ true → first_value (test.is_unlisted op.now) entries.now ≡ None }
+{
+    let may_match = op.statement.may_match_each(entries);
+    for (place, entry) in entries.iter().enumerate() {
+        if !lists_one(op, may_match[place], entry, near) {
+            return false;
+        }
+    }
+    true
+}
+
+/// The same of one row, of which is said where it is known not to match.
+#[inline(always)]
+fn lists_one(op: &Op, may_match: bool, entry: &(RowName, Value), near: &mut Near) -> bool
+    requires { may_match ≡ false → matches op.now.statement entry.now.0 (Some entry.now.1) ≡ false }
+    ensures { result ≡ true → test.is_unlisted op.now entry.now.0 entry.now.1 ≡ false }
+{
+    if !may_match {
+        return true;
+    }
+    lists_entry(op, entry, near)
+}
+
+/// The same of one row, whether it matches or not.
+// Not inlined, so that rows that don't match pay nothing for it.
+#[inline(never)]
+fn lists_entry(op: &Op, entry: &(RowName, Value), near: &mut Near) -> bool
+    ensures { result ≡ true → test.is_unlisted op.now entry.now.0 entry.now.1 ≡ false }
+{
+    if !op.statement.matches(entry.0, Some(entry.1)) {
+        return true;
+    }
+    let found = value_near(op.rows.entries(), near.row, entry.0);
+    near.row = found.1;
+    if is_same(found.0, Some(entry.1)) {
+        return true;
+    }
+    is_seen(op, &mut near.version, entry.0)
 }
 
 /// Whether an operation that lists what is due is found to write of each row what is due.
