@@ -4,7 +4,7 @@
 //! comparisons over their answers. Such a walk takes few instructions for many rows, and a condition asked of one row after
 //! another some ten times as many.
 
-ghost use Rattle.std.specs.Prelude.{◌≡◌, ◌<◌, ◌≤◌, ◌&&◌, ◌||◌, ℕ, ℤ, pos, not, false, length, get_or, int_lt, int_rem};
+ghost use Rattle.std.specs.Prelude.{◌≡◌, ◌<◌, ◌≤◌, ◌&&◌, ◌||◌, ℕ, ℤ, pos, not, true, false, length, get_or, int_lt, int_rem};
 ghost use Rattle.std.specs.List.{list_any};
 ghost use Rattle.std.specs.Ordering.{int_eq};
 ghost use Rattle.lab_table.specs.Predicate.{compares};
@@ -91,7 +91,7 @@ impl Statement {
         match &self.kind {
             StatementKind::Select { pred } => may_be_selected_each(pred, rows),
             StatementKind::Update { pred, .. } => may_be_selected_each(pred, rows),
-            StatementKind::Insert { .. } => [true; 64],
+            StatementKind::Insert { .. } => of_each(),
             StatementKind::Delete { pred } => may_be_selected_each(pred, rows),
         }
     }
@@ -103,9 +103,16 @@ fn may_be_selected_each(pred: &Option<Pred>, rows: &[(RowName, Value)]) -> [bool
     ensures { (k : ℕ) (d : Row × ℤ) → k < length rows.now → get_or result k false ≡ where_holds pred.now (get_or rows.now k d).0.id (get_or rows.now k d).1 }
 {
     match pred {
-        None => [true; 64],
+        None => of_each(),
         Some(pred) => pred.answers(&Block::of(rows)),
     }
+}
+
+/// True of each row.
+fn of_each() -> [bool; 64]
+    ensures { (k : ℕ) → k < 64 → get_or result k false ≡ true }
+{
+    [true; 64]
 }
 
 /// How each number of a column compares with a number.
