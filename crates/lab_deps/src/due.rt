@@ -104,7 +104,7 @@ fn lists_unseen(history: &History, op: &Op) -> bool
 
 /// The same, where all rows between the statement's bounds are looked at, 64 at a time.
 fn lists_initial(history: &History, op: &Op) -> bool
-    ensures { result ≡ true → first_value (test.is_unlisted op.now) (map.entries history.now.initial) ≡ None }
+    ensures { result ≡ true → pass.first_value (test.is_unlisted op.now) (map.entries history.now.initial) ≡ None }
 {
     let mut near = Near { row: 0, version: 0 };
     let entries = within(&op.statement, history.initial().rows());
@@ -138,7 +138,7 @@ struct Near {
 /// Whether an operation lists each of up to 64 rows of the initial table that it doesn't see otherwise and that matches.
 fn lists_block(op: &Op, entries: &[(RowName, Value)], near: &mut Near) -> bool
     requires { length entries.now ≤ 64 }
-    ensures { result ≡ true → first_value (test.is_unlisted op.now) entries.now ≡ None }
+    ensures { result ≡ true → pass.first_value (test.is_unlisted op.now) entries.now ≡ None }
 {
     let may_match = op.statement.may_match_each(entries);
     for (place, entry) in entries.iter().enumerate() {
