@@ -1,5 +1,5 @@
 -- Walks along edges: joined, cut, begun elsewhere, and counted by kind.
-use Rattle.std.{proofs.{Common.{◌≡◌, ℕ, ◌+◌, ◌≤◌, Bool, true, false, cond, List, [], ◌∷◌, ◌++◌, refl, sym, ap, ◌∙◌, subst, arith}, lemmas.List.{append-nil, Recursion.{is_count_by}}}, specs.Prelude.{⊤, not}}
+use Rattle.std.{proofs.{Common.{◌≡◌, ℕ, ◌+◌, ◌<◌, ◌≤◌, Bool, true, false, cond, List, [], ◌∷◌, ◌++◌, length, refl, sym, ap, ◌∙◌, subst, arith}, lemmas.{Bool.{not-false}, List.{append-nil, Recursion.{is_count_by}}}}, specs.Prelude.{⊤, not}}
 use Rattle.lab_history.specs.History.{History}
 use Rattle.lab_deps.specs.{Edges.{IsEdge}, declared.edge.{Edge.{Edge}, Kind.{Kind}}}
 use Rattle.lab_judge.specs.{LeastWalks.{IsTurnToLeast}, Phenomena.{IsWalk, IsClosedWalk, count_kind}}
@@ -59,6 +59,25 @@ such test (e ∷ es) some = at (such test es) (test e.kind) refl some
         let more : HasSuch test es = later s in
         record { front = e ∷ more.front; edge = more.edge; rest = more.rest; parts = ap (λ l. e ∷ l) more.parts; passes = more.passes }
 
+-- where every kind is allowed, so is each edge's
+pub each_through : (allows : Kind → Bool) → ((k : Kind) → allows k ≡ true) → (es : List Edge) → Through allows es
+each_through allows each [] = tt
+each_through allows each (e ∷ es) = (each e.kind, each_through allows each es)
+
+-- where no edge has another kind, each has an allowed one
+pub all_through : (allowed : Kind → Bool) (es : List Edge) → count_kind (λ k. not (allowed k)) es ≡ 0 → Through allowed es
+all_through allowed es none = none_forbidden (λ k. not (allowed k)) allowed (λ k h. not-false (allowed k) h) es (times_are (λ k. not (allowed k)) es ∙ none)
+
+-- along edges of allowed kinds that lead upwards nothing leads back
+module _ (h : History) (rank : ℕ → ℕ) (allows : Kind → Bool) (ahead : (e : Edge) → IsEdge h e → allows e.kind ≡ true → rank e.from < rank e.to) where
+  rises : (from : ℕ) (es : List Edge) (to : ℕ) → IsWalk h from es to → Through allows es → rank from ≤ rank to
+  rises from [] to w t = omega (arith, ap rank w)
+  rises from (e ∷ es) to w t = omega (arith, ahead e w.0 t.0, ap rank w.1, rises e.to es to w.2 t.1)
+
+  pub none_closed : (es : List Edge) → IsClosedWalk h es → Through allows es → ⊥
+  none_closed [] w t = w
+  none_closed (e ∷ es) w t = omega (arith, ahead e w.0 t.0, rises e.to es e.from w.2 t.1)
+
 module _ (h : History) where
   -- two walks, one behind the other, are a walk
   pub joined : (a : ℕ) (xs : List Edge) (b : ℕ) (ys : List Edge) (c : ℕ) → IsWalk h a xs b → IsWalk h b ys c → IsWalk h a (xs ++ ys) c
@@ -82,6 +101,11 @@ module _ (h : History) where
   -- an edge and a walk back are a cycle
   pub closed : (e : Edge) (back : List Edge) → IsEdge h e → IsWalk h e.to back e.from → IsClosedWalk h (e ∷ back)
   closed e back edge w = (edge, refl, w)
+
+  -- and so is a walk that isn't empty and ends where it begins
+  pub closes : (es : List Edge) (a : ℕ) → 1 ≤ length es → IsWalk h a es a → IsClosedWalk h es
+  closes [] a some walk = absurd (omega (arith, some))
+  closes (e ∷ es) a some (edge, from, rest) = (edge, refl, subst (λ n. IsWalk h e.to es n) (sym from) rest)
 
   -- a cycle may begin at any of its edges
   turned : (xs ys : List Edge) → IsClosedWalk h (xs ++ ys) → IsClosedWalk h (ys ++ xs)

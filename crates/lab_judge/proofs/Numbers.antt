@@ -22,6 +22,10 @@ stands ns n h = at_position ns n (contained ns n h)
 pub position_within : (ns : List ℕ) (n : ℕ) → Contains ns n → position ns n < length ns
 position_within ns n h = slice_get_within ns (position ns n) n (stands ns n h)
 
+-- what stands at a place of a list
+pub read : (ns : List ℕ) (a n : ℕ) → slice_get ns a ≡ Some n → slice_index ns a ≡ n
+read ns a n h = get_or_from_slice_get ns a n 0 h
+
 -- of rising numbers each comes at most once
 once : (ns : List ℕ) → IsStrictlySortedBy nat_cmp ns → (n : ℕ) → times n ns ≤ 1
 once [] up n = omega arith
@@ -62,10 +66,6 @@ module _ (ns : List ℕ) (up : IsStrictlyIncreasing ns) where
   pub at_most_once : (n : ℕ) → times n ns ≤ 1
   at_most_once n = once ns (sorted_from_strictly_increasing ns up) n
 
--- rising numbers don't fall
-non_decreasing : (ns : List ℕ) → IsStrictlyIncreasing ns → (i j : ℕ) → i ≤ j → j < length ns → get_or ns i 0 ≤ get_or ns j 0
-non_decreasing ns up i j le lt = non_decreasing_from_sorted ns (sorted_from_strictly_increasing ns up) i j 0 le lt
-
 -- the last of rising numbers is at least as much as there are before it
 up_to : (ns : List ℕ) → IsStrictlyIncreasing ns → (k : ℕ) → k < length ns → k ≤ get_or ns k 0
 up_to ns up zero lt = omega arith
@@ -73,27 +73,6 @@ up_to ns up (suc k) lt =
     let before : k ≤ get_or ns k 0 = up_to ns up k (omega arith) in
     let less : get_or ns k 0 < get_or ns (suc k) 0 = below_from_sorted ns k (suc k) 0 (sorted_from_strictly_increasing ns up) (omega arith) lt in
     omega arith
-
-module _ (items now shown : List ℕ) (is : items ≡ now) (view : shown ≡ items) (up : IsStrictlyIncreasing items) (number place : ℕ) where
-  -- what a search finds in rising numbers stands at its position
-  pub searched_place : place < length shown → ((d : ℕ) → nat_cmp (get_or shown place d) number ≡ Equal) → place ≡ position now number
-  searched_place lt found =
-      let same : get_or shown place number ≡ number = ranked (get_or shown place number) number Equal (sym (found number)) in
-      let here : slice_get items place ≡ Some number = ap (λ ns. slice_get ns place) (sym view) ∙ slice_get-get_or shown place number lt ∙ ap Some same in
-      sym (ap (λ ns. position ns number) (sym is) ∙ at_its_place items up place number here)
-
-  -- and what it doesn't find isn't there
-  pub searched_nowhere : IsBinarySearchResult (λ y. nat_cmp y number) shown (Err place) → Contains now number → ⊥
-  searched_nowhere point (k, lt, e) =
-      let rises : IsStrictlyIncreasing shown = subst IsStrictlyIncreasing (sym view) up in
-      let between : (place ≤ length shown) × ((k : ℕ) → k < place → get_or shown k 0 < number) × ((k : ℕ) → place ≤ k → k < length shown → number < get_or shown k 0)
-      = searched shown number (Err place) point (non_decreasing shown rises) in
-      let size : length shown ≡ length now = ap length (view ∙ is) in
-      let there : get_or shown k 0 ≡ number = ap (λ ns. get_or ns k 0) (view ∙ is) ∙ get_or_from_slice_get now k number 0 (slice_get-get_or now k number lt ∙ ap Some e) in
-      elim (cases_lt k place) [
-        | inl l ↦ let b = between.1 k l in omega (arith, b, there)
-        | inr ge ↦ let b = between.2 k ge (omega (arith, lt, size)) in omega (arith, b, there)
-      ]
 
 -- how many rising numbers there are
 pub how_many : (ns : List ℕ) (last found : ℕ) → IsStrictlyIncreasing ns → slice_get ns (length ns - 1) ≡ Some last → found ≡ min (length ns) (last + 1) → found ≡ length ns
