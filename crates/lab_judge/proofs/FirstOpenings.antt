@@ -1,5 +1,5 @@
 -- The first edge that opens a walk that leads back.
-use Rattle.std.{proofs.{Common.{◌≡◌, ℕ, ◌<◌, Bool, false, Some, slice_index, inl, inr, refl, sym, ap, ◌∙◌, subst, arith}, lemmas.{Bool.{cases_order}, Option.{same_Some}}}, specs.{Prelude.{slice_get}, Cmp.{nat_cmp_is}, Ordering.{is_lt, nat_cmp, ordering_then}, declared.cmp.Ordering.{Ordering, TheVariants.{Equal, Greater}}}}
+use Rattle.std.{proofs.{Common.{◌≡◌, ℕ, ◌<◌, Bool, false, Some, length, slice_index, inl, inr, refl, sym, ap, ◌∙◌, subst, arith}, lemmas.{Bool.{cases_order}, Option.{same_Some}}}, specs.{Prelude.{slice_get}, Cmp.{nat_cmp_is}, Ordering.{is_lt, nat_cmp, ordering_then}, declared.cmp.Ordering.{Ordering, TheVariants.{Equal, Greater}}}}
 use Rattle.lab_table.specs.Row.{row_cmp}
 use Rattle.lab_order.specs.{Arrows.{Arrows}, Order.{position}, Path.{Reaches}}
 use Rattle.lab_history.specs.History.{History}

@@ -1,8 +1,8 @@
 -- There is one least placing of the points of a history.
-use Rattle.std.{proofs.{Common.{◌≡◌, ◌⊎◌, suc, List, [], ◌∷◌, length, get_or, map, drop, refl, sym, ap, ◌∙◌, subst, arith, inl, inr}, lemmas.{Bool.{cases_order}, Map.Keys.{sorted_from_strictly_increasing}}}, specs.Prelude.{Contains}}
+use Rattle.std.{proofs.{Common.{◌≡◌, ◌⊎◌, suc, List, [], ◌∷◌, length, get_or, map, drop, refl, sym, ap, ◌∙◌, subst, arith, inl, inr}, lemmas.Bool.{cases_order}}, specs.Prelude.{Contains}}
 use Rattle.lab_order.proofs.Least.{one_least_by}
 use Rattle.lab_history.specs.History.{History}
-use Rattle.lab_judge.{specs.{LeastPlaces.{label, IsLower, IsPointOrder, IsLeastPointOrder, ArePlacedAlong, place_in}, Runs.{HoldsEachOnce, Span}, declared.places.Point.{Point, TheVariants.{Start, Commit}}}, proofs.{Numbers.{one_rising}, Orders.{times_is}}}
+use Rattle.lab_judge.{specs.{LeastPlaces.{label, IsLower, IsPointOrder, IsLeastPointOrder, ArePlacedAlong, place_in}, Runs.{HoldsEachOnce, Span}, declared.places.Point.{Point, TheVariants.{Start, Commit}}}, proofs.OneWalk.{one_committed}}
 
 -- points of one label are one
 pub one_label : (p q : Point) → label p ≡ label q → p ≡ q
@@ -48,6 +48,5 @@ one_least_placing h one other a b (ps, l, placed_one) (qs, k, placed_other) =
     let same : ps ≡ qs = one_least_by IsLower not_both (IsPointOrder h) ps qs l k in
     let along : ArePlacedAlong ps other = subst (λ points. ArePlacedAlong points other) (sym same) placed_other in
     one_placing ps one other
-    (one_rising (map (λ s. s.txn) one) (map (λ s. s.txn) other) (sorted_from_strictly_increasing (map (λ s. s.txn) one) placed_one.rising)
-    (sorted_from_strictly_increasing (map (λ s. s.txn) other) along.rising)
-    (λ n. times_is h (map (λ s. s.txn) one) a n ∙ sym (times_is h (map (λ s. s.txn) other) b n))) (λ s c. placed_one.placed s c) (λ s c. along.placed s c)
+    (one_committed h (map (λ s. s.txn) one) (map (λ s. s.txn) other) (record { each_once = a; rising = placed_one.rising }) (record { each_once = b; rising = along.rising }))
+    (λ s c. placed_one.placed s c) (λ s c. along.placed s c)

@@ -1,17 +1,18 @@
 -- What the order of the graph of starts and commits says of the history.
 use Rattle.std.proofs.Common.{◌≡◌, ℕ, suc, ◌+◌, ◌<◌, ◌≤◌, ◌==◌, Bool, true, false, cond, List, [], ◌∷◌, get_or, map, slice_index, refl, sym, ap, ◌∙◌, subst, arith}
 use Rattle.std.specs.{Prelude.{Contains, count_by}, List.{All, Sorted.{IsStrictlyIncreasing}}}
-use Rattle.std.proofs.lemmas.{Bool.{eqb-true}, List.{get_or-map, length-map, Elements.{All-head, All-tail, All-map, All-contains, Contains-get_or}, Sums.{sum_by-cons}}}
+use Rattle.std.proofs.lemmas.{List.{Elements.{All-map, All-contains, Contains-get_or}, Sums.{sum_by-cons}}, Option.{slice_get-get_or}}
+use Rattle.lab_table.proofs.Members.{member_at}
 use Rattle.lab_order.specs.{Arrows.{Arrows, nodes_of, IsGraph}, Least.{IsLeast}, Order.{position}}
 use Rattle.lab_order.specs.Order as order
 use Rattle.lab_history.specs.{History.{History}, Version.{IsCommitted}}
-use Rattle.lab_deps.{specs.{KindSets.{is_any}, KindsBetween.{KindsBetween}, Soundness.{has_committed}}, proofs.Places.{times, times_count}}
+use Rattle.lab_deps.{specs.{KindSets.{is_any}, KindsBetween.{KindsBetween}, Soundness.{has_committed}}, proofs.Places.{times, times_count, at_times}}
 use Rattle.lab_judge.specs.Runs.{HoldsEachOnce, Span, all_places}
 use Rattle.lab_judge.specs.Places.{start_of, commit_of, place_of_point, IsForwardPlacing}
 use Rattle.lab_judge.specs.LeastPlaces.{is_point, place_in, IsPointOrder, IsLeastPointOrder, ArePlacedAlong}
 use Rattle.lab_judge.specs.{Graphs.{IsNetOf}, PlaceGraphs.{IsPlaceGraph, point_at, span_in}}
 use Rattle.lab_judge.specs.declared.places.Point.{Point, TheVariants.{Start, Commit}}
-use Rattle.lab_judge.proofs.{GraphNodes.{in_order}, Numbers.{contained}, OnePlacing.{IsPlaced}, Orders.{at_most, committed_in, committed_once}, PlaceNodes.{IsOfCommitted, ends, node_of}, PlacesApart.{IsTold, owners, apart}, PointNodes.{is_same, node_within, place_is, is_least}}
+use Rattle.lab_judge.proofs.{GraphNodes.{in_order}, Numbers.{contained}, OnePlacing.{IsPlaced}, Orders.{at_most, committed_in, committed_once}, PlaceNodes.{IsOfCommitted, ends, node_of}, PlacesApart.{IsTold, owners, owner_at, apart}, Placings.{find_span, places_of}, PointNodes.{is_same, node_within, place_is, is_least}}
 
 -- points of one place are one, where one of them is in the list
 one_point : (ps : List Point) (p q : Point) → 1 ≤ count_by (λ r. is_point r p) ps → place_in ps p ≡ place_in ps q → p ≡ q
@@ -25,21 +26,6 @@ one_point (r ∷ ps) p q some same =
     at rest true false e f some same = absurd (omega (arith, same))
     at rest false true e f some same = absurd (omega (arith, same))
     at rest false false e f some same = rest (omega (arith, some)) (omega (arith, same))
-
--- the places of a transaction among spans along an order
-places_are : (points : List Point) (ss : List Span) → All (IsPlaced points) ss → (n : ℕ) → 1 ≤ times n (owners ss)
-    → (start_of ss n ≡ place_in points (Start n)) × (commit_of ss n ≡ place_in points (Commit n))
-places_are points [] placed n some = absurd (omega arith)
-places_are points (s ∷ ss) placed n some = at (places_are points ss (All-tail (IsPlaced points) s ss placed) n) (s.txn == n) refl some
-  where
-    own : IsPlaced points s
-    own = All-head (IsPlaced points) s ss placed
-
-    at : (1 ≤ times n (owners ss) → (start_of ss n ≡ place_in points (Start n)) × (commit_of ss n ≡ place_in points (Commit n))) → (b : Bool) → (s.txn == n) ≡ b
-        → 1 ≤ cond b (1 + times n (owners ss)) (times n (owners ss))
-        → (cond b s.start (start_of ss n) ≡ place_in points (Start n)) × (cond b s.commit (commit_of ss n) ≡ place_in points (Commit n))
-    at rest true e some = let same = eqb-true s.txn n e in (own.0 ∙ ap (λ k. place_in points (Start k)) same, own.1 ∙ ap (λ k. place_in points (Commit k)) same)
-    at rest false e some = rest some
 
 -- the transactions of spans are those that they were made of
 numbers_are : (ns places ms : List ℕ) → owners (map (span_in ns places) ms) ≡ ms
@@ -62,17 +48,22 @@ module _ (h : History) (points : List Point) (o : IsPointOrder h points) (ss : L
   told : All (IsTold Tells) ss
   told k d lt =
       let s = get_or ss k d in
-      let own : Contains (owners ss) s.txn = subst (Contains (owners ss)) (get_or-map (λ s. s.txn) ss k d 0 lt) (Contains-get_or (owners ss) k 0 (subst (λ n. k < n) (sym (length-map ss (λ s. s.txn))) lt)) in
-      let c : IsCommitted h s.txn = committed_in h (owners ss) once s.txn (contained (owners ss) s.txn own) in
+      let c : IsCommitted h s.txn = committed_in h (owners ss) once s.txn (at_times (owners ss) k s.txn (owner_at ss k s (slice_get-get_or ss k d lt))) in
       ((c, (placed k d lt).0), (c, (placed k d lt).1))
 
   -- so no place is of two points
   pub distinct : (x : ℕ) → count_by (λ p. p == x) (all_places ss) ≤ 1
   distinct x = subst (λ k. k ≤ 1) (times_count x (all_places ss)) (apart Tells one ss told (at_most h (owners ss) once) x)
 
+  span_of : (n : ℕ) → IsCommitted h n → (s : Span) × IsPlaced points s × (s.txn ≡ n) × (start_of ss s.txn ≡ s.start) × (commit_of ss s.txn ≡ s.commit)
+  span_of n c =
+      let s = find_span ss n (omega (arith, committed_once h (owners ss) once n c)) in
+      let are = places_of ss s.0 s.1 s.2 (at_most h (owners ss) once s.1.txn) in
+      (s.1, along.placed s.1 (member_at ss s.0 s.1 s.2), s.3, are.0, are.1)
+
   place_of : (p : Point) → IsOfCommitted h p → place_of_point ss p ≡ place_in points p
-  place_of (Start n) c = (places_are points ss placed n (omega (arith, committed_once h (owners ss) once n c))).0
-  place_of (Commit n) c = (places_are points ss placed n (omega (arith, committed_once h (owners ss) once n c))).1
+  place_of (Start n) c = let s = span_of n c in sym (ap (start_of ss) s.2) ∙ s.3 ∙ s.1.0 ∙ ap (λ k. place_in points (Start k)) s.2
+  place_of (Commit n) c = let s = span_of n c in sym (ap (commit_of ss) s.2) ∙ s.4 ∙ s.1.1 ∙ ap (λ k. place_in points (Commit k)) s.2
 
   -- and every arrow points forward
   pub forward : IsForwardPlacing h ss

@@ -66,10 +66,8 @@ module _ {level : Level} {setup : Table} {past : Past} {h : History} (recorded :
   comes_later : (Between → ⊥) → length s.earlier < length y.earlier
   comes_later never = elim (cases_order (length s.earlier) (length y.earlier)) [
     | inl e ↦ absurd (same_place (sym e))
-    | inr o ↦ elim o [
-      | inl below ↦ below
-      | inr above ↦ absurd (never (between above))
-    ]
+    | inr (inl below) ↦ below
+    | inr (inr above) ↦ absurd (never (between above))
   ]
 
 module _ {level : Level} {setup : Table} {past : Past} {h : History} (recorded : IsLegalRecording level setup past h) (stable : ReadsStable level setup past) where

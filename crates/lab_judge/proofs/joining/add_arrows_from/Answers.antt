@@ -11,4 +11,6 @@ loop-preserved-clause-grows c =
     (λ p q looked. elim (cases_lt q c.loop.first) [ inl before ↦ inl (looked.0, before) | inr past ↦ inr (looked.0, past, looked.1) ])
 
 pub returns : goal.returns
-returns c = wider c.loop.invariant.grows (λ p q same t. let within = slice_get_within _ q _ t.to in (same, omega (arith, within, c.loop.invariant.blocks)))
+returns c = wider c.loop.invariant.grows (λ p q same t.
+    let within = slice_get_within _ q _ t.to in
+    (same, elim c.loop.invariant.blocks [ inl all ↦ omega (arith, within, all, c.len-count.ensures.count) | inr blocks ↦ omega (arith, within, blocks, c.len-count.ensures.count) ]))

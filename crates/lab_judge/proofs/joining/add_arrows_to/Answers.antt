@@ -13,7 +13,12 @@ loop-from-preserved c =
     then c.loop-from.invariant c.in_ok-add_arrow.ensures
     (λ p q looked. elim (cases_lt looked.0.0 c.loop-from.from-index) [
       | inl less ↦ inl ((looked.0.0, less, looked.0.2), looked.1)
-      | inr past ↦ inr (?, looked.1)
+      | inr past ↦
+          let same : looked.0.0 ≡ c.loop-from.from-index = omega (arith, past, looked.0.1) in
+          inr (
+            sym looked.0.2 ∙ ap (λ k. get_or (before c.args.all.now c.args.to) k 0) same ∙ ap (λ l. get_or l c.loop-from.from-index 0) (sym c.before-from-items.ensures.nodes),
+            looked.1,
+          )
     ])
 
 pub returns : goal.returns

@@ -1,4 +1,8 @@
+use Rattle.std.{proofs.{Common.{◌≡◌, sym, ap, ◌∙◌, subst}, lemmas.Option.{same_Some}}, specs.Prelude.{Contains}}
 use Rattle.lab_judge.proofs.net.Net.least.Goals as goal
 
-pub returns : goal.returns
-returns c = ?
+pub returns-clause-found : goal.returns-clause-found
+returns-clause-found c = ?
+
+pub returns-clause-none : goal.returns-clause-none
+returns-clause-none c = ?
