@@ -1,5 +1,5 @@
 -- Walks along edges: joined, cut, begun elsewhere, and counted by kind.
-use Rattle.std.{proofs.{Common.{◌≡◌, ℕ, ◌+◌, ◌<◌, ◌≤◌, Bool, true, false, cond, List, [], ◌∷◌, ◌++◌, length, refl, sym, ap, ◌∙◌, subst, arith}, lemmas.{Bool.{not-false}, List.{append-nil, Recursion.{is_count_by}}}}, specs.Prelude.{⊤, not}}
+use Rattle.std.{proofs.{Common.{◌≡◌, ℕ, ◌+◌, ◌<◌, ◌≤◌, Bool, true, false, cond, List, [], ◌∷◌, ◌++◌, length, refl, sym, ap, ◌∙◌, subst, arith}, lemmas.{Bool.{not-false}, List.{append-nil, Recursion.{is_count_by}, Sorted.{IsPermutation-append_comm}, Sums.{sum_by-IsPermutation}}}}, specs.Prelude.{⊤, not}}
 use Rattle.lab_history.specs.History.{History}
 use Rattle.lab_deps.specs.{Edges.{IsEdge}, declared.edge.{Edge.{Edge}, Kind.{Kind}}}
 use Rattle.lab_judge.specs.{LeastWalks.{IsTurnToLeast}, Phenomena.{IsWalk, IsClosedWalk, count_kind}}
@@ -11,17 +11,6 @@ times test (e ∷ es) = cond (test e.kind) (1 + times test es) (times test es)
 
 pub times_are : (test : Kind → Bool) (es : List Edge) → times test es ≡ count_kind test es
 times_are test es = is_count_by (times test) (λ e. test e.kind) refl (λ _ _. refl) es
-
-pub times_append : (test : Kind → Bool) (xs ys : List Edge) → times test (xs ++ ys) ≡ times test xs + times test ys
-times_append test [] ys = omega arith
-times_append test (e ∷ xs) ys =
-    elim (test e.kind) as (λ b. cond b (1 + times test (xs ++ ys)) (times test (xs ++ ys)) ≡ cond b (1 + times test xs) (times test xs) + times test ys) [
-      | true ↦ omega (arith, times_append test xs ys)
-      | false ↦ times_append test xs ys
-    ]
-
-times_turned : (test : Kind → Bool) (xs ys : List Edge) → times test (xs ++ ys) ≡ times test (ys ++ xs)
-times_turned test xs ys = omega (arith, times_append test xs ys, times_append test ys xs)
 
 -- every edge has an allowed kind
 abbrev pub Through : (Kind → Bool) → List Edge → Type 0
@@ -119,4 +108,6 @@ module _ (h : History) where
 -- and has as many edges of each kind
 pub turn_counts : (test : Kind → Bool) (round walk : List Edge) → IsTurnToLeast round walk → count_kind test walk ≡ count_kind test round
 turn_counts test round walk t =
-    sym (times_are test walk) ∙ ap (times test) t.turned ∙ times_turned test (t.first ∷ t.rest) t.front ∙ ap (times test) (sym t.split) ∙ times_are test round
+    ap (count_kind test) t.turned
+    ∙ sum_by-IsPermutation (λ e. cond (test e.kind) 1 0) (t.front ++ t.first ∷ t.rest) ((t.first ∷ t.rest) ++ t.front) (IsPermutation-append_comm t.front (t.first ∷ t.rest))
+    ∙ ap (count_kind test) (sym t.split)
