@@ -70,31 +70,10 @@ pub(crate) fn find_walks(
     let g0 = find_circle(alloc, net, Kinds::WRITES, &writes)?;
     let g1c = find_circle(alloc, net, Kinds::FLOW, &flow)?;
     let flow_ways = Ways::of(alloc, &flow)?;
-    let g_single = find_opened(
-        alloc,
-        net,
-        Kinds::FLOW,
-        &flow,
-        &flow_ways,
-        Kinds::ANTI,
-    )?;
+    let g_single = find_opened(alloc, net, Kinds::FLOW, &flow, &flow_ways, Kinds::ANTI)?;
     let all_ways = Ways::of(alloc, all)?;
-    let g2_item = find_opened(
-        alloc,
-        net,
-        Kinds::ALL,
-        all,
-        &all_ways,
-        Kinds::ITEM_ANTI,
-    )?;
-    let g2 = find_opened(
-        alloc,
-        net,
-        Kinds::ALL,
-        all,
-        &all_ways,
-        Kinds::ANTI,
-    )?;
+    let g2_item = find_opened(alloc, net, Kinds::ALL, all, &all_ways, Kinds::ITEM_ANTI)?;
+    let g2 = find_opened(alloc, net, Kinds::ALL, all, &all_ways, Kinds::ANTI)?;
     let level = grade_of(&g0, &g1c, &g2_item, &g2);
     Ok(Findings {
         phenomena: [

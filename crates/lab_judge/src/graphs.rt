@@ -31,13 +31,6 @@ pub(crate) fn graph_among(
     ensures { IfOk result (IsGraphOf (among allowed) net.now) }
 {
     let mut graph = Graph::new(alloc, net.len())?;
-    add_arrows_among(
-        alloc,
-        &mut graph,
-        net,
-        all,
-        allowed,
-        Joining::Transactions,
-    )?;
+    add_arrows_among(alloc, &mut graph, net, all, allowed, Joining::Transactions)?;
     Ok(graph)
 }

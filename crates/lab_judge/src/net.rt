@@ -83,7 +83,6 @@ impl<'a, 'h> Net<'a, 'h> {
         ensures found { IfOk result (λ found. IfSome found (IsLeastTie (among kinds) self.now from to)) }
         ensures none { IfOk result (λ found. found ≡ None → ¬ Tie (among kinds) self.now from to) }
     {
-        self.edges
-            .least(self.number(from), self.number(to), kinds)
+        self.edges.least(self.number(from), self.number(to), kinds)
     }
 }

@@ -79,11 +79,7 @@ fn spans_in(
 }
 
 /// The starts and commits at these nodes, in the same order. NoMemory where an allocation was refused.
-fn points_of(
-    alloc: Global,
-    net: &Net<'_, '_>,
-    circle: &[u32],
-) -> Result<Vec<Point>, NoMemory>
+fn points_of(alloc: Global, net: &Net<'_, '_>, circle: &[u32]) -> Result<Vec<Point>, NoMemory>
     requires { All (λ node. node < 2 * length net.now.numbers) circle.now }
     ensures { IfOk result (λ points. points.items ≡ map (point_at net.now.numbers) circle.now) }
 {

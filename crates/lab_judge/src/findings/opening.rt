@@ -12,7 +12,11 @@ use lab_order::Ways;
 
 /// The first node and the first other one, to whose transaction a dependency leads from that of the first that opens a
 /// walk, and from which a path of the graph leads back; or None.
-pub(crate) fn first_opening(net: &Net<'_, '_>, ways: &Ways<'_>, opening: Kinds) -> Option<(u32, u32)>
+pub(crate) fn first_opening(
+    net: &Net<'_, '_>,
+    ways: &Ways<'_>,
+    opening: Kinds,
+) -> Option<(u32, u32)>
     requires { nodes_of ways.now ≡ length net.now.numbers }
     ensures found { IfSome result (λ ends. Tie (among opening) net.now ends.0 ends.1 × Reaches ways.now ends.1 ends.0) }
     ensures first { IfSome result (λ ends. (p q : ℕ) → p < ends.0 → Reaches ways.now q p → ¬ Tie (among opening) net.now p q) }

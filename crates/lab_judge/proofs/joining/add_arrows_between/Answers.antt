@@ -25,7 +25,7 @@ loop-to-preserved c =
     elim c.if-meets.branch [
       | then-meets+in_ok-add w ↦
           subst (Grows test c.args.joining net (λ p q. (p ≡ from) × (q ≡ to)) c.loop-to.graph) (sym w.graph-is)
-          (added (tied.0 w.if-meets.true) w.in_ok-add.ensures.nodes 
+          (added (tied.0 w.if-meets.true) w.in_ok-add.ensures.nodes
           (λ a b. w.in_ok-add.ensures.arrows a b ∙ (λ i. (w.tail.ensures i == a && w.head.ensures i == b) || has_arrow c.loop-to.graph a b)))
       | else-meets w ↦
           subst (Grows test c.args.joining net (λ p q. (p ≡ from) × (q ≡ to)) c.loop-to.graph) (sym w.graph-is)
