@@ -10,7 +10,8 @@ ghost use Rattle.lab_table.specs.Row.{Row};
 ghost use Rattle.lab_judge.specs.Due.{FindsOne, JudgesDue};
 ghost use Rattle.lab_judge.specs.Graphs.{IsGraphOf, IsNetOf};
 ghost use Rattle.lab_judge.specs.LeastWalks.{IsBackWalk, FindsDueWalks};
-ghost use Rattle.lab_judge.specs.Phenomena.{NoWalk, IsClosedWalk, IsG0, MeetsPl2};
+ghost use Rattle.lab_judge.specs.Openings.{IsClosedOf};
+ghost use Rattle.lab_judge.specs.Phenomena.{NoWalk, IsClosedWalk, MeetsPl2};
 ghost use Rattle.lab_judge.specs.Judgement.{JudgesReads, JudgesNothing, JudgesAtFault};
 
 mod closed_walk;
@@ -138,7 +139,7 @@ fn find_at_read(alloc: Global, history: &History) -> Result<Findings, NoMemory>
 /// The cycle of write-dependencies, by the rows' lists of installers alone. NoMemory where an allocation was refused.
 fn find_listed_circle(alloc: Global, history: &History) -> Result<Finding, NoMemory>
     requires { (row : Row) → ¬ Stands history.now (fault.InstallOrder row) }
-    ensures { IfOk result (FindsOne (IsG0 history.now) (IsBackWalk history.now is_write)) }
+    ensures { IfOk result (FindsOne (IsClosedOf history.now is_write) (IsBackWalk history.now is_write)) }
 {
     let nodes = Nodes::of(alloc, history)?;
     let edges = Dependencies::of_writes(alloc, history)?;
