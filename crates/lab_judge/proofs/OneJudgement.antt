@@ -2,19 +2,12 @@
 use Rattle.std.{proofs.{Common.{◌≡◌, ℕ, zero, suc, ◌<◌, Bool, true, false, List, length, inr, refl, sym, ap, ◌∙◌, subst, arith}, lemmas.{List.{same_lists}, Option.{slice_get-get_or}}}, specs.Prelude.{unwrap_or}}
 use Rattle.lab_history.specs.History.{History}
 use Rattle.lab_table.specs.Row.{Row}
-use Rattle.lab_deps.proofs.FaultOrders.{one_of_kind}
-use Rattle.lab_deps.specs.FaultKinds.{parts_of}
-use Rattle.lab_deps.specs.FaultOrder.{IsFirstRead}
-use Rattle.lab_deps.specs.KindSets.{is_any, is_write, is_flow, is_anti, is_item_anti}
-use Rattle.lab_deps.specs.Refusal.{is_uncommitted_read}
-use Rattle.lab_deps.specs.Soundness.{Stands}
+use Rattle.lab_deps.{proofs.FaultOrders.{one_of_kind}, specs.{FaultKinds.{parts_of}, FaultOrder.{IsFirstRead}, KindSets.{is_any, is_write, is_flow, is_anti, is_item_anti}, Refusal.{is_uncommitted_read}, Soundness.{Stands}}}
 use Rattle.lab_deps.specs.declared.{edge.Edge.{Edge}, fault.{LocalFault.{LocalFault, TheVariants.{AbortedRead, IntermediateRead}}, FaultParts.{FaultParts}}}
 use Rattle.lab_deps.specs.declared.fault.FaultParts.TheVariants as parts
-use Rattle.lab_judge.specs.Judgement.{FindsWalk, FindsFault, JudgesAll, JudgesReads, JudgesNothing, JudgesAtRead, Judges, IsExactJudgement}
-use Rattle.lab_judge.specs.LeastWalks.{FindsDue, FindsDueWalks}
+use Rattle.lab_judge.specs.{Judgement.{FindsWalk, FindsFault, JudgesAll, JudgesReads, JudgesNothing, JudgesAtRead, Judges, IsExactJudgement}, LeastWalks.{FindsDue, FindsDueWalks}, Phenomena.{IsG0, IsG1c, IsGSingle, IsG2Item, IsG2}}
 use Rattle.lab_judge.specs.Findings as found
 use Rattle.lab_judge.specs.declared.{report.{Finding.{Finding, TheVariants.{Absent, Walk, At, NotJudged}}, Grade.{Grade}, Report.{Report}}, serial.Serial.{Serial}}
-use Rattle.lab_judge.specs.Phenomena.{IsG0, IsG1c, IsGSingle, IsG2Item, IsG2}
 use Rattle.lab_judge.specs.declared.serial.Serial.TheVariants as serial
 use Rattle.lab_judge.proofs.{Agreeing.{serial_agrees, snapshot_agrees}, Grades.{one_grade}, OneWalk.{one_back_walk}, OneOpenedRound.{one_opened_round}}
 

@@ -9,9 +9,7 @@ use Rattle.lab_history.specs.{History.{History}, Version.{outcome_of}}
 use Rattle.lab_deps.{specs.{KindSets.{is_any}, KindsBetween.{KindsBetween}, Soundness.{has_committed}}, proofs.Found.{committed as is_committed}}
 use Rattle.lab_judge.specs.{Graphs.{IsNetOf}, Joining.{start_node, commit_node}, LeastPlaces.{txn_of, label, is_point, IsLower, place_in, IsPointOrder, IsLeastPointOrder}, PlaceGraphs.{point_at, IsPlaceGraph}, Places.{IsArrow}, Runs.{HoldsEachOnce}, declared.places.Point.{Point, TheVariants.{Start, Commit}}}
 use Rattle.lab_judge.proofs.{GraphNodes.{ends as node_ends, node_things, as_order}, LabelledKnots.{circle_label}, Lists.{of_both}, Nets.{rises as numbers_rise, node_again as number_node, node_within as number_within, commits_at}}
-use Rattle.lab_judge.proofs.Labels.{AreThings, AreLabels, labelled, not_after, place_is as place_of_label}
-use Rattle.lab_judge.proofs.OnePlacing.{one_label, not_both}
-use Rattle.lab_judge.proofs.PlaceNodes.{IsOfCommitted, ends, node_of, point_start, point_commit, point_again, arrow_is, has_it}
+use Rattle.lab_judge.proofs.{Labels.{AreThings, AreLabels, labelled, not_after, place_is as place_of_label}, OnePlacing.{one_label, not_both}, PlaceNodes.{IsOfCommitted, ends, node_of, point_start, point_commit, point_again, arrow_is, has_it}}
 
 pub is_same : (p q : Point) → Decides (is_point p q) (p ≡ q)
 is_same p q = Decides-like (is_point p q) (one_label p q) (ap label) (Decides-eqb (label p) (label q))

@@ -4,11 +4,7 @@ use Rattle.lab_order.{specs.{Knots.{IsBack}}, proofs.Trails.{ring_of}}
 use Rattle.lab_history.specs.History.{History}
 use Rattle.lab_deps.specs.{FaultOrder.{IsFirst}, KindSets.{is_any}, Soundness.{IsSound}, declared.fault.LocalFault.{LocalFault}}
 use Rattle.lab_judge.specs.{Due.{IsDueSerial, IsDuePlaces, JudgesDue}, Places.{IsArrow}}
-use Rattle.lab_judge.specs.Judgement.{IsSerialVerdict, IsSnapshotVerdict, SameFault, Judges, JudgesAll, JudgesAtFault, RestsOnOrder, RestsOnPlaces, IsExactJudgement}
-use Rattle.lab_judge.specs.BackPoints.{HasBackCircle}
-use Rattle.lab_judge.specs.LeastPlaces.{IsLower, IsLeastPlacing}
-use Rattle.lab_judge.specs.LeastWalks.{HasDueWalk, FindsDueWalks}
-use Rattle.lab_judge.specs.Verdicts.{IsLeastOrder}
+use Rattle.lab_judge.specs.{Judgement.{IsSerialVerdict, IsSnapshotVerdict, SameFault, Judges, JudgesAll, JudgesAtFault, RestsOnOrder, RestsOnPlaces, IsExactJudgement}, BackPoints.{HasBackCircle}, LeastPlaces.{IsLower, IsLeastPlacing}, LeastWalks.{HasDueWalk, FindsDueWalks}, Verdicts.{IsLeastOrder}}
 use Rattle.lab_judge.specs.declared.{places.Places.{Places}, report.{Finding.{Finding}, Grade.{Grade}, Report.{Report}}, serial.Serial.{Serial}}
 use Rattle.lab_judge.specs.declared.places.Places.TheVariants as places
 use Rattle.lab_judge.specs.declared.serial.Serial.TheVariants as serial

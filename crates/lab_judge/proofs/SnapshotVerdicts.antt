@@ -7,9 +7,7 @@ use Rattle.lab_order.specs.{Arrows.{Arrows, nodes_of, IsGraph}, Least.{IsLeast},
 use Rattle.lab_order.specs.Order as order
 use Rattle.lab_history.specs.{History.{History}, Version.{IsCommitted}}
 use Rattle.lab_deps.{specs.{KindSets.{is_any}, KindsBetween.{KindsBetween}, Soundness.{has_committed}}, proofs.Places.{times, times_count, at_times}}
-use Rattle.lab_judge.specs.Runs.{HoldsEachOnce, Span, all_places}
-use Rattle.lab_judge.specs.Places.{start_of, commit_of, place_of_point, IsForwardPlacing}
-use Rattle.lab_judge.specs.LeastPlaces.{is_point, place_in, IsPointOrder, IsLeastPointOrder, ArePlacedAlong}
+use Rattle.lab_judge.specs.{Runs.{HoldsEachOnce, Span, all_places}, Places.{start_of, commit_of, place_of_point, IsForwardPlacing}, LeastPlaces.{is_point, place_in, IsPointOrder, IsLeastPointOrder, ArePlacedAlong}}
 use Rattle.lab_judge.specs.{Graphs.{IsNetOf}, PlaceGraphs.{IsPlaceGraph, point_at, span_in}}
 use Rattle.lab_judge.specs.declared.places.Point.{Point, TheVariants.{Start, Commit}}
 use Rattle.lab_judge.proofs.{GraphNodes.{in_order}, Numbers.{contained}, OnePlacing.{IsPlaced}, Orders.{at_most, committed_in, committed_once}, PlaceNodes.{IsOfCommitted, ends, node_of}, PlacesApart.{IsTold, owners, owner_at, apart}, Placings.{find_span, places_of}, PointNodes.{is_same, node_within, place_is, is_least}}
