@@ -1,9 +1,7 @@
 -- Chains of steps: along paths and rings, and step by step.
 use Rattle.std.proofs.{Common.{◌≡◌, ℕ, suc, ◌+◌, ◌-◌, ◌<◌, List, [], ◌∷◌, ◌++◌, length, get_or, take, drop, refl, sym, ap, ◌∙◌, subst, arith}, lemmas.List.{take_all}, Math.Seq.{drop-cons}}
 use Rattle.lab_order.specs.{Arrows.{Arrows, IsArrow}, Path.{Leads}, Trails.{IsTrailBy, IsRing, IsChainBy}}
-use Rattle.lab_history.specs.History.{History}
-use Rattle.lab_deps.specs.declared.edge.Edge.{Edge}
-use Rattle.lab_judge.specs.{Graphs.{last_of}, Phenomena.{IsWalk, IsClosedWalk}}
+use Rattle.lab_judge.specs.{Graphs.{last_of}}
 
 module _ (IsStep : ℕ → ℕ → Type 0) where
   -- the next step of a way, and the rest

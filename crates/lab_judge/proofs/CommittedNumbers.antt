@@ -1,5 +1,5 @@
 -- The numbers of the committed transactions, each once.
-use Rattle.std.{proofs.{Common.{◌≡◌, ℕ, ◌+◌, ◌≤◌, ◌==◌, Bool, true, false, cond, Some, List, [], ◌∷◌, map, refl, sym, ap, ◌∙◌, subst, arith, inl, inr}, lemmas.{Bool.{eqb-true, cases_lt, false≢true}, List.Elements.{All-map, All-contains, filter_passes}}}, specs.{Prelude.{Contains, filter, option_map}, List.{All, Sorted.{IsStrictlyIncreasing}}}}
+use Rattle.std.{proofs.{Common.{◌≡◌, ℕ, ◌≤◌, ◌==◌, Bool, true, false, cond, Some, List, [], ◌∷◌, map, refl, sym, ap, ◌∙◌, subst, arith, inl, inr}, lemmas.{Bool.{eqb-true, cases_lt, false≢true}, List.Elements.{All-map, All-contains, filter_passes}}}, specs.{Prelude.{Contains, filter, option_map}, List.{All, Sorted.{IsStrictlyIncreasing}}}}
 use Rattle.lab_history.specs.{History.{History}, Version.{outcome_of, find_txn}, declared.transaction.Txn.{Txn}}
 use Rattle.lab_deps.{specs.Soundness.{has_committed}, proofs.Places.{times, times_count, times_here, times_more}}
 use Rattle.lab_judge.{specs.Runs.{HoldsEachOnce}, proofs.Numbers.{contained, contains_it, at_most_once}}

@@ -1,10 +1,10 @@
 -- The first edge that opens a walk that leads back.
-use Rattle.std.{proofs.{Common.{◌≡◌, ℕ, ◌<◌, Bool, false, Some, length, slice_index, inl, inr, refl, sym, ap, ◌∙◌, subst, arith}, lemmas.{Bool.{cases_order}, Option.{same_Some}}}, specs.{Prelude.{slice_get}, Cmp.{nat_cmp_is}, Ordering.{is_lt, nat_cmp, ordering_then}, declared.cmp.Ordering.{Ordering, TheVariants.{Equal, Greater}}}}
+use Rattle.std.{proofs.{Common.{◌≡◌, ℕ, ◌<◌, Bool, false, Some, length, inl, inr, refl, sym, ap, ◌∙◌, subst, arith}, lemmas.{Bool.{cases_order}, Option.{same_Some}}}, specs.{Prelude.{slice_get}, Cmp.{nat_cmp_is}, Ordering.{is_lt, nat_cmp, ordering_then}, declared.cmp.Ordering.{Ordering, TheVariants.{Equal, Greater}}}}
 use Rattle.lab_table.specs.Row.{row_cmp}
 use Rattle.lab_order.specs.{Arrows.{Arrows}, Order.{position}, Path.{Reaches}}
 use Rattle.lab_history.specs.History.{History}
 use Rattle.lab_deps.specs.{Edges.{IsEdge}, EdgeOrder.{kind_place, edge_cmp}, KindSets.{is_any}, KindsBetween.{KindsBetween}, declared.edge.{Edge.{Edge}, Kind.{Kind}}}
-use Rattle.lab_judge.{specs.{Graphs.{Tie, IsLeastTie, IsNetOf}, LeastWalks.{IsFirstOpening}, Openings.{IsOpening}}, proofs.{Lists.{of_both}, Nets.{rises, node_within, number_again, stands_at, tie_of, net_for}, Numbers.{read, at_its_place}}}
+use Rattle.lab_judge.{specs.{Graphs.{Tie, IsLeastTie, IsNetOf}, LeastWalks.{IsFirstOpening}, Openings.{IsOpening}}, proofs.{Lists.{of_both}, Nets.{rises, node_within, stands_at, tie_of, net_for}, Numbers.{read, at_its_place}}}
 
 -- how edges compare by kind and row, and by these behind their ends
 abbrev by_kind : Edge → Edge → Ordering
@@ -25,10 +25,10 @@ later_to e f same less =
 module _ {h : History} {net : KindsBetween} (of : IsNetOf h is_any net) (opening : Kind → Bool) (graph : Arrows) (p q : ℕ)
     (before : (a b : ℕ) → a < p → Reaches graph b a → Tie opening net a b → ⊥) (next : (b : ℕ) → b < q → Reaches graph b p → Tie opening net p b → ⊥)
     (back : Reaches graph q p) (e : Edge) (l : IsLeastTie opening net p q e) where
-  pub from_is : position net.numbers e.from ≡ p
+  from_is : position net.numbers e.from ≡ p
   from_is = at_its_place net.numbers of.committed.rising p e.from l.from
 
-  pub to_is : position net.numbers e.to ≡ q
+  to_is : position net.numbers e.to ≡ q
   to_is = at_its_place net.numbers of.committed.rising q e.to l.to
 
   -- where a number stands in place of that of a node, a greater node has a greater one

@@ -1,5 +1,5 @@
 -- Walks along edges, and paths of the graph of these edges.
-use Rattle.std.{proofs.Common.{◌≡◌, ℕ, Bool, true, List, [], ◌∷◌, map, refl, ap, subst}, specs.Prelude.{not}}
+use Rattle.std.{proofs.Common.{◌≡◌, ℕ, Bool, true, List, [], ◌∷◌, map, refl, ap, subst}}
 use Rattle.lab_order.specs.{Arrows.{Arrows, IsArrow}, Order.{position, IsOrder}, Path.{Leads}}
 use Rattle.lab_history.specs.History.{History}
 use Rattle.lab_deps.specs.{Edges.{IsEdge}, KindsBetween.{KindsBetween}, declared.edge.{Edge.{Edge}, Kind.{Kind}}}

@@ -1,5 +1,5 @@
 -- A cycle that is turned to the first of the edges that begin with the least transaction.
-use Rattle.std.proofs.{Common.{◌≡◌, ℕ, suc, ◌<◌, ◌≤◌, Bool, true, List, [], ◌∷◌, ◌++◌, length, get_or, take, drop, sym, ap, ◌∙◌, subst, arith, inl, inr}, Math.Seq.{drop-cons}}
+use Rattle.std.proofs.{Common.{◌≡◌, ℕ, suc, ◌<◌, ◌≤◌, Bool, true, List, [], ◌∷◌, ◌++◌, length, get_or, take, drop, sym, ap, ◌∙◌, subst, arith}, Math.Seq.{drop-cons}}
 use Rattle.std.specs.{List.{IsFirstBest}, Ordering.{nat_cmp, is_lt}}
 use Rattle.std.proofs.lemmas.{Bool.Decides.{nat_tests}, List.{take-append-drop, get_or-take, length-take-le, Elements.{All-drop, All-from_get_or}}, Map.Keys.{ge_from_not_lt}}
 use Rattle.lab_deps.specs.declared.edge.Edge.{Edge}

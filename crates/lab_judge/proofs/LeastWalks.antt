@@ -1,5 +1,5 @@
 -- Walks that take the least edge between each two neighbours.
-use Rattle.std.{proofs.{Common.{◌≡◌, ℕ, suc, ◌+◌, ◌<◌, ◌≤◌, Bool, true, List, [], ◌∷◌, ◌++◌, length, get_or, drop, slice_index, refl, sym, ap, ◌∙◌, subst, arith}, lemmas.List.{append_assoc, append-nil, drop_all}, Math.Seq.{drop-cons}}, specs.Prelude.{not}}
+use Rattle.std.{proofs.{Common.{◌≡◌, ℕ, suc, ◌+◌, ◌<◌, ◌≤◌, Bool, List, [], ◌∷◌, ◌++◌, length, get_or, drop, slice_index, refl, sym, ap, ◌∙◌, subst, arith}, lemmas.List.{append_assoc, append-nil, drop_all}, Math.Seq.{drop-cons}}, specs.Prelude.{not}}
 use Rattle.lab_order.specs.{Arrows.{Arrows}, Back.{IsBackCircle}, Order.{position}, Path.{IsPath}}
 use Rattle.lab_history.specs.History.{History}
 use Rattle.lab_deps.specs.{Edges.{IsEdge}, KindsBetween.{KindsBetween}, declared.edge.{Edge.{Edge}, Kind.{Kind}}}

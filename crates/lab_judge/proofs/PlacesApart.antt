@@ -1,5 +1,5 @@
 -- No place is of two: of spans whose places each tell the one point that has them.
-use Rattle.std.{proofs.{Common.{◌≡◌, ◌⊎◌, ℕ, zero, suc, ◌+◌, ◌≤◌, Some, List, [], ◌∷◌, map, refl, sym, ap, ◌∙◌, subst, arith, inl, inr}, lemmas.Option.{same_Some, none-some, slice_get_within, slice_get-map, get_or_from_slice_get}}, specs.{Prelude.{slice_get, option_map}, List.{All}}}
+use Rattle.std.{proofs.{Common.{◌≡◌, ◌⊎◌, ℕ, zero, suc, ◌+◌, ◌≤◌, Some, List, [], ◌∷◌, map, refl, ap, ◌∙◌, subst, arith, inl, inr}, lemmas.Option.{same_Some, none-some, slice_get_within, slice_get-map, get_or_from_slice_get}}, specs.{Prelude.{slice_get, option_map}, List.{All}}}
 use Rattle.lab_deps.proofs.Places.{times, at_most_once}
 use Rattle.lab_judge.{specs.{LeastPlaces.{txn_of}, Runs.{Span, all_places}, declared.places.Point.{Point, TheVariants.{Start, Commit}}}, proofs.Lists.{one_place}}
 

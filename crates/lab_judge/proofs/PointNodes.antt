@@ -1,5 +1,5 @@
 -- Starts and commits are labels of the nodes of their graph.
-use Rattle.std.proofs.{Common.{◌≡◌, ℕ, ◌+◌, ◌*◌, ◌/◌, ◌%◌, ◌<◌, ◌≤◌, ◌==◌, Bool, true, false, cond, List, length, map, nat_lt, slice_index, refl, sym, ap, ◌∙◌, subst, arith, inl, inr}, lemmas.Bool.{eqb-true, eqb-false, cases_lt, cases_order, ltb-true, lt-ltb, Decides.{Decides-eqb, Decides-like}}}
+use Rattle.std.proofs.{Common.{◌≡◌, ℕ, ◌+◌, ◌*◌, ◌/◌, ◌%◌, ◌<◌, ◌==◌, Bool, true, false, cond, List, length, map, nat_lt, slice_index, refl, sym, ap, ◌∙◌, subst, arith, inl, inr}, lemmas.Bool.{eqb-true, eqb-false, cases_lt, cases_order, ltb-true, lt-ltb, Decides.{Decides-eqb, Decides-like}}}
 use Rattle.std.specs.{Prelude.{Decides}, List.Sorted.{IsStrictlyIncreasing}}
 use Rattle.lab_order.specs.Arrows as arrows
 use Rattle.lab_order.specs.{Arrows.{Arrows, nodes_of, IsGraph}, Knots.{IsBackCircle}, Least.{IsLess, IsLeast}, Order.{position}}

@@ -6,7 +6,7 @@ use Rattle.lab_table.proofs.Members.{member_at}
 use Rattle.lab_order.specs.{Arrows.{Arrows, nodes_of, IsGraph}, Least.{IsLeast}, Order.{position}}
 use Rattle.lab_order.specs.Order as order
 use Rattle.lab_history.specs.{History.{History}, Version.{IsCommitted}}
-use Rattle.lab_deps.{specs.{KindSets.{is_any}, KindsBetween.{KindsBetween}, Soundness.{has_committed}}, proofs.Places.{times, times_count, at_times}}
+use Rattle.lab_deps.{specs.{KindSets.{is_any}, KindsBetween.{KindsBetween}, Soundness.{has_committed}}, proofs.Places.{times_count, at_times}}
 use Rattle.lab_judge.specs.{Runs.{HoldsEachOnce, Span, all_places}, Places.{start_of, commit_of, place_of_point, IsForwardPlacing}, LeastPlaces.{is_point, place_in, IsPointOrder, IsLeastPointOrder, ArePlacedAlong}}
 use Rattle.lab_judge.specs.{Graphs.{IsNetOf}, PlaceGraphs.{IsPlaceGraph, point_at, span_in}}
 use Rattle.lab_judge.specs.declared.places.Point.{Point, TheVariants.{Start, Commit}}

@@ -1,5 +1,5 @@
 -- Which cycles are which phenomenon.
-use Rattle.std.{proofs.{Common.{◌≡◌, ℕ, ◌≤◌, Bool, true, List, refl, sym, ap, ◌∙◌, subst, arith}, lemmas.Bool.{false≢true}, Math.Bool.{not-not}}, specs.Prelude.{◌↔◌, not}}
+use Rattle.std.{proofs.{Common.{◌≡◌, ◌≤◌, Bool, true, List, refl, sym, ap, ◌∙◌, subst, arith}, lemmas.Bool.{false≢true}, Math.Bool.{not-not}}, specs.Prelude.{◌↔◌, not}}
 use Rattle.lab_history.specs.History.{History}
 use Rattle.lab_deps.specs.{KindSets.{is_any, is_write, is_flow, is_anti}, declared.edge.{Edge.{Edge}, Kind.{Kind, TheVariants.{Write, ItemRead, PredicateRead, ItemAnti, PredicateAnti}}}}
 use Rattle.lab_judge.specs.{Due.{FindsOne}, Judgement.{FindsWalk}, LeastWalks.{IsBackWalk, IsOpenedRound, FindsDue}, Openings.{count_others, IsClosedOf, IsOpenedWalk}, Phenomena.{IsClosedWalk, count_kind, IsG1c, IsGSingle}, declared.report.Finding.{Finding, TheVariants.{Absent, Walk, At, NotJudged}}}

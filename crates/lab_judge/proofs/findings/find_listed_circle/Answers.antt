@@ -1,5 +1,5 @@
 use Rattle.std.proofs.{Common.{sym, subst}, lemmas.Result.{IfOk-weaker}}
-use Rattle.lab_deps.{specs.{KindSets.{among, is_write}, declared.kinds.TheConstants.Kinds.{WRITES}}, proofs.NamedKinds.{writes_named}}
+use Rattle.lab_deps.{specs.{KindSets.{is_write}}, proofs.NamedKinds.{writes_named}}
 use Rattle.lab_judge.{specs.Graphs.{IsNetOf}, proofs.{Nets.{is_net}, WalkKinds.{only_write, named_circle}}}
 use Rattle.lab_judge.proofs.findings.find_listed_circle.Goals as goal
 

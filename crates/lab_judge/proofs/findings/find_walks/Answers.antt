@@ -1,6 +1,6 @@
 use Rattle.std.proofs.Common.{refl, sym, subst}
 use Rattle.lab_deps.{specs.{KindSets.{among, is_write, is_flow, is_anti, is_item_anti, is_any}, declared.kinds.TheConstants.Kinds.{WRITES, FLOW, ANTI, ITEM_ANTI}}, proofs.NamedKinds.{all_named, writes_named, flow_named, antis_named, item_antis_named}}
-use Rattle.lab_judge.specs.{Due.{FindsOne}, LeastWalks.{IsBackWalk, IsOpenedRound}, Openings.{AllowsAllOrNone, IsClosedOf, IsOpenedWalk}, Phenomena.{NoG1a, NoG1b, IsG0, IsG1c, IsGSingle, IsG2Item, IsG2}}
+use Rattle.lab_judge.specs.{Openings.{AllowsAllOrNone}, Phenomena.{NoG1a, NoG1b, IsG0, IsG1c, IsGSingle, IsG2Item, IsG2}}
 use Rattle.lab_judge.proofs.{OpenedWalks.{any_beside, flow_beside}, Levels.{none_aborted, none_intermediate}, Nets.{net_for}, WalkKinds.{named_circle, named_opened, found_circle, found_opened, flow_is_g1c, one_is_single, any_is_opened}}
 use Rattle.lab_judge.proofs.findings.find_walks.Goals as goal
 

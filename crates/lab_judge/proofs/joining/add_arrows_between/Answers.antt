@@ -1,4 +1,4 @@
-use Rattle.std.proofs.{Common.{◌≡◌, ◌≤◌, ◌<◌, ◌==◌, ◌&&◌, ◌||◌, ◌↔◌, true, length, sym, ◌∙◌, subst, arith, inl, inr}, lemmas.{Bool.{both_ways, cases_lt}}}
+use Rattle.std.proofs.{Common.{◌≡◌, ◌<◌, ◌==◌, ◌&&◌, ◌||◌, ◌↔◌, true, length, sym, ◌∙◌, subst, arith, inl, inr}, lemmas.{Bool.{both_ways, cases_lt}}}
 use Rattle.lab_order.specs.Arrows.{has_arrow}
 use Rattle.lab_deps.specs.KindSets.{among}
 use Rattle.lab_judge.{specs.{Graphs.{Tie}, Joining.{Grows}}, proofs.{Growing.{meets_tie, bare_ties_none, unchanged, added, then, wider}, Lists.{of_both}, joining.add_arrows_between.Goals.{then-meets+in_ok-add, else-meets}}}

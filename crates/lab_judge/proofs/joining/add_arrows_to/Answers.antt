@@ -1,8 +1,8 @@
-use Rattle.std.proofs.{Common.{◌≡◌, ◌<◌, ◌==◌, ℕ, true, length, get_or, refl, sym, ap, ◌∙◌, subst, arith, inl, inr}, lemmas.Bool.{cases_lt, Decides.{Decides-by_or, Decides-eqb}}}
+use Rattle.std.proofs.{Common.{◌≡◌, ◌==◌, length, get_or, refl, sym, ap, ◌∙◌, arith, inl, inr}, lemmas.Bool.{cases_lt, Decides.{Decides-by_or, Decides-eqb}}}
 use Rattle.std.specs.{List.{list_any}, Prelude.{slice_get}}
 use Rattle.lab_order.specs.Arrows.{before}
-use Rattle.lab_deps.{specs.KindSets.{among}, proofs.NamedKinds.{all_has}}
-use Rattle.lab_judge.{specs.Graphs.{Tie}, proofs.Growing.{unchanged, then, wider}}
+use Rattle.lab_deps.{proofs.NamedKinds.{all_has}}
+use Rattle.lab_judge.{proofs.Growing.{unchanged, then, wider}}
 use Rattle.lab_judge.proofs.joining.add_arrows_to.Goals as goal
 
 pub loop-from-init : goal.loop-from-init

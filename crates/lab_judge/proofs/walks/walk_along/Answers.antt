@@ -1,4 +1,4 @@
-use Rattle.std.{proofs.{Common.{sym, subst, ◌∙◌, arith}, lemmas.Option.{slice_get_within}}, specs.Prelude.{IfSome}}
+use Rattle.std.{proofs.{Common.{subst, arith}, lemmas.Option.{slice_get_within}}, specs.Prelude.{IfSome}}
 use Rattle.lab_deps.specs.KindSets.{among}
 use Rattle.lab_judge.{specs.Graphs.{Tie, IsLeastTie}, proofs.{Chains.{step}, LeastWalks.{steps_on, gone_along}, Nets.{least_edge}}}
 use Rattle.lab_judge.proofs.walks.walk_along.Goals as goal

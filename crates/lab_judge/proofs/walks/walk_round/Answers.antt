@@ -1,4 +1,4 @@
-use Rattle.std.proofs.Common.{◌≡◌, ◌∷◌, ◌++◌, [], List, ℕ, ◌-◌, length, take, drop, ◌∙◌, sym, subst}
+use Rattle.std.proofs.Common.{◌∙◌, sym, subst}
 use Rattle.lab_order.specs.Trails.{IsRing, IsChainBy}
 use Rattle.lab_deps.specs.KindSets.{among}
 use Rattle.lab_judge.{specs.{Graphs.{Tie}, LeastWalks.{GoesAlong, GoesRound}}, proofs.{Chains.{trail_chain, ring_parts}}}

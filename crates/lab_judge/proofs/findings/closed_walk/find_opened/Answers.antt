@@ -1,13 +1,13 @@
-use Rattle.std.{proofs.{Common.{◌≡◌, ◌∷◌, ℕ, sym, subst}, lemmas.Option.{slice_get_within}}, specs.Prelude.{IfSome}}
-use Rattle.lab_order.specs.{Arrows.{Arrows}, Path.{Reaches}}
-use Rattle.lab_deps.specs.{KindSets.{among}}
-use Rattle.lab_judge.{specs.{Graphs.{Tie, IsLeastTie}, LeastWalks.{IsTurnToLeast}}, proofs.{FirstOpenings.{from_is, to_is, is_first}, Nets.{edge_graph, net_for}, OpenedWalks.{none_opened}}}
+use Rattle.std.{proofs.{Common.{◌∷◌, ◌<◌, ℕ, sym, subst}, lemmas.Option.{slice_get_within}}, specs.Prelude.{IfSome}}
+use Rattle.lab_order.specs.Path.{Reaches}
+use Rattle.lab_deps.specs.KindSets.{among}
+use Rattle.lab_judge.{specs.{Graphs.{Tie, IsLeastTie}, LeastWalks.{IsFirstOpening, IsTurnToLeast}}, proofs.{FirstOpenings.{is_first}, Nets.{edge_graph, net_for}, Numbers.{at_its_place}, OpenedWalks.{none_opened}}}
 use Rattle.lab_judge.proofs.findings.closed_walk.find_opened.Goals as goal
 
 pub returns-in_default : goal.returns-in_default
 returns-in_default c = λ h of.
     none_opened of (among c.args.allowed) (among c.args.opening) c.args.graph.now c.requires.graph c.requires.allowed
-    (λ p q back. c.first_opening.ensures.none ? p q (subst (λ g. Reaches g q p) (sym c.requires.ways) back))
+    (λ p q back. c.first_opening.ensures.none c.in_default.is p q (subst (λ g. Reaches g q p) (sym c.requires.ways) back))
 
 pub least-requires : goal.least-requires
 least-requires c =
@@ -15,10 +15,36 @@ least-requires c =
     record { from = slice_get_within _ _ _ tie.from; to = slice_get_within _ _ _ tie.to }
 
 pub unreachable-requires : goal.unreachable-requires
-unreachable-requires c = ?
+unreachable-requires c =
+    c.in_ok-edge.ensures.none c.in_default.is
+    (subst (λ o. IfSome o (λ ends. Tie (among c.args.opening) c.args.net.now ends.0 ends.1 × Reaches c.args.ways.now ends.1 ends.0)) c.in-Some.is c.first_opening.ensures.found).0
 
-pub way_back-requires : goal.way_back-requires
-way_back-requires c = ?
+pub way_back-requires-clause-back : goal.way_back-requires-clause-back
+way_back-requires-clause-back c =
+    subst (λ g. Reaches g c.in-Some.to c.in-Some.from) c.requires.ways
+    (subst (λ o. IfSome o (λ ends. Tie (among c.args.opening) c.args.net.now ends.0 ends.1 × Reaches c.args.ways.now ends.1 ends.0)) c.in-Some.is c.first_opening.ensures.found).1
 
 pub returns : goal.returns
-returns c = ?
+returns c = λ h of.
+    let opening = among c.args.opening in
+    let net = c.args.net.now in
+    let ways = c.args.ways.now in
+    let edge = c.in-Some-edge.edge in
+    let found : Tie opening net c.in-Some.from c.in-Some.to × Reaches ways c.in-Some.to c.in-Some.from
+    = subst (λ o. IfSome o (λ ends. Tie opening net ends.0 ends.1 × Reaches ways ends.1 ends.0)) c.in-Some.is c.first_opening.ensures.found in
+    let first = subst (λ o. IfSome o (λ ends. (p q : ℕ) → p < ends.0 → Reaches ways q p → ¬ Tie opening net p q)) c.in-Some.is c.first_opening.ensures.first in
+    let next = subst (λ o. IfSome o (λ ends. (q : ℕ) → q < ends.1 → Reaches ways q ends.0 → ¬ Tie opening net ends.0 q)) c.in-Some.is c.first_opening.ensures.next in
+    let least : IsLeastTie opening net c.in-Some.from c.in-Some.to edge = subst (λ o. IfSome o (IsLeastTie opening net c.in-Some.from c.in-Some.to)) c.in-Some-edge.is c.in_ok-edge.ensures.found in
+    record {
+      txns = net.numbers;
+      committed = of.committed;
+      graph = c.args.graph.now;
+      edges = edge_graph (net_for (among c.args.allowed) of) c.args.graph.now c.requires.graph;
+      edge = edge;
+      first = subst (λ g. IsFirstOpening h opening g net.numbers edge) c.requires.ways (is_first of opening ways c.in-Some.from c.in-Some.to first next found.1 edge least);
+      back = c.in_ok-walk.walk.items;
+      way = c.in_ok-walk.ensures h edge (net_for (among c.args.allowed) of) (at_its_place net.numbers of.committed.rising c.in-Some.to edge.to least.to)
+          (at_its_place net.numbers of.committed.rising c.in-Some.from edge.from least.from);
+      turned = subst (IsTurnToLeast (edge ∷ c.in_ok-walk.walk.items)) (sym c.new.ensures)
+          (subst (λ l. IsTurnToLeast l c.with_least_first.result.items) c.in_ok-insert.ensures.items c.with_least_first.ensures);
+    }

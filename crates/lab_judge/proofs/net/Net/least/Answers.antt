@@ -1,4 +1,4 @@
-use Rattle.std.{proofs.{Common.{◌≡◌, sym, ap, ◌∙◌, subst}, lemmas.Option.{same_Some}}, specs.Prelude.{Contains}}
+use Rattle.std.{proofs.{Common.{◌≡◌, sym, ap, ◌∙◌, subst, Some}, lemmas.{Option.{same_Some}, Result.{IfOk-weaker}}}, specs.Prelude.{Contains, slice_get, IfSome}}
 use Rattle.lab_judge.proofs.net.Net.least.Goals as goal
 
 pub returns-clause-found : goal.returns-clause-found
