@@ -99,10 +99,12 @@ module _ {h : History} {net : KindsBetween} (of : IsNetOf h is_any net) (graph :
   pub due_places : HoldsEachOnce h (owners made) × ((points : List Point) × IsLeastPointOrder h points × ArePlacedAlong points made)
   due_places = (
     subst (HoldsEachOnce h) (sym numbers) of.committed.each_once,
-    points,
-    is_least of graph g is nodes l,
-    record {
-      rising = subst IsStrictlyIncreasing (sym numbers) of.committed.rising;
-      placed = λ s there. All-contains (IsPlaced points) made s made_placed there;
-    },
+    (
+      points,
+      is_least of graph g is nodes l,
+      record {
+        rising = subst IsStrictlyIncreasing (sym numbers) of.committed.rising;
+        placed = λ s there. All-contains (IsPlaced points) made s made_placed there;
+      },
+    ),
   )

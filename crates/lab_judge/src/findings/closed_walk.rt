@@ -58,13 +58,13 @@ pub(crate) fn find_opened(
     requires allowed { AllowsAllOrNone (among opening) (among allowed) }
     ensures { IfOk result (λ finding. (h : History) → IsNetOf h is_any net.now → FindsOne (IsOpenedWalk h (among opening) (among allowed)) (IsOpenedRound h (among opening) (among allowed)) finding) }
 {
-    let Some((from, to)) = first_opening(net, ways, opening) else {
+    let Some(ends) = first_opening(net, ways, opening) else {
         return Ok(Finding::Absent);
     };
-    let Some(edge) = net.least(from, to, opening)? else {
+    let Some(edge) = net.least(ends.from, ends.to, opening)? else {
         unreachable!()
     };
-    let mut walk = way_back(alloc, net, allowed, graph, to, from)?;
+    let mut walk = way_back(alloc, net, allowed, graph, ends.to, ends.from)?;
     walk.insert(0, edge)?;
     Ok(Finding::Walk(Walk::new(with_least_first(walk))))
 }

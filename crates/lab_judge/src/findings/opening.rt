@@ -10,22 +10,29 @@ use crate::net::Net;
 use lab_deps::Kinds;
 use lab_order::Ways;
 
-/// The first node and the first other one, to whose transaction a dependency leads from that of the first that opens a
-/// walk, and from which a path of the graph leads back; or None.
+/// The nodes that a dependency joins.
+#[derive(Clone, Copy)]
+pub(crate) struct Ends {
+    pub(crate) from: u32,
+    pub(crate) to: u32,
+}
+
+/// The first two nodes, by the first and then by the second, between which a dependency opens a walk, and from the second
+/// of which a path of the graph leads back to the first; or None.
 pub(crate) fn first_opening(
     net: &Net<'_, '_>,
     ways: &Ways<'_>,
     opening: Kinds,
-) -> Option<(u32, u32)>
+) -> Option<Ends>
     requires { nodes_of ways.now ≡ length net.now.numbers }
-    ensures found { IfSome result (λ ends. Tie (among opening) net.now ends.0 ends.1 × Reaches ways.now ends.1 ends.0) }
-    ensures first { IfSome result (λ ends. (p q : ℕ) → p < ends.0 → Reaches ways.now q p → ¬ Tie (among opening) net.now p q) }
-    ensures next { IfSome result (λ ends. (q : ℕ) → q < ends.1 → Reaches ways.now q ends.0 → ¬ Tie (among opening) net.now ends.0 q) }
+    ensures found { IfSome result (λ ends. Tie (among opening) net.now ends.from ends.to × Reaches ways.now ends.to ends.from) }
+    ensures first { IfSome result (λ ends. (p q : ℕ) → p < ends.from → Reaches ways.now q p → ¬ Tie (among opening) net.now p q) }
+    ensures next { IfSome result (λ ends. (q : ℕ) → q < ends.to → Reaches ways.now q ends.from → ¬ Tie (among opening) net.now ends.from q) }
     ensures none { result ≡ None → (p q : ℕ) → Reaches ways.now q p → ¬ Tie (among opening) net.now p q }
 {
     for from in 0..net.len() {
         if let Some(to) = first_leading(net, ways, opening, from) {
-            return Some((from, to));
+            return Some(Ends { from, to });
         }
     }
     None

@@ -11,18 +11,18 @@ returns-in_default c = λ h of.
 
 pub least-requires : goal.least-requires
 least-requires c =
-    let tie = (subst (λ o. IfSome o (λ ends. Tie (among c.args.opening) c.args.net.now ends.0 ends.1 × Reaches c.args.ways.now ends.1 ends.0)) c.in-Some.is c.first_opening.ensures.found).0 in
+    let tie = (subst (λ o. IfSome o (λ ends. Tie (among c.args.opening) c.args.net.now ends.from ends.to × Reaches c.args.ways.now ends.to ends.from)) c.in-Some.is c.first_opening.ensures.found).0 in
     record { from = slice_get_within _ _ _ tie.from; to = slice_get_within _ _ _ tie.to }
 
 pub unreachable-requires : goal.unreachable-requires
 unreachable-requires c =
     c.in_ok-edge.ensures.none c.in_default.is
-    (subst (λ o. IfSome o (λ ends. Tie (among c.args.opening) c.args.net.now ends.0 ends.1 × Reaches c.args.ways.now ends.1 ends.0)) c.in-Some.is c.first_opening.ensures.found).0
+    (subst (λ o. IfSome o (λ ends. Tie (among c.args.opening) c.args.net.now ends.from ends.to × Reaches c.args.ways.now ends.to ends.from)) c.in-Some.is c.first_opening.ensures.found).0
 
 pub way_back-requires-clause-back : goal.way_back-requires-clause-back
 way_back-requires-clause-back c =
-    subst (λ g. Reaches g c.in-Some.to c.in-Some.from) c.requires.ways
-    (subst (λ o. IfSome o (λ ends. Tie (among c.args.opening) c.args.net.now ends.0 ends.1 × Reaches c.args.ways.now ends.1 ends.0)) c.in-Some.is c.first_opening.ensures.found).1
+    subst (λ g. Reaches g c.in-Some.ends.to c.in-Some.ends.from) c.requires.ways
+    (subst (λ o. IfSome o (λ ends. Tie (among c.args.opening) c.args.net.now ends.from ends.to × Reaches c.args.ways.now ends.to ends.from)) c.in-Some.is c.first_opening.ensures.found).1
 
 pub returns : goal.returns
 returns c = λ h of.
@@ -30,21 +30,21 @@ returns c = λ h of.
     let net = c.args.net.now in
     let ways = c.args.ways.now in
     let edge = c.in-Some-edge.edge in
-    let found : Tie opening net c.in-Some.from c.in-Some.to × Reaches ways c.in-Some.to c.in-Some.from
-    = subst (λ o. IfSome o (λ ends. Tie opening net ends.0 ends.1 × Reaches ways ends.1 ends.0)) c.in-Some.is c.first_opening.ensures.found in
-    let first = subst (λ o. IfSome o (λ ends. (p q : ℕ) → p < ends.0 → Reaches ways q p → ¬ Tie opening net p q)) c.in-Some.is c.first_opening.ensures.first in
-    let next = subst (λ o. IfSome o (λ ends. (q : ℕ) → q < ends.1 → Reaches ways q ends.0 → ¬ Tie opening net ends.0 q)) c.in-Some.is c.first_opening.ensures.next in
-    let least : IsLeastTie opening net c.in-Some.from c.in-Some.to edge = subst (λ o. IfSome o (IsLeastTie opening net c.in-Some.from c.in-Some.to)) c.in-Some-edge.is c.in_ok-edge.ensures.found in
+    let found : Tie opening net c.in-Some.ends.from c.in-Some.ends.to × Reaches ways c.in-Some.ends.to c.in-Some.ends.from
+    = subst (λ o. IfSome o (λ ends. Tie opening net ends.from ends.to × Reaches ways ends.to ends.from)) c.in-Some.is c.first_opening.ensures.found in
+    let first = subst (λ o. IfSome o (λ ends. (p q : ℕ) → p < ends.from → Reaches ways q p → ¬ Tie opening net p q)) c.in-Some.is c.first_opening.ensures.first in
+    let next = subst (λ o. IfSome o (λ ends. (q : ℕ) → q < ends.to → Reaches ways q ends.from → ¬ Tie opening net ends.from q)) c.in-Some.is c.first_opening.ensures.next in
+    let least : IsLeastTie opening net c.in-Some.ends.from c.in-Some.ends.to edge = subst (λ o. IfSome o (IsLeastTie opening net c.in-Some.ends.from c.in-Some.ends.to)) c.in-Some-edge.is c.in_ok-edge.ensures.found in
     record {
       txns = net.numbers;
       committed = of.committed;
       graph = c.args.graph.now;
       edges = edge_graph (net_for (among c.args.allowed) of) c.args.graph.now c.requires.graph;
       edge = edge;
-      first = subst (λ g. IsFirstOpening h opening g net.numbers edge) c.requires.ways (is_first of opening ways c.in-Some.from c.in-Some.to first next found.1 edge least);
+      first = subst (λ g. IsFirstOpening h opening g net.numbers edge) c.requires.ways (is_first of opening ways c.in-Some.ends.from c.in-Some.ends.to first next found.1 edge least);
       back = c.in_ok-walk.walk.items;
-      way = c.in_ok-walk.ensures h edge (net_for (among c.args.allowed) of) (at_its_place net.numbers of.committed.rising c.in-Some.to edge.to least.to)
-          (at_its_place net.numbers of.committed.rising c.in-Some.from edge.from least.from);
+      way = c.in_ok-walk.ensures h edge (net_for (among c.args.allowed) of) (at_its_place net.numbers of.committed.rising c.in-Some.ends.to edge.to least.to)
+          (at_its_place net.numbers of.committed.rising c.in-Some.ends.from edge.from least.from);
       turned = subst (IsTurnToLeast (edge ∷ c.in_ok-walk.walk.items)) (sym c.new.ensures)
           (subst (λ l. IsTurnToLeast l c.with_least_first.result.items) c.in_ok-insert.ensures.items c.with_least_first.ensures);
     }
