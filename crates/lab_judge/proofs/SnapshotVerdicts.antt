@@ -1,14 +1,12 @@
 -- What the order of the graph of starts and commits says of the history.
-use Rattle.std.proofs.Common.{◌≡◌, ℕ, suc, ◌+◌, ◌<◌, ◌≤◌, ◌==◌, Bool, true, false, cond, List, [], ◌∷◌, get_or, map, slice_index, refl, sym, ap, ◌∙◌, subst, arith}
+use Rattle.std.proofs.{Common.{◌≡◌, ℕ, suc, ◌+◌, ◌<◌, ◌≤◌, ◌==◌, Bool, true, false, cond, List, [], ◌∷◌, get_or, map, slice_index, refl, sym, ap, ◌∙◌, subst, arith}, lemmas.{List.{Elements.{All-map, All-contains, Contains-get_or}, Sums.{sum_by-cons}}, Option.{slice_get-get_or}}}
 use Rattle.std.specs.{Prelude.{Contains, count_by}, List.{All, Sorted.{IsStrictlyIncreasing}}}
-use Rattle.std.proofs.lemmas.{List.{Elements.{All-map, All-contains, Contains-get_or}, Sums.{sum_by-cons}}, Option.{slice_get-get_or}}
 use Rattle.lab_table.proofs.Members.{member_at}
 use Rattle.lab_order.specs.{Arrows.{Arrows, nodes_of, IsGraph}, Least.{IsLeast}, Order.{position}}
 use Rattle.lab_order.specs.Order as order
 use Rattle.lab_history.specs.{History.{History}, Version.{IsCommitted}}
 use Rattle.lab_deps.{specs.{KindSets.{is_any}, KindsBetween.{KindsBetween}, Soundness.{has_committed}}, proofs.Places.{times_count, at_times}}
-use Rattle.lab_judge.specs.{Runs.{HoldsEachOnce, Span, all_places}, Places.{start_of, commit_of, place_of_point, IsForwardPlacing}, LeastPlaces.{is_point, place_in, IsPointOrder, IsLeastPointOrder, ArePlacedAlong}}
-use Rattle.lab_judge.specs.{Graphs.{IsNetOf}, PlaceGraphs.{IsPlaceGraph, point_at, span_in}}
+use Rattle.lab_judge.specs.{Runs.{HoldsEachOnce, Span, all_places}, Places.{start_of, commit_of, place_of_point, IsForwardPlacing}, LeastPlaces.{is_point, place_in, IsPointOrder, IsLeastPointOrder, ArePlacedAlong}, Graphs.{IsNetOf}, PlaceGraphs.{IsPlaceGraph, point_at, span_in}}
 use Rattle.lab_judge.specs.declared.places.Point.{Point, TheVariants.{Start, Commit}}
 use Rattle.lab_judge.proofs.{GraphNodes.{in_order}, Numbers.{contained}, OnePlacing.{IsPlaced}, Orders.{at_most, committed_in, committed_once}, PlaceNodes.{IsOfCommitted, ends, node_of}, PlacesApart.{IsTold, owners, owner_at, apart}, Placings.{find_span, places_of}, PointNodes.{is_same, node_within, place_is, is_least}}
 

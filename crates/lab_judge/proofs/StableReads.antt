@@ -8,18 +8,8 @@ use Rattle.lab_engine.{specs.{declared.event.Level.{Level}, Log.{Past, Txn, comm
 use Rattle.lab_deps.specs.{Edges.{IsEdge, Depends, changes, SeesPlace, InstallsAt, Lists}, declared.edge.{Edge.{Edge}, Kind.{Kind, TheVariants.{Write, ItemRead, PredicateRead, ItemAnti, PredicateAnti}}}}
 use Rattle.lab_order.specs.Order.{position}
 use Rattle.lab_judge.specs.{LogOrders.{commit_order}, Places.{is_anti, IsForwardOrder}, Phenomena.{IsClosedWalk, NoWalk}, Runs.{IsSerialRun}, Stable.{StaysTrue, ReadsStable}}
-use Rattle.lab_judge.proofs.Suffixes.{suffix_of_suffix, same_suffix, head_same}
-use Rattle.lab_judge.proofs.Ranks.{rank-first, Installs}
-use Rattle.lab_judge.proofs.RecordedVersions.{installer_at, state_at-is}
-use Rattle.lab_judge.proofs.ViewedVersions.{SeenVersion, seen_by}
-use Rattle.lab_judge.proofs.CommittedSuffixes.{suffix_after}
-use Rattle.lab_judge.proofs.SeenRanks.{sees_rank, unseen, lists_match}
-use Rattle.lab_judge.proofs.AntiDependencies.{Follows, differ_none}
-use Rattle.lab_judge.proofs.CommitPositions.{position_is, each_once}
-use Rattle.lab_judge.proofs.CommitOrder.{flow_ahead}
-use Rattle.lab_judge.proofs.SoundRecordings.{is_sound}
-use Rattle.lab_judge.proofs.Orders.{is_serial}
-use Rattle.lab_judge.proofs.Excludes.{no_closed_walk}
+use Rattle.lab_judge.proofs.{Suffixes.{suffix_of_suffix, same_suffix, head_same}, Ranks.{rank-first, Installs}, RecordedVersions.{installer_at, state_at-is}, ViewedVersions.{SeenVersion, seen_by}, CommittedSuffixes.{suffix_after}, SeenRanks.{sees_rank, unseen, lists_match}}
+use Rattle.lab_judge.proofs.{AntiDependencies.{Follows, differ_none}, CommitPositions.{position_is, each_once}, CommitOrder.{flow_ahead}, SoundRecordings.{is_sound}, Orders.{is_serial}, Excludes.{no_closed_walk}}
 
 module _ {level : Level} {setup : Table} {past : Past} {h : History} (recorded : IsLegalRecording level setup past h) (row : Row) (op : Op) (v p from to k : ℕ)
     (s : SeenVersion level setup past h from k op row) (stable : StaysTrue setup op.statement s.at.earlier s.base) (y : Installs row (commits past) p to) (other : from ≢ to)
