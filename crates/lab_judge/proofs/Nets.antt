@@ -1,8 +1,8 @@
 -- The committed transactions of a history as nodes, and its edges as what ties them.
-use Rattle.std.{proofs.{Common.{◌≡◌, ℕ, ◌<◌, Bool, true, cond, Some, List, length, slice_index, refl, sym, ap, ◌∙◌, subst, arith}, lemmas.{Map.Keys.{below_from_sorted, sorted_from_strictly_increasing}, Option.{slice_get-get_or}}}, specs.{Prelude.{Contains, slice_get}, List.Sorted.{IsStrictlyIncreasing}}}
+use Rattle.std.{proofs.{Common.{◌≡◌, ℕ, ◌<◌, Bool, true, false, cond, Some, None, Option, Ok, Err, Result, IfOk, List, length, slice_index, refl, sym, ap, ◌∙◌, subst, arith}, lemmas.{Map.Keys.{below_from_sorted, sorted_from_strictly_increasing}, Option.{slice_get-get_or}}}, specs.{Prelude.{Contains, IfSome, slice_get}, List.Sorted.{IsStrictlyIncreasing}, Ordering.{is_lt}}}
 use Rattle.lab_order.specs.{Arrows.{Arrows}, Order.{position}}
 use Rattle.lab_history.specs.{History.{History}, Version.{IsCommitted}}
-use Rattle.lab_deps.{specs.{Edges.{IsEdge}, KindSets.{is_any}, KindsBetween.{KindsBetween}, Soundness.{has_committed}, declared.edge.{Edge.{Edge}, Kind.{Kind}}}, proofs.Places.{times, times_count, at_times}}
+use Rattle.lab_deps.{specs.{Edges.{IsEdge}, EdgeOrder.{edge_cmp}, KindSets.{is_any}, KindsBetween.{KindsBetween}, Soundness.{has_committed}, declared.edge.{Edge.{Edge}, Kind.{Kind}}}, proofs.Places.{times, times_count, at_times}}
 use Rattle.lab_judge.{specs.{Graphs.{Tie, IsLeastTie, IsGraphOf, IsNetOf}, LeastWalks.{AreCommitted, HasEdgeAt, IsEdgeGraph, IsLeastEdge}, Runs.{HoldsEachOnce}}, proofs.{Lists.{of_both}, Numbers.{contains_it, stands, read, at_its_place, position_within}, Orders.{committed_in}}}
 
 module _ (ns : List ℕ) (up : IsStrictlyIncreasing ns) where
@@ -81,4 +81,19 @@ is_net {h} net ns es numbers_are edges_are committed real all = record {
   committed = subst (AreCommitted h) (sym numbers_are) committed;
   edges = λ e there. real e (subst (λ l. Contains l e) edges_are there);
   all = λ e edge kind. subst (λ l. Contains l e) (sym edges_are) (all e edge kind);
+}
+
+-- what is the least edge between two transactions among these is the least that ties their nodes
+pub least_tie : (test : Kind → Bool) (net : KindsBetween) (es : List Edge) → net.edges ≡ es → (a b n m : ℕ) → slice_get net.numbers a ≡ Some n → slice_get net.numbers b ≡ Some m
+    → (E : Type 0) (r : Result (Option Edge) E) → IfOk r (λ found. IfSome found (Contains es)) → IfOk r (λ found. IfSome found (λ e. e.from ≡ n)) → IfOk r (λ found. IfSome found (λ e. e.to ≡ m))
+    → IfOk r (λ found. IfSome found (λ e. test e.kind ≡ true))
+    → IfOk r (λ found. IfSome found (λ e. (f : Edge) → Contains es f → f.from ≡ n → f.to ≡ m → test f.kind ≡ true → is_lt (edge_cmp f e) ≡ false)) → IfOk r (λ found. IfSome found (IsLeastTie test net a b))
+least_tie test net es same a b n m from_is to_is E (Err x) there from to kind least = tt
+least_tie test net es same a b n m from_is to_is E (Ok None) there from to kind least = tt
+least_tie test net es same a b n m from_is to_is E (Ok (Some e)) there from to kind least = record {
+  is_one = subst (λ l. Contains l e) (sym same) there;
+  kind = kind;
+  from = from_is ∙ ap Some (sym from);
+  to = to_is ∙ ap Some (sym to);
+  least = λ f in_net begins ends allowed. least f (subst (λ l. Contains l f) same in_net) (begins ∙ from) (ends ∙ to) allowed;
 }
