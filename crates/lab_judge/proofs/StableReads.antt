@@ -64,34 +64,25 @@ module _ {level : Level} {setup : Table} {past : Past} {h : History} (recorded :
   stays : (n k : ℕ) (op : Op) (row : Row) (s : SeenVersion level setup past h n k op row) → StaysTrue setup op.statement s.at.earlier s.base
   stays n k op row s = subst (λ b. StaysTrue setup op.statement s.at.earlier b) (sym s.base_is) (stable s.at.later s.at.txn s.at.earlier s.at.txns_are s.among.front op s.among.earlier s.among.ops_are s.ran)
 
-  item_follows : (row : Row) (op : Op) (v from to : ℕ) → history.IsCommitted h from → from ≢ to → SeesPlace h from op row v → Lists op row → InstallsAt h row v to → Follows past from to
-  item_follows row op v from to committed other ((k, is_op), place) lists at =
-      let s : SeenVersion level setup past h from k op row = seen_by recorded from k op row (committed, is_op) in
-      let r = sees_rank recorded from k op row v s place in
-      let y : Installs row (commits past) v to = installer_at recorded row v to at in
-      let after = unseen recorded row op v v from to k s y r.place_is (omega arith) in
-      let kept : StaysTrue setup op.statement s.at.earlier s.base = stays from k op row s in
-      record {
-        a = s.at;
-        b = y.at;
-        ahead = comes_later recorded row op v v from to k s kept y other after (λ b. lists_match recorded from k op row s lists
-            (ap (matches op.statement row) r.state_is ∙ (unmatched recorded row op v v from to k s kept y other after b).0));
-      }
-
-  predicate_follows : (row : Row) (op : Op) (v p from to : ℕ) → history.IsCommitted h from → from ≢ to → SeesPlace h from op row v → v ≤ p → InstallsAt h row p to
-      → changes h op.statement row p ≡ true → Follows past from to
-  predicate_follows row op v p from to committed other ((k, is_op), place) above at differs =
+  -- the writer of a version at or after the seen one commits after the reader, if a matched state before or behind it can't be
+  follows : (row : Row) (op : Op) (v p from to : ℕ) → history.IsCommitted h from → from ≢ to → SeesPlace h from op row v → v ≤ p → InstallsAt h row p to
+      → ((k : ℕ) (s : SeenVersion level setup past h from k op row) → s.version.state ≡ history.state_at h row v
+      → (matches op.statement row (history.state_at h row p) ≡ false) × (matches op.statement row (history.state_at h row (suc p)) ≡ false) → ⊥) → Follows past from to
+  follows row op v p from to committed other ((k, is_op), place) above at never =
       let s : SeenVersion level setup past h from k op row = seen_by recorded from k op row (committed, is_op) in
       let r = sees_rank recorded from k op row v s place in
       let y : Installs row (commits past) p to = installer_at recorded row p to at in
       let after = unseen recorded row op v p from to k s y r.place_is above in
       let kept : StaysTrue setup op.statement s.at.earlier s.base = stays from k op row s in
-      record {
-        a = s.at;
-        b = y.at;
-        ahead = comes_later recorded row op v p from to k s kept y other after
-            (λ b. let none = unmatched recorded row op v p from to k s kept y other after b in differ_none _ _ none.0 none.1 differs);
-      }
+      record { a = s.at; b = y.at; ahead = comes_later recorded row op v p from to k s kept y other after (λ b. never k s r.state_is (unmatched recorded row op v p from to k s kept y other after b)) }
+
+  item_follows : (row : Row) (op : Op) (v from to : ℕ) → history.IsCommitted h from → from ≢ to → SeesPlace h from op row v → Lists op row → InstallsAt h row v to → Follows past from to
+  item_follows row op v from to committed other sees lists at = follows row op v v from to committed other sees (omega arith) at
+      (λ k s state_is none. lists_match recorded from k op row s lists (ap (matches op.statement row) state_is ∙ none.0))
+
+  predicate_follows : (row : Row) (op : Op) (v p from to : ℕ) → history.IsCommitted h from → from ≢ to → SeesPlace h from op row v → v ≤ p → InstallsAt h row p to
+      → changes h op.statement row p ≡ true → Follows past from to
+  predicate_follows row op v p from to committed other sees above at differs = follows row op v p from to committed other sees above at (λ k s state_is none. differ_none _ _ none.0 none.1 differs)
 
   follows_ahead : (from to : ℕ) → Follows past from to → position (commit_order past) from < position (commit_order past) to
   follows_ahead from to f = omega (arith, f.ahead, position_is recorded from f.a, position_is recorded to f.b)
