@@ -7,22 +7,19 @@ use Rattle.lab_judge.proofs.{Lists.{one_place}, Numbers.{stands, position_within
 use Rattle.lab_deps.proofs.Places.{times, times_count}
 
 -- how many of a list are below a number
-below : ℕ → List ℕ → ℕ
+abbrev below : ℕ → List ℕ → ℕ
 below n [] = 0
 below n (x ∷ xs) = cond (nat_lt x n) (1 + below n xs) (below n xs)
 
 below_none : (ns : List ℕ) → below 0 ns ≡ 0
-unfolding below
 below_none [] = refl
 below_none (x ∷ xs) = ap (λ b. cond b (1 + below 0 xs) (below 0 xs)) (le-ltb x 0 (omega arith)) ∙ below_none xs
 
 below_next : (n : ℕ) (ns : List ℕ) → below (suc n) ns ≡ below n ns + times n ns
-unfolding below
 below_next n [] = refl
 below_next n (x ∷ xs) = let rest = below_next n xs in grind (arith, nat_tests)
 
 below_all : (n : ℕ) (ns : List ℕ) → All (λ a. a < n) ns → below n ns ≡ length ns
-unfolding below
 below_all n [] all = refl
 below_all n (x ∷ xs) all =
     ap (λ b. cond b (1 + below n xs) (below n xs)) (lt-ltb x n (All-head (λ a. a < n) x xs all)) ∙ ap (λ k. 1 + k) (below_all n xs (All-tail (λ a. a < n) x xs all))

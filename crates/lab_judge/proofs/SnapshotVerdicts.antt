@@ -1,5 +1,5 @@
 -- What the order of the graph of starts and commits says of the history.
-use Rattle.std.proofs.{Common.{◌≡◌, ℕ, suc, ◌+◌, ◌<◌, ◌≤◌, ◌==◌, Bool, true, false, cond, List, [], ◌∷◌, get_or, map, slice_index, refl, sym, ap, ◌∙◌, subst, arith}, lemmas.{List.{Elements.{All-map, All-contains, Contains-get_or}, Sums.{sum_by-cons}}, Option.{slice_get-get_or}}}
+use Rattle.std.proofs.{Common.{◌≡◌, ℕ, suc, ◌+◌, ◌<◌, ◌≤◌, ◌==◌, Bool, true, false, cond, List, [], ◌∷◌, get_or, map, slice_index, refl, sym, ap, ◌∙◌, subst, arith}, lemmas.{List.{map-id, map-map, Elements.{All-map, All-contains, Contains-get_or}, Sums.{sum_by-cons}}, Option.{slice_get-get_or}}}
 use Rattle.std.specs.{Prelude.{Contains, count_by}, List.{All, Sorted.{IsStrictlyIncreasing}}}
 use Rattle.lab_table.proofs.Members.{member_at}
 use Rattle.lab_order.specs.{Arrows.{Arrows, nodes_of, IsGraph}, Least.{IsLeast}, Order.{position}}
@@ -25,8 +25,7 @@ one_point (r ∷ ps) p q some same =
 
 -- the transactions of spans are those that they were made of
 numbers_are : (ns places ms : List ℕ) → owners (map (span_in ns places) ms) ≡ ms
-numbers_are ns places [] = refl
-numbers_are ns places (m ∷ ms) = ap (λ l. m ∷ l) (numbers_are ns places ms)
+numbers_are ns places ms = map-map (λ s. s.txn) (span_in ns places) ms ∙ map-id ms
 
 module _ (h : History) (points : List Point) (o : IsPointOrder h points) (ss : List Span) (once : HoldsEachOnce h (owners ss)) (along : ArePlacedAlong points ss) where
   placed : All (IsPlaced points) ss
