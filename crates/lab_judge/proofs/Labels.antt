@@ -1,7 +1,7 @@
 -- Things that are labels of other things, as transactions are of nodes: an order of the ones is one of the others.
 use Rattle.std.proofs.Common.{◌≡◌, ℕ, suc, ◌+◌, ◌<◌, ◌≤◌, Bool, true, false, cond, List, [], ◌∷◌, get_or, map, refl, sym, ap, ◌∙◌, subst, arith, inl, inr}
 use Rattle.std.specs.{Prelude.{Decides}, List.{All, count_by}}
-use Rattle.std.proofs.lemmas.{Bool.{both_ways, Decides.{same_from_decides, Decides-like}}, List.{map-map, map_fixed, Elements.{All-head, All-tail}, Recursion.{is_count_by}, Sums.{sum_by-cons, get_or-le-sum_by}}}
+use Rattle.std.proofs.lemmas.{Bool.{both_ways, Decides.{same_from_decides, Decides-like}}, Simd.{map-map}, List.{Folds.{map_fixed}, Elements.{All-head, All-tail}, Recursion.{is_count_by}, Sums.{sum_by-cons, get_or-le-sum_by}}}
 use Rattle.lab_order.specs.Least.{NotAfterBy}
 
 -- when two are the same, where one stands in a list, which are there, and that arrows are between these alone

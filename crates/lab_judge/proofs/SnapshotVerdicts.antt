@@ -1,5 +1,5 @@
 -- What the order of the graph of starts and commits says of the history.
-use Rattle.std.proofs.{Common.{◌≡◌, ℕ, suc, ◌+◌, ◌<◌, ◌≤◌, ◌==◌, Bool, true, false, cond, List, [], ◌∷◌, get_or, map, slice_index, refl, sym, ap, ◌∙◌, subst, arith}, lemmas.{List.{map-id, map-map, Elements.{All-map, All-contains, Contains-get_or}, Sums.{sum_by-cons}}, Option.{slice_get-get_or}}}
+use Rattle.std.proofs.{Common.{◌≡◌, ℕ, suc, ◌+◌, ◌<◌, ◌≤◌, ◌==◌, Bool, true, false, cond, List, [], ◌∷◌, get_or, map, slice_index, refl, sym, ap, ◌∙◌, subst, arith}, lemmas.{List.{map-id, Elements.{All-map, All-contains, Contains-get_or}, Sums.{sum_by-cons}}, Option.{slice_get-get_or}, Simd.{map-map}}}
 use Rattle.std.specs.{Prelude.{Contains, count_by}, List.{All, Sorted.{IsStrictlyIncreasing}}}
 use Rattle.lab_table.proofs.Members.{member_at}
 use Rattle.lab_order.specs.{Arrows.{Arrows, nodes_of, IsGraph}, Least.{IsLeast}, Order.{position}}
