@@ -5,6 +5,7 @@ ghost use Rattle.std.specs.List.{All, count_by};
 ghost use Rattle.lab_order.specs.Order.{position};
 ghost use Rattle.lab_history.specs.History.{History};
 ghost use Rattle.lab_deps.specs.KindSets.{among, is_any};
+ghost use Rattle.lab_deps.specs.declared.kinds.TheConstants.Kinds.{ALL};
 ghost use Rattle.lab_judge.specs.Due.{IsDuePlaces};
 ghost use Rattle.lab_judge.specs.Graphs.{IsGraphOf, IsNetOf};
 ghost use Rattle.lab_judge.specs.Runs.{spans_of};
@@ -13,7 +14,6 @@ ghost use Rattle.lab_judge.specs.PlaceGraphs.{point_at, span_in};
 use crate::net::Net;
 use crate::place_graph::place_graph;
 use crate::places::{Circle, Places, Point, Spans};
-use lab_deps::Kinds;
 use lab_order::{Graph, NoMemory, Ordered, order};
 use lab_table::TxnNo;
 use std::alloc::Global;
@@ -27,7 +27,7 @@ pub(crate) fn snapshot_verdict(
     net: &Net<'_, '_>,
     all: &Graph,
 ) -> Result<Places, NoMemory>
-    requires { IsGraphOf (among Kinds.ALL) net.now all.now }
+    requires { IsGraphOf (among ALL) net.now all.now }
     ensures { IfOk result (λ places. (h : History) → IsNetOf h is_any net.now → IsDuePlaces h places) }
 {
     let graph = place_graph(alloc, net, all)?;
