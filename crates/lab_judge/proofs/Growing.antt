@@ -67,9 +67,9 @@ module _ {test : Kind → Bool} {joining : Joining} {net : KindsBetween} where
   }
 
   -- what grew and grew again grew by both
-  pub then : {One Other Both : ℕ → ℕ → Type 0} {old mid new : Arrows} → Grows test joining net One old mid → Grows test joining net Other mid new
+  pub grown : {One Other Both : ℕ → ℕ → Type 0} {old mid new : Arrows} → Grows test joining net One old mid → Grows test joining net Other mid new
       → ((p q : ℕ) → Both p q → One p q ⊎ Other p q) → Grows test joining net Both old new
-  then {old = old} g k split = record {
+  grown {old = old} g k split = record {
     size = k.size ∙ g.size;
     kept = λ a b arrow. k.kept a b (g.kept a b arrow);
     real = λ a b arrow. elim (k.real a b arrow) as (λ _. IsArrow old a b ⊎ Lands test joining net a b) [ inl was ↦ g.real a b was | inr lands ↦ inr lands ];

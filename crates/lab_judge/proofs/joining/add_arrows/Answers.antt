@@ -1,5 +1,5 @@
 use Rattle.std.proofs.{Common.{arith, inl, inr}, lemmas.{Bool.{cases_lt}, Option.{slice_get_within}}}
-use Rattle.lab_judge.proofs.Growing.{unchanged, then, wider}
+use Rattle.lab_judge.proofs.Growing.{unchanged, grown, wider}
 use Rattle.lab_judge.proofs.joining.add_arrows.Goals as goal
 
 pub loop-from-init : goal.loop-from-init
@@ -7,7 +7,7 @@ loop-from-init c = unchanged (λ p q less t. omega (arith, less))
 
 pub loop-from-preserved : goal.loop-from-preserved
 loop-from-preserved c =
-    then c.loop-from.invariant c.in_ok-add_arrows_from.ensures
+    grown c.loop-from.invariant c.in_ok-add_arrows_from.ensures
     (λ p q less. elim (cases_lt p c.loop-from.from) [ inl before ↦ inl before | inr past ↦ inr (omega (arith, less, past)) ])
 
 pub returns : goal.returns

@@ -1,7 +1,7 @@
 use Rattle.std.proofs.{Common.{◌≡◌, ◌<◌, ◌==◌, ◌&&◌, ◌||◌, ◌↔◌, true, length, sym, ◌∙◌, subst, arith, inl, inr}, lemmas.{Bool.{both_ways, cases_lt}}}
 use Rattle.lab_order.specs.Arrows.{has_arrow}
 use Rattle.lab_deps.specs.KindSets.{among}
-use Rattle.lab_judge.{specs.{Graphs.{Tie}, Joining.{Grows}}, proofs.{Growing.{meets_tie, bare_ties_none, unchanged, added, then, wider}, Lists.{of_both}, joining.add_arrows_between.Goals.{then-meets+in_ok-add, else-meets}}}
+use Rattle.lab_judge.{specs.{Graphs.{Tie}, Joining.{Grows}}, proofs.{Growing.{meets_tie, bare_ties_none, unchanged, added, grown, wider}, Lists.{of_both}, joining.add_arrows_between.Goals.{then-meets+in_ok-add, else-meets}}}
 use Rattle.lab_judge.proofs.joining.add_arrows_between.Goals as goal
 
 pub returns-then-is_bare : goal.returns-then-is_bare
@@ -31,7 +31,7 @@ loop-to-preserved c =
           subst (Grows test c.args.joining net (λ p q. (p ≡ from) × (q ≡ to)) c.loop-to.graph) (sym w.graph-is)
           (unchanged (λ p q same t. both_ways c.meets.result w.if-meets.false (tied.1 (of_both (Tie test net) same.0 same.1 t))))
     ] in
-    then c.loop-to.invariant one
+    grown c.loop-to.invariant one
     (λ p q looked. elim (cases_lt q to) [ inl before ↦ inl (looked.0, looked.1, before) | inr past ↦ inr (looked.0, omega (arith, looked.2, past)) ])
 
 pub returns : goal.returns

@@ -2,7 +2,7 @@ use Rattle.std.proofs.{Common.{◌≡◌, ◌==◌, length, get_or, refl, sym, a
 use Rattle.std.specs.{List.{list_any}, Prelude.{slice_get}}
 use Rattle.lab_order.specs.Arrows.{before}
 use Rattle.lab_deps.{proofs.NamedKinds.{all_has}}
-use Rattle.lab_judge.{proofs.Growing.{unchanged, then, wider}}
+use Rattle.lab_judge.{proofs.Growing.{unchanged, grown, wider}}
 use Rattle.lab_judge.proofs.joining.add_arrows_to.Goals as goal
 
 pub loop-from-init : goal.loop-from-init
@@ -10,7 +10,7 @@ loop-from-init c = unchanged (λ p q looked t. omega (arith, looked.0.1))
 
 pub loop-from-preserved : goal.loop-from-preserved
 loop-from-preserved c =
-    then c.loop-from.invariant c.in_ok-add_arrow.ensures
+    grown c.loop-from.invariant c.in_ok-add_arrow.ensures
     (λ p q looked. elim (cases_lt looked.0.0 c.loop-from.from-index) [
       | inl less ↦ inl ((looked.0.0, less, looked.0.2), looked.1)
       | inr past ↦
