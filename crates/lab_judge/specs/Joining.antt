@@ -1,5 +1,5 @@
 -- The arrows that are added to a graph for dependencies.
-use Rattle.std.specs.Prelude.{◌≡◌, ◌⊎◌, ℕ, ◌*◌, Bool}
+use Rattle.std.specs.Prelude.{◌≡◌, ◌⊎◌, ℕ, ◌+◌, ◌*◌, Bool}
 use Rattle.lab_order.specs.Arrows.{Arrows, nodes_of, IsArrow}
 use Rattle.lab_deps.specs.KindsBetween.{KindsBetween}
 use Rattle.lab_deps.specs.declared.edge.Kind.{Kind}
