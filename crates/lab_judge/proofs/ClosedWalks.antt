@@ -1,5 +1,5 @@
 -- Walks along edges: joined, cut, begun elsewhere, and counted by kind.
-use Rattle.std.{proofs.{Common.{◌≡◌, ℕ, ◌+◌, ◌<◌, ◌≤◌, Bool, true, false, cond, List, [], ◌∷◌, ◌++◌, length, refl, sym, ap, ◌∙◌, subst, arith}, lemmas.{Bool.{not-false}, List.{append-nil, Recursion.{is_count_by}, Sorted.{IsPermutation-append_comm}, Sums.{sum_by-IsPermutation}}}}, specs.Prelude.{⊤, not}}
+use Rattle.std.{proofs.{Common.{◌≡◌, ℕ, ◌+◌, ◌<◌, ◌≤◌, Bool, true, false, cond, List, [], ◌∷◌, ◌++◌, length, refl, sym, ap, ◌∙◌, subst, arith}, lemmas.{Bool.{not-false}, List.{append-nil, Recursion.{is_count_by}, Sorted.{IsPermutation-append_comm, sum_by-IsPermutation}}}}, specs.Prelude.{⊤, not}}
 use Rattle.lab_history.specs.History.{History}
 use Rattle.lab_deps.specs.{Edges.{IsEdge}, declared.edge.{Edge.{Edge}, Kind.{Kind}}}
 use Rattle.lab_judge.specs.{LeastWalks.{IsTurnToLeast}, Phenomena.{IsWalk, IsClosedWalk, count_kind}}

@@ -84,6 +84,12 @@ module _ {test : Kind → Bool} {joining : Joining} {net : KindsBetween} where
   landed : {old new : Arrows} → Grows test joining net (λ p q. ⊤) old new → (a b : ℕ) → Lands test joining net a b → IsArrow new a b
   landed {new = new} g a b l = of_both (IsArrow new) l.tail_is l.head_is (g.all l.from l.to tt l.tie)
 
+-- two nodes that are a start and its commit
+spans_tell : (n a b : ℕ) → Decides (spans n a b) (AreSpan n a b)
+spans_tell n a b =
+    Decides-below_or (λ p. start_node p == a && commit_node p == b) (λ p. (start_node p ≡ a) × (commit_node p ≡ b)) (λ n. spans n a b)
+    (λ p. Decides-and (start_node p == a) (commit_node p == b) (Decides-eqb (start_node p) a) (Decides-eqb (commit_node p) b)) refl (λ _. refl) n
+
 module _ {net : KindsBetween} where
   -- where no arrow was there, the graph is that of the dependencies
   pub is_graph : {allowed : Kind → Bool} {bare new : Arrows} → nodes_of bare ≡ length net.numbers → ((a b : ℕ) → has_arrow bare a b ≡ false)
@@ -98,12 +104,6 @@ module _ {net : KindsBetween} where
       λ t. g.all a b tt t,
     );
   }
-
-  -- two nodes that are a start and its commit
-  spans_tell : (n a b : ℕ) → Decides (spans n a b) (AreSpan n a b)
-  spans_tell n a b =
-      Decides-below_or (λ p. start_node p == a && commit_node p == b) (λ p. (start_node p ≡ a) × (commit_node p ≡ b)) (λ n. spans n a b)
-      (λ p. Decides-and (start_node p == a) (commit_node p == b) (Decides-eqb (start_node p) a) (Decides-eqb (commit_node p) b)) refl (λ _. refl) n
 
   -- and where those from starts to their commits were there, it is that of starts and commits
   pub is_place_graph : {bare flow both : Arrows} → nodes_of bare ≡ 2 * length net.numbers → ((a b : ℕ) → has_arrow bare a b ≡ spans (length net.numbers) a b)

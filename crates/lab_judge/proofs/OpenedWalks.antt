@@ -17,7 +17,7 @@ flow_beside = inr (λ _ opened. ap not opened)
 none_beside : (test : Kind → Bool) (xs : List Edge) (e : Edge) (ys : List Edge) → test e.kind ≡ true → count_kind test (xs ++ e ∷ ys) ≤ 1 → count_kind test (ys ++ xs) ≡ 0
 none_beside test xs e ys passes one =
     let passing : Edge → ℕ = λ e. cond (test e.kind) 1 0 in
-    omega (arith, one, sum_by-append passing xs (e ∷ ys), sum_by-cons passing e ys, ap (λ b. cond b 1 0) passes, sum_by-append passing ys xs)
+    omega (arith, one, sum_by-append passing xs (e ∷ ys), sum_by-cons passing e ys, ap {B = ℕ} (λ b. cond b 1 0) passes, sum_by-append passing ys xs)
 
 -- beside the edge that opens a walk each has an allowed kind
 beside : (opening allowed : Kind → Bool) → AllowsAllOrNone opening allowed → (xs : List Edge) (e : Edge) (ys : List Edge) → opening e.kind ≡ true
@@ -42,4 +42,4 @@ at_most_one test e es none = omega (arith, none, sum_by-cons (λ (e : Edge). con
 
 -- of an edge that passes a test and others, at least one does
 pub at_least_one : (test : Kind → Bool) (e : Edge) (es : List Edge) → test e.kind ≡ true → 1 ≤ count_kind test (e ∷ es)
-at_least_one test e es passes = omega (arith, sum_by-cons (λ (e : Edge). cond (test e.kind) 1 0) e es, ap (λ b. cond b 1 0) passes)
+at_least_one test e es passes = omega (arith, sum_by-cons (λ (e : Edge). cond (test e.kind) 1 0) e es, ap {B = ℕ} (λ b. cond b 1 0) passes)

@@ -1,4 +1,4 @@
-use Rattle.std.proofs.{Common.{◌≡◌, ◌==◌, length, get_or, refl, sym, ap, ◌∙◌, arith, inl, inr}, lemmas.Bool.{cases_lt, Decides.{Decides-by_or, Decides-eqb}}}
+use Rattle.std.proofs.{Common.{◌≡◌, ◌<◌, ◌+◌, ◌==◌, ℕ, length, get_or, refl, sym, ap, ◌∙◌, arith, inl, inr}, lemmas.Bool.{cases_lt, Decides.{Decides-by_or, Decides-eqb}}}
 use Rattle.std.specs.{List.{list_any}, Prelude.{slice_get}}
 use Rattle.lab_order.specs.Arrows.{before}
 use Rattle.lab_deps.{proofs.NamedKinds.{all_has}}
@@ -10,7 +10,7 @@ loop-from-init c = unchanged (λ p q looked t. omega (arith, looked.0.1))
 
 pub loop-from-preserved : goal.loop-from-preserved
 loop-from-preserved c =
-    grown c.loop-from.invariant c.in_ok-add_arrow.ensures
+    grown {Both = λ p q. ((k : ℕ) × (k < c.loop-from.from-index + 1) × (get_or (before c.args.all.now c.args.to) k 0 ≡ p)) × (q ≡ c.args.to)} c.loop-from.invariant c.in_ok-add_arrow.ensures
     (λ p q looked. elim (cases_lt looked.0.0 c.loop-from.from-index) [
       | inl less ↦ inl ((looked.0.0, less, looked.0.2), looked.1)
       | inr past ↦

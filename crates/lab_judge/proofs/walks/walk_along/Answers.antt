@@ -1,4 +1,4 @@
-use Rattle.std.{proofs.{Common.{subst, arith}, lemmas.Option.{slice_get_within}}, specs.Prelude.{IfSome}}
+use Rattle.std.{proofs.{Common.{get_or, subst, arith}, lemmas.Option.{slice_get_within}}, specs.Prelude.{IfSome}}
 use Rattle.lab_deps.specs.KindSets.{among}
 use Rattle.lab_judge.{specs.Graphs.{Tie, IsLeastTie}, proofs.{Chains.{step}, LeastWalks.{steps_on, gone_along}, Nets.{least_edge}}}
 use Rattle.lab_judge.proofs.walks.walk_along.Goals as goal
@@ -17,12 +17,13 @@ pub loop-next-preserved : goal.loop-next-preserved
 loop-next-preserved c =
     let net = c.args.net.now in
     let test = among c.args.allowed in
-    let found : IsLeastTie test net c.loop-next.at _ c.in-Some.edge = subst (λ o. IfSome o (IsLeastTie test net c.loop-next.at _)) c.in-Some.is c.in_ok-edge.ensures.found in
+    let next = get_or c.args.way.now c.loop-next.next-index 0 in
+    let found : IsLeastTie test net c.loop-next.at next c.in-Some.edge = subst (λ o. IfSome o (IsLeastTie test net c.loop-next.at next)) c.in-Some.is c.in_ok-edge.ensures.found in
     record {
       rest = (step (Tie test net) c.loop-next.at c.loop-next.next-index c.args.way.now c.loop-next-test.true c.loop-next.invariant.rest).1;
       least = λ h of.
           steps_on h test net.numbers c.args.from c.args.way.now c.loop-next.at c.loop-next.next-index c.loop-next.walk.items c.push.new.self.items c.in-Some.edge c.loop-next-test.true
-          c.in_ok-push.ensures.items (least_edge of c.loop-next.at _ c.in-Some.edge found) (c.loop-next.invariant.least h of);
+          c.in_ok-push.ensures.items (least_edge of c.loop-next.at next c.in-Some.edge found) (c.loop-next.invariant.least h of);
     }
 
 pub returns : goal.returns

@@ -16,7 +16,7 @@ least-requires c =
 
 pub unreachable-requires : goal.unreachable-requires
 unreachable-requires c =
-    c.in_ok-edge.ensures.none c.in_default.is
+    c.in_ok-edge.ensures.none c.in_default-2.is
     (subst (λ o. IfSome o (λ ends. Tie (among c.args.opening) c.args.net.now ends.from ends.to × Reaches c.args.ways.now ends.to ends.from)) c.in-Some.is c.first_opening.ensures.found).0
 
 pub way_back-requires-clause-back : goal.way_back-requires-clause-back
@@ -29,12 +29,12 @@ returns c = λ h of.
     let opening = among c.args.opening in
     let net = c.args.net.now in
     let ways = c.args.ways.now in
-    let edge = c.in-Some-edge.edge in
+    let edge = c.in-Some-2.edge in
     let found : Tie opening net c.in-Some.ends.from c.in-Some.ends.to × Reaches ways c.in-Some.ends.to c.in-Some.ends.from
     = subst (λ o. IfSome o (λ ends. Tie opening net ends.from ends.to × Reaches ways ends.to ends.from)) c.in-Some.is c.first_opening.ensures.found in
     let first = subst (λ o. IfSome o (λ ends. (p q : ℕ) → p < ends.from → Reaches ways q p → ¬ Tie opening net p q)) c.in-Some.is c.first_opening.ensures.first in
     let next = subst (λ o. IfSome o (λ ends. (q : ℕ) → q < ends.to → Reaches ways q ends.from → ¬ Tie opening net ends.from q)) c.in-Some.is c.first_opening.ensures.next in
-    let least : IsLeastTie opening net c.in-Some.ends.from c.in-Some.ends.to edge = subst (λ o. IfSome o (IsLeastTie opening net c.in-Some.ends.from c.in-Some.ends.to)) c.in-Some-edge.is c.in_ok-edge.ensures.found in
+    let least : IsLeastTie opening net c.in-Some.ends.from c.in-Some.ends.to edge = subst (λ o. IfSome o (IsLeastTie opening net c.in-Some.ends.from c.in-Some.ends.to)) c.in-Some-2.is c.in_ok-edge.ensures.found in
     record {
       txns = net.numbers;
       committed = of.committed;

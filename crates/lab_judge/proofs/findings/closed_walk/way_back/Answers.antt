@@ -1,5 +1,5 @@
 use Rattle.std.{proofs.{Common.{◌≡◌, ◌∷◌, sym, subst, ◌∙◌}, lemmas.Result.{IfOk-weaker}}, specs.Prelude.{IfSome}}
-use Rattle.lab_order.specs.{Least.{IsLeast}, Path.{IsPath, IsShortestPath}}
+use Rattle.lab_order.specs.{Least.{IsLeast}, Order.{position}, Path.{IsPath, IsShortestPath}}
 use Rattle.lab_deps.specs.KindSets.{among}
 use Rattle.lab_judge.{specs.{Graphs.{Tie}, LeastWalks.{GoesBy}}, proofs.Chains.{path_chain}}
 use Rattle.lab_judge.proofs.findings.closed_walk.way_back.Goals as goal
@@ -22,7 +22,7 @@ returns c =
     IfOk-weaker c.walk_along.result _ _
     (λ walk goes h e of from to. record {
       path = path;
-      least = subst (λ n. IsLeast (IsShortestPath graph n _) path) (sym from) (subst (λ n. IsLeast (IsShortestPath graph c.args.from n) path) (sym to) least);
+      least = subst (λ n. IsLeast (IsShortestPath graph n (position numbers e.from)) path) (sym from) (subst (λ n. IsLeast (IsShortestPath graph c.args.from n) path) (sym to) least);
       goes = subst (λ l. GoesBy h (among c.args.allowed) numbers l walk.items) (sym parts) (goes h of);
     })
     c.walk_along.ensures
