@@ -22,7 +22,8 @@ below_next n (x ∷ xs) = let rest = below_next n xs in grind (arith, nat_tests)
 below_all : (n : ℕ) (ns : List ℕ) → All (λ a. a < n) ns → below n ns ≡ length ns
 below_all n [] all = refl
 below_all n (x ∷ xs) all =
-    ap (λ b. cond b (1 + below n xs) (below n xs)) (lt-ltb x n (All-head (λ a. a < n) x xs all)) ∙ ap (λ k. 1 + k) (below_all n xs (All-tail (λ a. a < n) x xs all))
+    let kept = ap {B = ℕ} (λ b. cond b (1 + below n xs) (below n xs)) (lt-ltb x n (All-head (λ a. a < n) x xs all)) in
+    omega (arith, kept, below_all n xs (All-tail (λ a. a < n) x xs all))
 
 -- numbers below a number, each at most once, are no more than that
 pub no_more : (n : ℕ) (ns : List ℕ) → All (λ a. a < n) ns → ((a : ℕ) → times a ns ≤ 1) → length ns ≤ n

@@ -1,6 +1,7 @@
 //! Committed transactions and the dependencies between them, as nodes and what ties them.
 
 ghost use Rattle.std.specs.Prelude.{◌≡◌, ◌<◌, ◌≤◌, None, length, slice_get, slice_index, IfOk, IfSome};
+ghost use Rattle.lab_order.specs.Order.{position};
 ghost use Rattle.lab_deps.specs.KindSets.{among};
 ghost use Rattle.lab_deps.specs.KindsBetween.{AreKindsTo};
 ghost use Rattle.lab_judge.specs.Graphs.{Tie, IsLeastTie};
@@ -62,6 +63,7 @@ impl<'a, 'h> Net<'a, 'h> {
         requires { node < length self.now.numbers }
         ensures number { slice_get self.now.numbers node ≡ Some result }
         ensures value { result ≡ slice_index self.now.numbers node }
+        ensures node { position self.now.numbers result ≡ node }
     {
         self.nodes.number(node)
     }

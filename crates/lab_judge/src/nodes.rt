@@ -3,6 +3,7 @@
 ghost use Rattle.std.specs.Prelude.{◌≡◌, ◌<◌, ◌≤◌, length, map, filter, slice_get, slice_index, IfOk};
 ghost use Rattle.std.specs.List.Sorted.{IsStrictlyIncreasing};
 ghost use Rattle.lab_history.specs.Version.{outcome_of};
+ghost use Rattle.lab_order.specs.Order.{position};
 ghost use Rattle.lab_deps.specs.Soundness.{has_committed};
 ghost use Rattle.lab_judge.specs.Runs.{HoldsEachOnce};
 
@@ -65,6 +66,7 @@ impl Nodes {
         requires { node < length self.now }
         ensures number { slice_get self.now node ≡ Some result }
         ensures value { result ≡ slice_index self.now node }
+        ensures node { position self.now result ≡ node }
     {
         self.numbers[node as usize]
     }
