@@ -1,8 +1,6 @@
 -- Whom a commit leaves blocked as before: those whom its transaction didn't block.
-use Rattle.lab_table.specs.{Statement.{kind_matches, kind_would_write, applied, new_state}, declared.statement.StatementKind.TheVariants.{Select, Update, Insert, Delete}}
-use Rattle.lab_engine.proofs.Common.{active, ap, Blocks, Bool, both_ways, Command, commits, commits_after, Committed, committed_version, cond, false, false_from_ne_true, has_read, initial_version, inl, inr, is_some, IsSome, IsTrue, last_installed, Level, List, matches, None, Option, option_map, option_or, or_parts, Past, refl, Row, rules_of, seen, sees_as_of_begin, Some, State, Statement, StatementKind, subst, sym, Table, true, Txn, unwrap_or, Version, version_by, would_write, ℕ, ℤ, ◌||◌, ◌↔◌, ◌∙◌, ◌∷◌, ◌≡◌, ◌⊎◌}
-use Rattle.lab_engine.proofs.Blockers.{blocks_by_match, blocks_by_write, blocks_map}
-use Rattle.lab_engine.proofs.RuleTables.{readers_locked}
+use Rattle.lab_table.specs.{Statement.{applied, kind_matches, kind_would_write, new_state}, declared.statement.StatementKind.TheVariants.{Delete, Insert, Select, Update}}
+use Rattle.lab_engine.proofs.{Common.{active, ap, Blocks, Bool, both_ways, Command, commits, commits_after, Committed, committed_version, cond, false, false_from_ne_true, has_read, initial_version, inl, inr, is_some, IsSome, IsTrue, last_installed, Level, List, matches, None, Option, option_map, option_or, or_parts, Past, refl, Row, rules_of, seen, sees_as_of_begin, Some, State, Statement, StatementKind, subst, sym, Table, true, Txn, unwrap_or, Version, version_by, would_write, ℕ, ℤ, ◌||◌, ◌↔◌, ◌∙◌, ◌∷◌, ◌≡◌, ◌⊎◌}, Blockers.{blocks_by_match, blocks_by_write, blocks_map}, RuleTables.{readers_locked}}
 
 -- what a statement wouldn't write in one state it wouldn't write in one that it doesn't match either
 still_unwritten : (t : List ℕ) (kind : StatementKind) (row : Row) (old new : State) → kind_matches t kind row new ≡ false → kind_would_write t kind row old ≡ false
@@ -26,11 +24,6 @@ alike_over : (s : Statement) (row : Row) (own : Option Version) (old new : Versi
     → Alike s row (unwrap_or own old) (unwrap_or own new)
 alike_over s row (Some v) old new off h = inl refl
 alike_over s row None old new off h = inr (h, still_unwritten s.table s.kind row old.state new.state off h)
-
--- a row that a statement would write is seen as before
-seen_as : (s : Statement) (row : Row) (old new : Version) → Alike s row old new → IsTrue (would_write s row old.state) → old ≡ new
-seen_as s row old new (inl same) writes = same
-seen_as s row old new (inr (before, now)) writes = absurd (both_ways _ before writes)
 
 module _ (level : Level) (setup : Table) (asker : Txn) where
   -- a row whose committed version is the same is seen the same
@@ -64,7 +57,7 @@ module _ (level : Level) (setup : Table) (past : Past) (e : ℕ) (command : Comm
   after = record { session = e; command = command; outcome = Committed } ∷ past
 
   -- the committed version of a row is the transaction's, if it has one
-  committed_is : (row : Row) (own : Option Version) → version_by t row ≡ own → committed_version setup after row ≡ unwrap_or own (committed_version setup past row)
+  pub committed_is : (row : Row) (own : Option Version) → version_by t row ≡ own → committed_version setup after row ≡ unwrap_or own (committed_version setup past row)
   committed_is row None none = ap (λ o. unwrap_or (last_installed (commits_after Committed o (commits past)) row) (initial_version setup row)) is
       ∙ ap (λ o. unwrap_or (option_or o (last_installed (commits past) row)) (initial_version setup row)) none
   committed_is row (Some v) some = ap (λ o. unwrap_or (last_installed (commits_after Committed o (commits past)) row) (initial_version setup row)) is
@@ -102,5 +95,5 @@ module _ (level : Level) (setup : Table) (past : Past) (e : ℕ) (command : Comm
           blocks_over level setup asker after past s holder (λ on row. sym (match_as on row (version_by t row) refl)) (λ on row some. seen_same level setup asker after past row (same on row some))
               (λ on row would. elim (alike on row (version_by t row) refl) [ inl eq ↦ sym eq | inr off ↦ absurd (both_ways _ off.1 would) ]),
           blocks_over level setup asker past after s holder (λ on row. match_as on row (version_by t row) refl) (λ on row some. seen_same level setup asker past after row (sym (same on row some)))
-              (λ on row. seen_as s row _ _ (alike on row (version_by t row) refl)),
+              (λ on row would. elim (alike on row (version_by t row) refl) [ inl eq ↦ eq | inr off ↦ absurd (both_ways _ off.0 would) ]),
         )

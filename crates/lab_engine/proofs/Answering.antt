@@ -1,14 +1,11 @@
 -- What a session gives, and what the rules answer to it.
-use Rattle.std.specs.{Prelude.{MatchOption, Result, IfOk, Contains, is_some, true, false, ◌==◌}, declared.alloc.AllocError.{AllocError}}
-use Rattle.lab_engine.proofs.Common.{active, Answers, ap, AreBlockers, arith, asked, Asks, Bool, Command, Commit, Conflict, conflict_fault, ConflictKind, Deadlock, DuplicateKey, EngineFault, fails, Gives, IfOk-weaker, in_view, inl, inr, IsCircle, IsEffect, IsEffectOn, IsFirstConflict, IsFree, IsLeastCircle, IsRefusalOn, IsResultOn, length, Level, List, Listed, listed, MayAsk, MayCommit, MayGive, None, Option, Outcome, OutOfRange, Past, Read, refl, Refused, Row, Rows, Run, seen, Some, Statement, subst, sym, Table, true≢false, Txn, Version, View, waiting, Waits, Write, Writes, written, [], ℕ, ◌∙◌, ◌∷◌, ◌≡◌, ◌≢◌}
+use Rattle.std.specs.{Prelude.{MatchOption, Result, IfOk, Contains, is_some, false}, declared.alloc.AllocError.{AllocError}}
+use Rattle.lab_engine.proofs.Common.{active, Answers, ap, AreBlockers, arith, asked, Asks, Bool, both_ways, Command, Commit, Conflict, conflict_fault, ConflictKind, Deadlock, DuplicateKey, EngineFault, Gives, IfOk-weaker, inl, inr, IsCircle, IsFirstConflict, IsFree, IsLeastCircle, IsRefusalOn, IsResultOn, Level, List, Listed, MayAsk, MayCommit, MayGive, None, none_of, none_some, Option, Outcome, OutOfRange, Past, Read, refl, Refused, Row, Run, seen, Some, Statement, subst, sym, Table, Txn, Version, waiting, Waits, Write, [], ℕ, ◌∙◌, ◌≡◌, ◌≢◌}
 
 -- a command that runs no statement is given at rest
 at_rest : (past : Past) (session : ℕ) (command : Command) → asked command ≡ None → MayGive past session command → waiting past session ≡ None
 at_rest past session command isnt (inl none) = none
-at_rest past session command isnt (inr held) =
-    let is : asked command ≡ Some held.0 = ap asked held.2 in
-    let clash : None ≡ Some held.0 = sym isnt ∙ is in
-    cc
+at_rest past session command isnt (inr held) = none_some _ (sym isnt ∙ ap asked held.2)
 
 pub gives : (past : Past) (session : ℕ) (command given : Command) (txn : Txn) → command ≡ given → asked given ≡ None → MayGive past session command → active past session ≡ Some txn
     → Gives past session command given txn
@@ -17,17 +14,11 @@ gives past session command given txn is isnt may has = record { command_is = is;
 -- a session that gives a statement may ask for it
 pub may_ask : (past : Past) (session : ℕ) (command : Command) (s : Statement) → asked command ≡ Some s → MayGive past session command → MayAsk past session s
 may_ask past session command s is (inl none) = inl none
-may_ask past session command s is (inr held) =
-    let same : Some held.0 ≡ Some s = sym (ap asked held.2) ∙ is in
-    inr (held.1 ∙ same)
-
-no_statement : (o : Option Statement) → is_some o ≡ false → o ≡ None
-no_statement None h = refl
-no_statement (Some s) h = absurd (true≢false h)
+may_ask past session command s is (inr held) = inr (held.1 ∙ sym (ap asked held.2) ∙ is)
 
 -- where no statement of a session waits
 pub at_ease : (past : Past) (session : ℕ) (waits : Bool) → waits ≡ is_some (waiting past session) → waits ≡ false → waiting past session ≡ None
-at_ease past session waits is off = no_statement (waiting past session) (sym is ∙ off)
+at_ease past session waits is off = none_of (waiting past session) (both_ways _ (sym is ∙ off))
 
 -- ---- statements
 
@@ -36,40 +27,22 @@ abbrev Searched : Level → Table → Past → ℕ → Statement → Option (Lis
 Searched level setup past session s found = MatchOption found ((circle : List ℕ) → ¬ IsCircle level setup past session s circle) (IsLeastCircle level setup past session s)
 
 module _ (level : Level) (setup : Table) (past : Past) (session : ℕ) (s : Statement) (txn : Txn) (asks : Asks past session (Run s) s txn) where
-  module _ (free : IsFree level setup past session s) (shown : Row → Version) (sight : (row : Row) → shown row ≡ seen level setup past txn row) where
-    effect : (view : View) (rows : Rows) (writes : Writes) → IsEffectOn shown s view rows writes → IsEffect level setup past txn s view rows writes
-    effect view rows writes e = record {
-      runs = λ row. sym (ap (λ (v : Version). fails s row v.state) (sight row)) ∙ e.runs row;
-      view_is = λ row. e.view_is row ∙ ap (λ (v : Version). in_view v.name) (sight row);
-      rows_are = λ row. e.rows_are row ∙ ap (λ (v : Version). listed s row v.state) (sight row);
-      writes_are = λ row. e.writes_are row ∙ ap (λ (v : Version). written s row v.state) (sight row);
-    }
-
-    refusal_answers : (fault : EngineFault) → IsRefusalOn shown s fault → Answers level setup past session (Run s) (Refused fault)
-    refusal_answers (DuplicateKey row) f =
-        ((s, txn, asks, free, f.0, sym (ap (λ (v : Version). fails s row v.state) (sight row)) ∙ f.1), (λ eq. cc), λ t run circle eq. cc)
-    refusal_answers (OutOfRange row) f = (
-      (
-        s,
-        txn,
-        asks,
-        free,
-        f.0,
-        sym (ap (λ (v : Version). fails s row v.state) (sight row)) ∙ f.1,
-        λ other below. sym (ap (λ (v : Version). fails s other v.state) (sight other)) ∙ f.2 other below,
-      ),
-      (λ eq. cc),
-      λ t run circle eq. cc,
-    )
+  module _ (free : IsFree level setup past session s) where
+    refusal_answers : (fault : EngineFault) → IsRefusalOn (seen level setup past txn) s fault → Answers level setup past session (Run s) (Refused fault)
+    refusal_answers (DuplicateKey row) f = ((s, txn, asks, free, f.0, f.1), (λ eq. cc), λ t run circle eq. cc)
+    refusal_answers (OutOfRange row) f = ((s, txn, asks, free, f.0, f.1, f.2), (λ eq. cc), λ t run circle eq. cc)
     refusal_answers other f = absurd f
 
-    result_answers : (outcome : Outcome) → IsResultOn shown s outcome → Answers level setup past session (Run s) outcome
-    result_answers (Listed view rows writes) f = ((s, txn, asks, free, effect view rows writes f), (λ eq. cc), λ t run circle eq. cc)
+    result_answers : (outcome : Outcome) → IsResultOn (seen level setup past txn) s outcome → Answers level setup past session (Run s) outcome
+    result_answers (Listed view rows writes) f = ((s, txn, asks, free, f), (λ eq. cc), λ t run circle eq. cc)
     result_answers (Refused fault) f = refusal_answers fault f
     result_answers other f = absurd f
 
-    pub unblocked_answers : (r : Result Outcome AllocError) → IfOk r (IsResultOn shown s) → IfOk r (Answers level setup past session (Run s))
-    unblocked_answers r f = IfOk-weaker r (IsResultOn shown s) (Answers level setup past session (Run s)) result_answers f
+    -- what is true of rows as they are shown is so of them as the transaction sees them
+    pub unblocked_answers : (shown : Row → Version) → ((row : Row) → shown row ≡ seen level setup past txn row) → (r : Result Outcome AllocError) → IfOk r (IsResultOn shown s)
+        → IfOk r (Answers level setup past session (Run s))
+    unblocked_answers shown sight r f = IfOk-weaker r (IsResultOn (seen level setup past txn) s) (Answers level setup past session (Run s)) result_answers
+        (subst (λ sees. IfOk r (IsResultOn sees s)) (λ i row. sight row i) f)
 
   module _ (on : List ℕ) (blockers : AreBlockers level setup past session s on) where
     -- where nobody blocks it the statement is free
@@ -100,14 +73,6 @@ module _ (level : Level) (setup : Table) (past : Past) (session : ℕ) (s : Stat
 -- a session with an active transaction asks for a statement that it may ask for
 pub asking : {past : Past} {session : ℕ} (s : Statement) (txn : Txn) → MayAsk past session s → active past session ≡ Some txn → Asks past session (Run s) s txn
 asking s txn may has = record { command_is = refl; may_ask = may; active_is = has }
-
--- a list that is empty, and one that isn't, by what is_empty says of it
-pub none_empty : (shown xs : List ℕ) → shown ≡ xs → true ≡ (length shown == 0) → xs ≡ []
-none_empty shown [] same is = refl
-none_empty shown (x ∷ xs) same is = let len : length shown ≡ length (x ∷ xs) = ap length same in grind (arith, len, is)
-
-pub some_empty : (shown xs : List ℕ) → shown ≡ xs → (length shown == 0) ≡ false → xs ≢ []
-some_empty shown xs same is none = let len : length shown ≡ length {A = ℕ} [] = ap length (same ∙ none) in grind (arith, len, is)
 
 -- what the rules say of a commit, where they found no conflict and where they found one
 abbrev Looked : Level → Table → Past → Txn → Option Conflict → Type 0

@@ -1,73 +1,50 @@
 -- Which sessions are chosen by a test of their active transactions.
-use Rattle.lab_engine.proofs.Common.{active, Agree, and_from, and_parts, ap, AreOthers, arith, Asker, Bool, Contains, Describes, DescribesAll, DescribesSession, eq-eqb, eqb-true, has, inl, inr, IsOther, IsRunning, IsTrue, Level, List, map, ne_eqb, None, not, Option, or_cases, or_left, or_right, Past, refl, RunningTxn, SessionState, Situation, Some, some_is, subst, suc, sym, true, true≢false, Txn, zero, [], ℕ, ◌&&◌, ◌==◌, ◌↔◌, ◌∙◌, ◌∷◌, ◌≡◌, ◌≢◌}
-use Rattle.lab_engine.specs.Chosen.{has_passing, is_passing_other, is_chosen}
-use Rattle.lab_engine.proofs.Waiting.{running_txn}
-use Rattle.lab_table.proofs.Members.{no_member}
-
--- a negated test of equal numbers
-apart : (a b : ℕ) → not (a == b) ≡ true → b ≢ a
-apart a b t same = absurd (true≢false (sym t ∙ ap not (eq-eqb a b (sym same))))
-
--- what is kept of an active transaction
-txn_running : {level : Level} (past : Past) (state : SessionState) (txn : Txn) → DescribesSession level past state → active past state.session ≡ Some txn
-    → (running : RunningTxn) × (state.running ≡ Some running) × IsRunning level txn running
-txn_running {level} past state txn d is = at state.running refl (subst (λ (o : Option Txn). Agree level o state.running) is d.running)
-  where
-    at : (o : Option RunningTxn) → state.running ≡ o → Agree level (Some txn) o → (running : RunningTxn) × (state.running ≡ Some running) × IsRunning level txn running
-    at None none h = absurd h
-    at (Some running) some h = (running, some, h)
+use Rattle.lab_engine.{proofs.{Common.{active, Agree, and_comm, and_from, and_parts, ap, AreOthers, arith, Asker, Bool, both_ways, cond, Describes, eq-eqb, eqb_tells, false, has, inl, inr, IsOther, IsRunning, IsTrue, Level, List, ne_eqb, None, none_some, not, Option, or-false, Past, refl, running_of, RunningTxn, same_Some, SessionState, Situation, Some, subst, suc, sym, true≢false, Txn, ℕ, [], ◌&&◌, ◌<◌, ◌==◌, ◌||◌, ◌↔◌, ◌∙◌, ◌∷◌, ◌≡◌}, States.{all_rise, Rise}}, specs.Chosen.{has_passing, is_chosen, is_passing_other}}
 
 -- a test says of what is kept of each active transaction whether something holds of it
 abbrev pub Tells : Level → Past → (ℕ → RunningTxn → Bool) → (Txn → Type 0) → Type 0
 Tells level past test holds = (other : ℕ) (txn : Txn) (running : RunningTxn) → active past other ≡ Some txn → IsRunning level txn running → IsTrue (test other running) ↔ holds txn
 
-module _ {level : Level} (past : Past) (situation : Situation) (session : ℕ) (test : ℕ → RunningTxn → Bool) (holds : Txn → Type 0) (d : Describes level past situation) (tells : Tells level past test holds) where
-  -- it says of a state whether it is another session's of whose transaction that holds
-  state_is : (state : SessionState) → DescribesSession level past state → IsTrue (is_passing_other test session state) ↔ IsOther past session state.session holds
-  state_is state described = (to, from)
-    where
-      found : (o : Option RunningTxn) → state.running ≡ o → has_passing (test state.session) o ≡ true → (txn : Txn) × (active past state.session ≡ Some txn) × holds txn
-      found None none passes = absurd (true≢false (sym passes))
-      found (Some running) some passes =
-          let txn = running_txn past state running described some in
-          (txn.0, txn.1, (tells state.session txn.0 running txn.1 txn.2).0 passes)
+module _ (test : ℕ → RunningTxn → Bool) (session : ℕ) where
+  -- nothing is kept of a session below those of some states
+  none_below : (low n : ℕ) (states : List SessionState) → Rise low states → n < low → is_chosen test session states n ≡ false
+  none_below low n [] rise less = refl
+  none_below low n (state ∷ states) rise less =
+      ap (λ b. (b && is_passing_other test session state) || is_chosen test session states n) (ne_eqb n state.session (λ same. absurd (omega (arith, same, rise.0, less))))
+      ∙ none_below (suc low) n states rise.1 (omega arith)
 
-      to : IsTrue (is_passing_other test session state) → IsOther past session state.session holds
-      to passes =
-          let parts = and_parts (not (state.session == session)) (has_passing (test state.session) state.running) passes in
-          let txn = found state.running refl parts.1 in
-          (txn.0, apart state.session session parts.0, txn.1, txn.2)
-
-      from : IsOther past session state.session holds → IsTrue (is_passing_other test session state)
-      from (holder, ne, is, held) =
-          let kept = txn_running past state holder described is in
-          and_from (not (state.session == session)) (has_passing (test state.session) state.running) (ap not (ne_eqb state.session session (λ same. ne (sym same))))
-          (ap (has_passing (test state.session)) kept.1 ∙ (tells state.session holder kept.0 is kept.2).1 held)
-
-  -- a session that is chosen has such a state
-  chosen_state : (states : List SessionState) (n : ℕ) → DescribesAll level past states → is_chosen test session states n ≡ true → IsOther past session n holds
-  chosen_state [] n all any = absurd (true≢false (sym any))
-  chosen_state (state ∷ states) n all any = elim (or_cases (n == state.session && is_passing_other test session state) (is_chosen test session states n) any) [
-    | inl here ↦ let parts = and_parts (n == state.session) (is_passing_other test session state) here in
-        subst (λ k. IsOther past session k holds) (sym (eqb-true n state.session parts.0)) ((state_is state all.0).0 parts.1)
-    | inr there ↦ chosen_state states n all.1 there
+  -- a session is chosen where it is another one, and what is kept of its active transaction passes
+  chosen_as : (low n : ℕ) (states : List SessionState) → Rise low states → is_chosen test session states n ≡ (not (n == session) && has_passing (test n) (running_of states n))
+  chosen_as low n [] rise = sym (and_comm (not (n == session)) false)
+  chosen_as low n (state ∷ states) rise = elim (eqb_tells state.session n) [
+    | inl p ↦
+        ap (λ b. (b && is_passing_other test session state) || is_chosen test session states n) (eq-eqb n state.session (sym p.1))
+        ∙ ap (λ b. is_passing_other test session state || b) (none_below (suc low) n states rise.1 (omega (arith, rise.0, p.1))) ∙ or-false (is_passing_other test session state)
+        ∙ ap (λ k. not (k == session) && has_passing (test k) state.running) p.1
+        ∙ sym (ap (λ b. not (n == session) && has_passing (test n) (cond b state.running (running_of states n))) p.0)
+    | inr p ↦
+        ap (λ b. (b && is_passing_other test session state) || is_chosen test session states n) (ne_eqb n state.session (λ same. p.1 (sym same)))
+        ∙ chosen_as (suc low) n states rise.1
+        ∙ sym (ap (λ b. not (n == session) && has_passing (test n) (cond b state.running (running_of states n))) p.0)
   ]
 
-  -- a session is chosen where it has one
-  state_chosen : (states : List SessionState) (n : ℕ) → DescribesAll level past states → Contains (map (λ state. state.session) states) n → IsOther past session n holds → is_chosen test session states n ≡ true
-  state_chosen [] n all c other = absurd (no_member n c)
-  state_chosen (state ∷ states) n all (zero, lt, is) other =
-      or_left (n == state.session && is_passing_other test session state) (is_chosen test session states n)
-      (and_from (n == state.session) (is_passing_other test session state) (eq-eqb n state.session (sym is)) ((state_is state all.0).1 (subst (λ k. IsOther past session k holds) (sym is) other)))
-  state_chosen (state ∷ states) n all (suc k, lt, is) other =
-      or_right (n == state.session && is_passing_other test session state) (is_chosen test session states n) (state_chosen states n all.1 (k, omega (arith, lt), is) other)
-
-  -- those are chosen of whose transactions it holds
-  pub chosen_is : (n : ℕ) → IsTrue (is_chosen test session situation.sessions n) ↔ IsOther past session n holds
-  chosen_is n = (
-    chosen_state situation.sessions n d.states,
-    (λ other. state_chosen situation.sessions n d.states (subst (λ xs. Contains xs n) (sym d.sessions) (d.active_is n (some_is (active past n) other.0 other.2))) other),
-  )
+-- those are chosen of whose transactions it holds
+pub chosen_is : {level : Level} (past : Past) (situation : Situation) (session : ℕ) (test : ℕ → RunningTxn → Bool) (holds : Txn → Type 0) → Describes level past situation → Tells level past test holds
+    → (n : ℕ) → IsTrue (is_chosen test session situation.sessions n) ↔ IsOther past session n holds
+chosen_is {level} past situation session test holds d tells n =
+    subst (λ b. IsTrue b ↔ IsOther past session n holds) (sym (chosen_as test session 1 n situation.sessions (all_rise situation.sessions d.sessions)))
+    (at (active past n) (running_of situation.sessions n) refl (d.states n).running)
+  where
+    at : (o : Option Txn) (kept : Option RunningTxn) → active past n ≡ o → Agree level o kept → IsTrue (not (n == session) && has_passing (test n) kept) ↔ IsOther past session n holds
+    at None None own agree = ((λ passes. absurd (both_ways _ refl (and_parts _ _ passes).1)), (λ other. none_some _ (sym own ∙ other.2)))
+    at None (Some kept) own agree = absurd agree
+    at (Some txn) None own agree = absurd agree
+    at (Some txn) (Some kept) own agree = (
+      (λ passes.
+          let parts = and_parts _ _ passes in
+          (txn, (λ same. true≢false (sym parts.0 ∙ ap not (eq-eqb n session (sym same)))), own, (tells n txn kept own agree).0 parts.1)),
+      (λ other. and_from _ _ (ap not (ne_eqb n session (λ same. other.1 (sym same)))) ((tells n txn kept own agree).1 (subst holds (same_Some other.0 txn (sym other.2 ∙ own)) other.3))),
+    )
 
 -- so a set of those that are chosen has them
 pub others_are : {level : Level} (past : Past) (asker : Asker) (test : ℕ → RunningTxn → Bool) (holds : Txn → Type 0) (set : ℕ) → Describes level past asker.situation.now → Tells level past test holds

@@ -1,7 +1,5 @@
 -- Cycles of sessions, each blocked by the next, as walks along the graph of who waits for whom.
-use Rattle.lab_engine.proofs.Common.{ap, AreWaits, arith, BlockedBy, both_ways, cases_eq, Contains, Err, false, false_from_ne_true, IfOk, IfSome, inl, inr, IsChain, IsCircle, IsLeastCircle, IsRetryable, IsRound, IsTrue, IsWalk, length, Level, List, list_any, MatchOption, MayAsk, None, NotAfter, Ok, Option, Past, refl, Result, same_Some, Some, Statement, subst, suc, sym, Table, waiting, waits_for, WaitsOn, [], ℕ, ◌+◌, ◌<◌, ◌==◌, ◌∙◌, ◌∷◌, ◌≡◌, ◌≢◌, ◌≤◌, ◌⊎◌}
-use Rattle.lab_engine.specs.Released.{IsReleased}
-use Rattle.lab_engine.proofs.Waiting.{contains_any, asked_is, AreWaitsWith}
+use Rattle.lab_engine.{proofs.{Common.{ap, AreWaits, arith, BlockedBy, both_ways, cases_eq, Contains, Err, false, false_from_ne_true, IfOk, inl, inr, IsChain, IsCircle, IsLeastCircle, IsRetryable, IsRound, IsTrue, IsWalk, length, Level, List, list_any, MatchOption, MayAsk, None, NotAfter, Ok, Option, Past, refl, Result, same_Some, Some, Statement, subst, suc, sym, Table, waiting, waits_for, WaitsOn, ℕ, [], ◌<◌, ◌==◌, ◌∙◌, ◌∷◌, ◌≡◌, ◌≢◌, ◌≤◌, ◌⊎◌}, Waiting.{AreWaitsWith, asked_is, contains_any}}, specs.{LeastWalk.{IsLeastRound}, Released.{IsReleased}}}
 
 -- a walk begins with a step
 first_step : (waits : List ℕ) (session : ℕ) (rest : List ℕ) (goal : ℕ) → IsWalk waits session rest goal → (other : ℕ) × IsTrue (waits_for waits session other)
@@ -36,12 +34,6 @@ module _ (level : Level) (setup : Table) (past : Past) (waits : List ℕ) where
       → IsChain level setup past waiter asked rest goal → IsWalk waits waiter rest goal
   walk_of goal [] waiter asked all own chain = own goal chain
   walk_of goal (next ∷ rest) waiter asked all own (b, s, is, chain) = (own next b, walk_of goal rest next s all (all next s is) chain)
-
--- of the graph's walks from the session back to it none is shorter than a cycle, and none of its length comes before it
-pub record IsLeastRound (waits : List ℕ) (session : ℕ) (circle : List ℕ) : Type 0 where
-  pub round : IsRound waits session circle
-  pub shortest : (rest : List ℕ) → IsWalk waits session rest session → length circle ≤ 1 + length rest
-  pub least : (rest : List ℕ) → IsWalk waits session rest session → length circle ≡ 1 + length rest → NotAfter circle (session ∷ rest)
 
 -- ---- the graph with what a session asks for
 
@@ -80,18 +72,15 @@ module _ (level : Level) (setup : Table) (past : Past) (waits : List ℕ) (sessi
         least (first ∷ rest) c same = subst (λ k. NotAfter circle (k ∷ rest)) (sym c.0) (l.least rest (circle_walk first rest c) (omega (arith, same)))
 
     -- what a search of the graph says of a deadlock
-    pub deadlock_is : {E : Type 0} (result : Result (Option (List ℕ)) E) → IfOk result (λ found. IfSome found (IsRound waits session))
-        → IfOk result (λ found. IfSome found (λ circle. (rest : List ℕ) → IsWalk waits session rest session → length circle ≤ 1 + length rest))
-        → IfOk result (λ found. IfSome found (λ circle. (rest : List ℕ) → IsWalk waits session rest session → length circle ≡ 1 + length rest → NotAfter circle (session ∷ rest)))
-        → IfOk result (λ found. found ≡ None → (rest : List ℕ) → ¬ IsWalk waits session rest session)
+    pub deadlock_is : {E : Type 0} (result : Result (Option (List ℕ)) E) → IfOk result (λ found. MatchOption found ((rest : List ℕ) → ¬ IsWalk waits session rest session) (IsLeastRound waits session))
         → IfOk result (λ found. MatchOption found ((circle : List ℕ) → ¬ IsCircle level setup past session s circle) (IsLeastCircle level setup past session s))
-    deadlock_is (Ok (Some circle)) found shortest least none = least_circle circle (record { round = found; shortest = shortest; least = least })
-    deadlock_is (Ok None) found shortest least none = nobody
+    deadlock_is (Ok (Some circle)) least = least_circle circle least
+    deadlock_is (Ok None) none = nobody
       where
         nobody : (circle : List ℕ) → ¬ IsCircle level setup past session s circle
         nobody [] c = c
-        nobody (first ∷ rest) c = none refl rest (circle_walk first rest c)
-    deadlock_is (Err e) found shortest least none = tt
+        nobody (first ∷ rest) c = none rest (circle_walk first rest c)
+    deadlock_is (Err e) found = tt
 
 -- ---- sessions that are released
 

@@ -1,29 +1,5 @@
 -- What a situation says of sessions, rows and numbers.
-use Rattle.std.specs.Option.{is_none}
-use Rattle.lab_engine.specs.RuleTable.{Where}
-use Rattle.lab_engine.proofs.Common.{active, active_after, Agree, all_sessions, and_parts, ap, AreCommits, arith, begun_after, cond, Contains, Describes, DescribesAll, DescribesRows, eqb_tells, inl, inr, is_some, IsRunning, IsSame, IsSome, IsTrue, keeps_commits, kept_rows, Level, List, list_all, LogEvent, map as each, None, none_of, Option, option_map, Past, refl, reverse, RowStates, running_of, RunningTxn, SessionState, Situation, Some, subst, suc, sym, Txn, waiting, waiting_after, waiting_of, zero, [], ℕ, ◌+◌, ◌==◌, ◌∙◌, ◌∷◌, ◌≡◌, ◌≢◌}
-
-no_txn : (level : Level) (txn : Option Txn) → ¬ IsSome txn → Agree level txn None
-no_txn level None h = tt
-no_txn level (Some txn) h = absurd (h refl)
-
-not_first : (x y : ℕ) (xs : List ℕ) → x ≢ y → Contains (x ∷ xs) y → Contains xs y
-not_first x y xs apart (zero, few, is) = absurd (apart is)
-not_first x y xs apart (suc k, few, is) = (k, omega arith, is)
-
-agrees_in : (level : Level) (past : Past) (states : List SessionState) (session : ℕ) → DescribesAll level past states → (IsSome (active past session) → Contains (each (λ state. state.session) states) session)
-    → Agree level (active past session) (running_of states session)
-agrees_in level past [] session all there = no_txn level (active past session) (λ some. absurd (omega (arith, (there some).1)))
-agrees_in level past (state ∷ states) session all there = elim (eqb_tells state.session session) [
-  | inl p ↦ subst (λ b. Agree level (active past session) (cond b state.running (running_of states session))) (sym p.0) (subst (λ n. Agree level (active past n) state.running) p.1 all.0.running)
-  | inr p ↦ subst (λ b. Agree level (active past session) (cond b state.running (running_of states session))) (sym p.0)
-      (agrees_in level past states session all.1 (λ some. not_first state.session session (each (λ state. state.session) states) p.1 (there some)))
-]
-
--- what a situation keeps of a session's transaction agrees with it
-pub running_agrees : {level : Level} (past : Past) (situation : Situation) → Describes level past situation → (session : ℕ) → Agree level (active past session) (running_of situation.sessions session)
-running_agrees {level} past situation is session =
-    agrees_in level past situation.sessions session is.states (λ some. subst (λ l. Contains l session) (sym is.sessions) (is.active_is session some))
+use Rattle.lab_engine.proofs.{States.{none_kept}, Common.{is_none, Where, active, active_after, Agree, all_sessions, ap, AreCommits, arith, begun_after, cond, Contains, Describes, DescribesAll, DescribesRows, eqb_tells, inl, inr, is_some, IsRunning, IsSame, IsSome, IsTrue, keeps_commits, kept_rows, Level, list_all, LogEvent, map as each, None, Option, option_map, Past, refl, reverse, RowStates, running_of, RunningTxn, Situation, Some, subst, sym, Txn, waiting, waiting_after, ℕ, ◌+◌, ◌==◌, ◌∙◌, ◌∷◌, ◌≡◌}}
 
 pub kept_txn : (level : Level) (txn : Option Txn) (running : RunningTxn) → Agree level txn (Some running) → (t : Txn) × (txn ≡ Some t) × IsRunning level t running
 kept_txn level None running agree = absurd agree
@@ -36,44 +12,16 @@ kept_none level (Some t) agree = absurd agree
 -- where one is kept, the session has an active transaction
 pub running_txn : {level : Level} (past : Past) (situation : Situation) → Describes level past situation → (session : ℕ) (running : RunningTxn) → running_of situation.sessions session ≡ Some running
     → (txn : Txn) × (active past session ≡ Some txn) × IsRunning level txn running
-running_txn {level} past situation is session running kept = kept_txn level (active past session) running (subst (λ r. Agree level (active past session) r) kept (running_agrees past situation is session))
-
--- where none is kept, it has none
-pub running_none : {level : Level} (past : Past) (situation : Situation) → Describes level past situation → (session : ℕ) → running_of situation.sessions session ≡ None → active past session ≡ None
-running_none {level} past situation is session kept = kept_none level (active past session) (subst (λ r. Agree level (active past session) r) kept (running_agrees past situation is session))
-
-waits_in : (level : Level) (past : Past) (states : List SessionState) (session : ℕ) → DescribesAll level past states → (IsSome (waiting past session) → Contains (each (λ state. state.session) states) session)
-    → waiting_of states session ≡ waiting past session
-waits_in level past [] session all there = sym (none_of (waiting past session) (λ some. absurd (omega (arith, (there some).1))))
-waits_in level past (state ∷ states) session all there = elim (eqb_tells state.session session) [
-  | inl p ↦ ap (λ b. cond b state.waits (waiting_of states session)) p.0 ∙ all.0.waits ∙ ap (waiting past) p.1
-  | inr p ↦ ap (λ b. cond b state.waits (waiting_of states session)) p.0
-      ∙ waits_in level past states session all.1 (λ some. not_first state.session session (each (λ state. state.session) states) p.1 (there some))
-]
-
--- what a situation keeps of a session that waits agrees with the log
-pub waits_agree : {level : Level} (past : Past) (situation : Situation) → Describes level past situation → (session : ℕ) → waiting_of situation.sessions session ≡ waiting past session
-waits_agree {level} past situation is session =
-    waits_in level past situation.sessions session is.states (λ some. subst (λ l. Contains l session) (sym is.sessions) (is.waiting_is session some))
-
-none_kept : (states : List SessionState) → IsTrue (list_all (λ state. is_none state.waits) states) → (session : ℕ) → waiting_of states session ≡ None
-none_kept [] all session = refl
-none_kept (state ∷ states) all session =
-    let parts = and_parts (is_none state.waits) (list_all (λ s. is_none s.waits) states) all in
-    grind (arith, parts.0, none_kept states parts.1 session)
+running_txn {level} past situation is session running kept = kept_txn level (active past session) running (subst (λ r. Agree level (active past session) r) kept (is.states session).running)
 
 -- where no state waits, no session does
 pub nobody_waits : {level : Level} (past : Past) (situation : Situation) → Describes level past situation → IsTrue (list_all (λ state. is_none state.waits) situation.sessions) → (session : ℕ) → waiting past session ≡ None
-nobody_waits past situation is all session = sym (waits_agree past situation is session) ∙ none_kept situation.sessions all session
+nobody_waits past situation is all session = sym (is.states session).waits ∙ none_kept (λ state. state.waits) situation.sessions all session
 
-some_agree : (level : Level) (txn : Option Txn) (running : Option RunningTxn) → Agree level txn running → is_some running ≡ is_some txn
+pub some_agree : (level : Level) (txn : Option Txn) (running : Option RunningTxn) → Agree level txn running → is_some running ≡ is_some txn
 some_agree level None None agree = refl
 some_agree level (Some txn) (Some running) agree = refl
 some_agree level txn running agree = absurd agree
-
--- a situation keeps an active transaction of a session that has one
-pub active_agrees : {level : Level} (past : Past) (situation : Situation) → Describes level past situation → (session : ℕ) → is_some (running_of situation.sessions session) ≡ is_some (active past session)
-active_agrees {level} past situation is session = some_agree level (active past session) (running_of situation.sessions session) (running_agrees past situation is session)
 
 -- what is made of something is something
 pub some_made : {A B : Type 0} (f : A → B) (o : Option A) → is_some (option_map f o) ≡ is_some o

@@ -1,50 +1,26 @@
 -- Nothing that a log tells is more than its events are.
-use Rattle.lab_engine.proofs.Common.{active, active_after, Agree, arith, Begun, begun, begun_after, Command, cond, DescribesSession, false, HasRoom, is_fatal, length, Level, Listed, None, ops_after, Option, option_map, Outcome, Past, Refused, Rows, Run, RunningTxn, SessionState, Some, suc, true, Txn, View, Waits, Writes, [], ℕ, ⊤, ◌<◌, ◌==◌, ◌∷◌, ◌≤◌}
+use Rattle.lab_engine.proofs.{Common.{active, Agree, arith, Begun, begun, begun_after, DescribesSession, HasRoom, length, Level, None, Option, Outcome, Past, refl, RunningTxn, SessionState, Some, Txn, ℕ, [], ◌+◌, ◌<◌, ◌∷◌, ◌≡◌, ◌≤◌}, LockSteps.{each_active}}
 
--- an active transaction, if any, has run at most so many operations
-abbrev AtMost : ℕ → Option Txn → Type 0
-AtMost n None = ⊤
-AtMost n (Some txn) = length txn.ops ≤ n
+-- an active transaction has run at most as many operations as there were events
+at_most : (past : Past) (session : ℕ) (txn : Txn) → active past session ≡ Some txn → length txn.ops ≤ length past
+at_most = each_active (λ past session txn. length txn.ops ≤ length past) (λ past e n command. omega arith) (λ past e s view rows writes txn own most. omega (arith, most))
+    (λ past e session command outcome txn leaves own most. omega (arith, most))
 
-more : (n : ℕ) (txn : Option Txn) → AtMost n txn → AtMost (suc n) txn
-more n None h = tt
-more n (Some txn) h = omega arith
-
-ran_one : (command : Command) (view : View) (rows : Rows) (writes : Writes) (n : ℕ) (txn : Option Txn) → AtMost n txn
-    → AtMost (suc n) (option_map (λ t. record { no = t.no; ops = ops_after command view rows writes t.ops; before = t.before }) txn)
-ran_one command view rows writes n None h = tt
-ran_one (Run s) view rows writes n (Some txn) h = omega arith
-ran_one other view rows writes n (Some txn) h = omega arith
-
-after_one : (command : Command) (outcome : Outcome) (past : Past) (n : ℕ) (txn : Option Txn) → AtMost n txn → AtMost (suc n) (active_after command outcome past txn)
-after_one command (Begun number) past n txn h = omega arith
-after_one command (Listed view rows writes) past n txn h = ran_one command view rows writes n txn h
-after_one command (Waits on) past n txn h = more n txn h
-after_one command (Refused fault) past n txn h = elim (is_fatal fault) as (λ b. AtMost (suc n) (cond b None txn)) [ true ↦ tt | false ↦ more n txn h ]
-after_one command other past n txn h = tt
-
-at_most : (past : Past) (session : ℕ) → AtMost (length past) (active past session)
-at_most [] session = tt
-at_most (event ∷ past) session =
-    elim (event.session == session) as (λ b. AtMost (suc (length past)) (cond b (active_after event.command event.outcome past (active past session)) (active past session))) [
-      | true ↦ after_one event.command event.outcome past (length past) (active past session) (at_most past session)
-      | false ↦ more (length past) (active past session) (at_most past session)
-    ]
-
-begun_more : (outcome : Outcome) (b n : ℕ) → b ≤ n → begun_after outcome b ≤ suc n
-begun_more (Begun number) b n h = omega arith
-begun_more other b n h = omega arith
+-- an event begins at most one
+pub begun_more : (outcome : Outcome) (n : ℕ) → (n ≤ begun_after outcome n) × (begun_after outcome n ≤ n + 1)
+begun_more (Begun number) n = (omega arith, omega arith)
+begun_more other n = (omega arith, omega arith)
 
 -- at most as many transactions have begun as there were events
 pub begun_at_most : (past : Past) → begun past ≤ length past
 begun_at_most [] = omega arith
-begun_at_most (event ∷ past) = begun_more event.outcome (begun past) (length past) (begun_at_most past)
-
-room : (level : Level) (n : ℕ) (txn : Option Txn) (running : Option RunningTxn) → Agree level txn running → AtMost n txn → n < 100000 → HasRoom running
-room level n txn None agree most few = tt
-room level n None (Some running) agree most few = absurd agree
-room level n (Some txn) (Some running) agree most few = omega (arith, agree.operations, most, few)
+begun_at_most (event ∷ past) = let more = begun_more event.outcome (begun past) in omega (arith, more.1, begun_at_most past)
 
 -- what is kept of a session has room for one more operation
 pub has_room : {level : Level} (past : Past) (state : SessionState) → DescribesSession level past state → length past < 100000 → HasRoom state.running
-has_room {level} past state is few = room level (length past) (active past state.session) state.running is.running (at_most past state.session) few
+has_room {level} past state is few = at (active past state.session) state.running refl is.running
+  where
+    at : (txn : Option Txn) (running : Option RunningTxn) → active past state.session ≡ txn → Agree level txn running → HasRoom running
+    at txn None own agree = tt
+    at None (Some running) own agree = absurd agree
+    at (Some txn) (Some running) own agree = omega (arith, agree.operations, at_most past state.session txn own, few)

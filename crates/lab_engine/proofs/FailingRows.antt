@@ -1,9 +1,7 @@
 -- The first row that keeps a statement from running.
-use Rattle.std.specs.{Prelude.{IsTrue}, Ordering.{is_lt, ordering_reverse}}
-use Rattle.lab_engine.proofs.Common.{absent_runs, ap, AreMatching, below_all, Bool, both, cond, fails, false, false≢true, find, first_failing, inl, inr, is_less, is_some, is_sorted, is_update, IsBelow, IsEffectFault, Less, List, list_any, None, none_some, Option, option_map, refl, Row, row_cmp, row_eq, row_eq_self, rows_total, same_row, same_Some, selects, Some, State, Statement, StatementKind, subst, sym, T, true, Version, [], ℕ, ℤ, ◌&&◌, ◌||◌, ◌∙◌, ◌∷◌, ◌≡◌, ◌⊎◌}
-use Rattle.lab_engine.specs.declared.effect.EffectFault.TheVariants.{DuplicateKey, OutOfRange}
-use Rattle.lab_table.{specs.{Row.{numbered}, Statement.{matched, kind_is_update, kind_inserted, kind_fails}, declared.statement.StatementKind.TheVariants.{Select, Update, Insert, Delete}}, proofs.Statements.{fails_alike}}
-use Rattle.lab_engine.proofs.Holding.{none_in, behind}
+use Rattle.lab_engine.{proofs.{Common.{absent_runs, ap, AreMatching, below_all, Bool, both, cond, fails, false, false≢true, find, first_failing, inl, inr, is_less, is_some, is_sorted, is_update, IsBelow, IsEffectFault, IsTrue, Less, List, list_any, None, none_some, Option, option_map, refl, Row, row_cmp, row_eq, row_eq_self, rows_total, same_row, same_Some, selects, Some, State, Statement, StatementKind, subst, sym, T, true, Version, ℕ, ℤ, [], ◌&&◌, ◌||◌, ◌∙◌, ◌∷◌, ◌≡◌, ◌⊎◌}, Holding.{behind, none_in}}, specs.declared.effect.EffectFault.TheVariants.{DuplicateKey, OutOfRange}}
+use Rattle.std.specs.Ordering.{is_lt, ordering_reverse}
+use Rattle.lab_table.{specs.{Row.{numbered}, Statement.{kind_fails, kind_inserted, kind_is_update, matched}, declared.statement.StatementKind.TheVariants.{Delete, Insert, Select, Update}}, proofs.Statements.{fails_alike}}
 
 -- where none fails, a test of all finds none
 none_failing : (s : Statement) (es : List (Row × ℤ)) → first_failing s es ≡ None → list_any (λ e. fails s e.0 (Some e.1)) es ≡ false

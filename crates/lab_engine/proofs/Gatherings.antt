@@ -1,11 +1,6 @@
 -- What is gathered goes on with the log.
-use Rattle.lab_engine.proofs.Common.{active, active_after, ap, AreActive, arith, begun, Command, cond, eqb_tells, Gathering, Gathers, get_or, inl, inr, is_fatal, IsLegal, IsWithin, length, length-map, Level, List, Listed, LogEvent, map as each, None, number_after, number_of, of_session, Option, Outcome, Past, past_of, recorded, refl, Refused, same_Some, Some, subst, sym, Table, take, true, false, Txn, txns_after, [], ℕ, ◌+◌, ◌<◌, ◌==◌, ◌∙◌, ◌∷◌, ◌≡◌, ◌≤◌}
-use Rattle.lab_table.proofs.SessionOrder.{own_value, other_value}
-use Rattle.lab_engine.proofs.{GatheredNumbers.{recorded_length}, Numbers.{numbers_hold}, Runs.{front_more}, TxnsAfterEvents.{txns_go}}
-
--- nothing is told before the first event
-pub nothing_gathered : (gathered : Gathering) → AreActive [] gathered.active → gathered.txns.items ≡ [] → Gathers [] gathered
-nothing_gathered gathered none no_txns = record { active = none; txns = ap (each recorded) no_txns }
+use Rattle.lab_engine.proofs.{Common.{active, active_after, ap, AreActive, arith, begun, Command, cond, eqb_tells, false, Gathering, Gathers, inl, inr, is_fatal, IsLegal, IsWithin, length, length-map, Level, List, Listed, LogEvent, map as each, None, number_after, number_of, of_session, Option, Outcome, Past, recorded, refl, Refused, same_Some, Some, subst, sym, Table, true, Txn, txns_after, ℕ, ◌==◌, ◌∙◌, ◌∷◌, ◌≡◌, ◌≤◌}, GatheredNumbers.{recorded_length}, Numbers.{numbers_hold}, TxnsAfterEvents.{txns_goes}}
+use Rattle.lab_table.proofs.SessionOrder.{other_value, own_value}
 
 -- ---- the numbers of the active transactions
 
@@ -51,10 +46,5 @@ module _ (level : Level) (setup : Table) (past : Past) (event : LogEvent) (old :
       → each recorded new.txns.items ≡ txns_after event.command event.outcome by (each recorded old.txns.items) → Gathers (event ∷ past) new
   gathers_by new next made goes gone = record {
     active = active_goes past event old.active new.active next tells.active (made ∙ ap (number_after event.outcome) by_is) goes;
-    txns = gone ∙ (λ i. txns_after event.command event.outcome (by_is i) (tells.txns i)) ∙ sym (txns_go level setup past event legal);
+    txns = gone ∙ (λ i. txns_after event.command event.outcome (by_is i) (tells.txns i)) ∙ sym (txns_goes level setup past legal.0 event.session event.command event.outcome legal.1);
   }
-
--- so is what is gathered of the events so far with the next one
-pub front_gathered : (log : List LogEvent) (i : ℕ) (event : LogEvent) (gathered : Gathering) → i < length log → event ≡ get_or log i event → Gathers (event ∷ past_of (take i log)) gathered
-    → Gathers (past_of (take (i + 1) log)) gathered
-front_gathered log i event gathered few is tells = subst (λ past. Gathers past gathered) (sym (front_more log i event few is)) tells

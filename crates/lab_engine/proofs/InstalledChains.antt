@@ -1,7 +1,5 @@
 -- Chains of installed versions: what they say of the versions at a begin.
-use Rattle.lab_engine.proofs.Common.{active, ap, append_assoc, arith, Began, chain, chain_after, commits, commits_after, Committed, cond, false, first_since, if_any, installed_by, installers, is_some, last_before, last_installed, le-ltb, length, length-append, List, longer, lt-ltb, map, map-append, None, Option, option_or, Outcome, Past, refl, reverse, reverse-append, reverse-reverse, Row, Some, subst, sym, true≢false, Txn, unwrap_or, Version, version_by, writers, [], ℕ, ◌++◌, ◌<◌, ◌==◌, ◌∙◌, ◌∷◌, ◌≡◌, ◌≤◌}
-use Rattle.lab_engine.specs.declared.row_state.Installed.{Installed}
-use Rattle.lab_engine.proofs.Begins.{begins_hold}
+use Rattle.lab_engine.{proofs.{Common.{active, ap, append_assoc, arith, Began, chain, chain_after, commits, commits_after, Committed, cond, false, first_since, if_any, installed_by, installers, is_some, last_before, last_installed, le-ltb, length, length-append, List, longer, lt-ltb, map, map-append, None, Option, option_or, Outcome, Past, refl, reverse, reverse-append, reverse-reverse, Row, Some, subst, sym, true≢false, Txn, unwrap_or, Version, version_by, writers, ℕ, [], ◌++◌, ◌<◌, ◌==◌, ◌∙◌, ◌∷◌, ◌≡◌, ◌≤◌}, Begins.{begins_hold}}, specs.declared.row_state.Installed.{Installed}}
 
 -- ---- what a chain says
 
@@ -55,11 +53,14 @@ module _ (row : Row) (before : Past) where
       let more = one_more event.outcome (active (since ++ before) event.session) (since ++ before) (omega (arith, length-append since before)) (since_then since) in
       record { newer = more.0; writers_are = more.1; first_is = more.2 }
 
--- so does it of an active transaction's begin
+-- a past goes on from an active transaction's begin
+before_now : (past : Past) (session : ℕ) (txn : Txn) → active past session ≡ Some txn → (since : Past) × (past ≡ since ++ txn.before)
+before_now past session txn is =
+    let b : Began past txn = begins_hold past session txn is in (b.since ++ b.event ∷ [], b.past_is ∙ sym (append_assoc b.since (b.event ∷ []) txn.before))
+
+-- so it says who has since then
 pub since_begin : (past : Past) (session : ℕ) (txn : Txn) (row : Row) → active past session ≡ Some txn → SinceThen row past txn.before
-since_begin past session txn row is =
-    let b : Began past txn = begins_hold past session txn is in
-    subst (λ (p : Past). SinceThen row p txn.before) (append_assoc b.since (b.event ∷ []) txn.before ∙ sym b.past_is) (since_then row txn.before (b.since ++ b.event ∷ []))
+since_begin past session txn row is = let front = before_now past session txn is in subst (λ (p : Past). SinceThen row p txn.before) (sym front.1) (since_then row txn.before front.0)
 
 -- ---- the versions at a begin
 
@@ -95,9 +96,8 @@ module _ (row : Row) where
 -- before the place of an active transaction's begin, a row's chain ends with the version that was installed last at the begin
 pub last_at_begin : (past : Past) (session : ℕ) (txn : Txn) (row : Row) → active past session ≡ Some txn → last_before (length txn.before) (chain past row) ≡ last_installed (commits txn.before) row
 last_at_begin past session txn row is =
-    let b : Began past txn = begins_hold past session txn is in
-    subst (λ (p : Past). last_before (length txn.before) (chain p row) ≡ last_installed (commits txn.before) row)
-    (append_assoc b.since (b.event ∷ []) txn.before ∙ sym b.past_is) (last_then row txn.before (b.since ++ b.event ∷ []))
+    let front = before_now past session txn is in
+    subst (λ (p : Past). last_before (length txn.before) (chain p row) ≡ last_installed (commits txn.before) row) (sym front.1) (last_then row txn.before front.0)
 
 -- ---- who installed
 

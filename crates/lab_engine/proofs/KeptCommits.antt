@@ -1,16 +1,10 @@
 -- What is kept of commits goes on with an event, and there is room for it.
-use Rattle.lab_engine.proofs.Common.{active, Agree, all_sessions, and_from, ap, AreCommits, AreInstalled, AreWritten, arith, Bool, chain, chain_after, commits_by, Committed, cond, Contains, eq-eqb, false, HasPlacesOfCommits, installs, is_ending, is_some, IsSome, le-ltb, length, Level, List, list_any, LogEvent, longer, None, Option, option_map, or_left, or_right, Outcome, Past, refl, reverse, reverse-append, Row, row_eq, RunningTxn, Some, subst, sym, true, true≢false, Txn, Version, version_by, [], ℕ, ◌++◌, ◌+◌, ◌==◌, ◌∙◌, ◌∷◌, ◌≡◌, ◌≤◌}
-use Rattle.lab_engine.specs.{declared.row_state.Installed.{Installed}, KeptCommits.{commits_since, installs_at}, EventQuery.{busy}}
-use Rattle.lab_engine.proofs.EndPlaces.{fewer_active, few_active}
+use Rattle.lab_engine.{proofs.{Common.{active, Agree, all_sessions, and_from, ap, AreCommits, AreInstalled, AreWritten, arith, Bool, chain, chain_after, commits_by, Committed, cond, Contains, eq-eqb, false, HasPlacesOfCommits, installs, is_ending, is_some, IsSome, le-ltb, length, Level, List, list_any, LogEvent, longer, None, Option, option_map, or_left, or_right, Outcome, Past, refl, reverse, reverse-append, Row, row_eq, RunningTxn, Some, subst, sym, true, true≢false, Txn, Version, version_by, ℕ, [], ◌++◌, ◌+◌, ◌==◌, ◌∙◌, ◌∷◌, ◌≡◌, ◌≤◌}, EndPlaces.{few_active, fewer_active}}, specs.{declared.row_state.Installed.{Installed}, KeptCommits.{commits_since, installs_at}}}
 
 -- what is no commit installs nothing
 pub none_installed : (outcome : Outcome) (txn : Option Txn) → (outcome ≡ Committed → ⊥) → AreInstalled outcome txn None
 none_installed Committed txn apart = absurd (apart refl)
 none_installed other txn apart = refl
-
--- what is Busy is no commit
-pub busy_apart : (outcome : Outcome) → busy outcome ≡ true → outcome ≡ Committed → ⊥
-busy_apart outcome is same = true≢false (sym is ∙ ap busy same)
 
 -- what is kept of an active transaction has the rows that it has written
 pub rows_written : (level : Level) (txn : Option Txn) (running : Option RunningTxn) → Agree level txn running → AreWritten txn (option_map (λ r. r.written.items) running)

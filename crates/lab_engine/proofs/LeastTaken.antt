@@ -1,7 +1,5 @@
 -- The least of some rows that somebody has taken, row by row.
-use Rattle.lab_engine.proofs.Common.{ap, Conflict, false, get_or, inl, inr, is_eq, is_less, is_lt, IsBelow, length, List, list_any, None, Option, or_cases, or_left, or_right, refl, Row, row_cmp, row_eq, row_eq_self, rows_total, same_row, Some, subst, sym, T, take, true, true≢false, Write, ℕ, ◌+◌, ◌<◌, ◌||◌, ◌∙◌, ◌≡◌}
-use Rattle.std.proofs.lemmas.List.Folds.{list_any_more}
-use Rattle.lab_engine.specs.Taken.{IsAmong, IsLeastTaken, comes_before}
+use Rattle.lab_engine.{proofs.Common.{ap, Conflict, false, get_or, inl, inr, is_eq, is_less, is_lt, IsBelow, length, List, list_any, list_any_more, None, Option, or_cases, or_left, or_right, refl, Row, row_cmp, row_eq, row_eq_self, rows_total, same_row, Some, subst, sym, T, take, true, true≢false, Write, ℕ, ◌+◌, ◌<◌, ◌||◌, ◌∙◌, ◌≡◌}, specs.Taken.{comes_before, IsAmong, IsLeastTaken}}
 
 -- no row is below itself
 not_below : (row other : Row) → IsBelow row other → row_eq row other ≡ true → ⊥

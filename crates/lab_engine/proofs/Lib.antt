@@ -50,7 +50,6 @@ pub mod LimitOrder
 pub mod DoneTransactions
 pub mod RecordedCommits
 pub mod RecordedViews
-mod Apart
 mod AfterCommits
 mod AfterReads
 mod WaitsAfter

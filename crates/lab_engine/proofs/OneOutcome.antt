@@ -1,12 +1,6 @@
 -- After a log there is one answer to a command, and one event that a step or a retry appends.
-use Rattle.lab_engine.proofs.Common.{Answers, ap, arith, BlockedBy, both_ways, Busy, ComesFirst, Command, Commit, commits, conflict_fault, ConflictKind, Conflicts, ConflictsBy, Deadlock, DuplicateKey, Equal, fails, Greater, inl, inr, is_some, IsBelow, IsChain, IsCircle, IsEffect, IsFirstConflict, IsFree, IsInsertOf, IsSome, IsTrue, IsUpdate, Less, Level, List, Listed, LogEvent, MayCommit, None, none_some, Option, option_map, Ordering, Outcome, OutOfRange, Past, past_of, Permitted, Read, refl, Refused, Row, row_cmp, Rows, rows_apart, rules_of, Run, same_rows, same_Some, seen, Some, some_is, Statement, subst, sym, Table, turned, Txn, update_inserts_none, View, waiting, Waits, Write, writers, Writes, [], ℕ, ℤ, ◌++◌, ◌∙◌, ◌∷◌, ◌≡◌, ◌≢◌, ◌⊎◌}
-use Rattle.lab_engine.proofs.ReadConflicts.{one_read_conflict, stands_or_conflicts}
-use Rattle.lab_engine.proofs.RuleTables.{if_holds, if_set, where_holds}
+use Rattle.lab_engine.{proofs.{Common.{Answers, ap, arith, BlockedBy, both_ways, Busy, ComesFirst, Command, Commit, commits, conflict_fault, ConflictKind, Conflicts, ConflictsBy, Deadlock, DuplicateKey, Equal, fails, Greater, inl, inr, is_some, IsBelow, IsChain, IsCircle, IsEffect, IsFirstConflict, IsFree, IsInsertOf, IsSome, IsTrue, IsUpdate, Less, Level, List, Listed, LogEvent, MayCommit, None, none_some, Option, option_map, Ordering, Outcome, OutOfRange, Past, past_of, Permitted, Read, refl, Refused, Row, row_cmp, Rows, rows_apart, rules_of, Run, same_rows, same_Some, seen, Some, some_is, Statement, subst, sym, Table, turned, Txn, update_inserts_none, View, waiting, Waits, Write, writers, Writes, ℕ, ℤ, [], ◌++◌, ◌∙◌, ◌∷◌, ◌≡◌, ◌≢◌, ◌⊎◌}, ReadConflicts.{one_read_conflict, stands_or_conflicts}, RuleTables.{if_holds, if_set, where_holds}, Circles.{one_least_circle}, RisingLists.{before_end, none_before, same_pairs}, AnswerKinds.{answer_known, FreeAnswer, HeldAnswer, IdleAnswer, IsFirstFailing, KnownAnswer, TxnAnswer}}, specs.Answered.{RetriesTo, StepsTo}}
 use Rattle.std.proofs.lemmas.List.Kept.{AllPairs-from_increasing}
-use Rattle.lab_engine.proofs.Circles.{one_least_circle}
-use Rattle.lab_engine.proofs.RisingLists.{same_pairs, before_end, none_before}
-use Rattle.lab_engine.proofs.AnswerKinds.{FreeAnswer, HeldAnswer, TxnAnswer, IdleAnswer, KnownAnswer, IsFirstFailing, answer_known}
-use Rattle.lab_engine.specs.Answered.{StepsTo, RetriesTo}
 
 -- of the rows that have something there is one least
 one_least_row : (P : Row → Type 0) (row other : Row) → P row → P other → ((k : Row) → IsBelow k row → P k → ⊥) → ((k : Row) → IsBelow k other → P k → ⊥) → row ≡ other

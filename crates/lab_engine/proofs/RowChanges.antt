@@ -1,5 +1,5 @@
 -- What is kept of rows, where it changes for one of them.
-use Rattle.lab_engine.proofs.Common.{ap, Bool, cond, eq_reversed, false, is_eq, IsReady, IsSame, Kept, Option, refl, Row, row_cmp, row_eq, rows_total, RowStates, same_row, Some, subst, sym, true, ◌&&◌, ◌∙◌, ◌≡◌}
+use Rattle.lab_engine.proofs.Common.{ap, Bool, cond, eq_reversed, false, is_eq, IsReady, Kept, Option, refl, Row, row_cmp, row_eq, rows_total, same_row, Some, subst, sym, true, ◌&&◌, ◌∙◌, ◌≡◌}
 
 -- what depends on whether a row is a certain one is shown of that one and of the others
 pub by_row : (Q : Row → Bool → Type 0) (row : Row) → Q row true → ((other : Row) → Q other false) → (other : Row) → Q other (row_eq other row)
@@ -47,7 +47,3 @@ module _ (row : Row) (v : Kept) (old new : Row → Option Kept) (updates : (q : 
 -- what is kept where something is
 pub ready_in : (kept : Kept) (o : Option Kept) → o ≡ Some kept → IsReadyIn o → IsReady kept
 ready_in kept o is was = let same : was.0 ≡ kept = cc in subst IsReady same was.2
-
--- what stays the same twice stays the same
-pub same_then : (a b c : RowStates) → IsSame a b → IsSame b c → IsSame a c
-same_then a b c first second = record { chain = λ row. second.chain row ∙ first.chain row; pending = λ row n. second.pending row n ∙ first.pending row n }

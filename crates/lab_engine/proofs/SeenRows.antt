@@ -1,6 +1,5 @@
 -- What an active transaction sees of a situation.
-use Rattle.lab_engine.proofs.Common.{active, ap, arith, Asker, Bool, chain, chain_in, commits, cond, false, initial_version, IsAsker, last_before, last_installed, length, Level, None, Option, option_or, Past, refl, Row, seen, seen_in, sees_as_of_begin, sight, Some, Statement, true, Txn, unwrap_or, Version, version_by, would_write, written_by, ℕ, ◌∙◌, ◌≡◌}
-use Rattle.lab_engine.proofs.InstalledChains.{last_in, last_at_begin}
+use Rattle.lab_engine.proofs.{Common.{active, ap, arith, Asker, Bool, chain, chain_in, commits, cond, false, initial_version, IsAsker, last_before, last_installed, length, Level, None, Option, option_or, Past, refl, Row, seen, seen_in, sees_as_of_begin, sight, Some, Statement, true, Txn, unwrap_or, Version, version_by, would_write, written_by, ℕ, ◌∙◌, ◌≡◌}, InstalledChains.{last_at_begin, last_in}}
 
 -- the first of two that is there, or else a third
 either_or : {A : Type 0} (a b : Option A) (c : A) → unwrap_or (option_or a b) c ≡ unwrap_or a (unwrap_or b c)

@@ -1,6 +1,6 @@
 -- Bits of a set of sessions.
 use Rattle.std.{specs.Int.{bit_at, trailing_zeros, w16, Bits.{mask_lt}}, proofs.lemmas.Nat.Bits.{bit_at_and, bit_at_or, bit_at-lt, bit_at-zero, bit_at_set_same, bit_at_set_other, shr_and_one, bit_at-trailing_zeros, bit_at_ones, same_from_bits}}
-use Rattle.lab_engine.proofs.Common.{and_parts, ap, AreSessions, arith, bit_and, bit_or, both_ways, cases_eq, cases_lt, eq-eqb, eqb-true, false, has, IfSome, inl, inr, IsSome, IsTrue, min, ne_eqb, None, Option, or_cases, refl, Some, subst, sym, true, ℕ, ◌%◌, ◌&&◌, ◌*◌, ◌-◌, ◌/◌, ◌<◌, ◌==◌, ◌^◌, ◌||◌, ◌↔◌, ◌∙◌, ◌≡◌, ◌≤◌}
+use Rattle.lab_engine.proofs.Common.{ap, AreSessions, arith, bit_and, bit_or, both_ways, cases_eq, cases_lt, eq-eqb, eqb-true, false, has, IfSome, inl, inr, IsSome, IsTrue, min, ne_eqb, None, Option, or_cases, refl, Some, subst, sym, true, ℕ, ◌%◌, ◌&&◌, ◌*◌, ◌-◌, ◌/◌, ◌<◌, ◌==◌, ◌^◌, ◌||◌, ◌↔◌, ◌∙◌, ◌≡◌, ◌≤◌}
 
 -- the set of nobody
 pub has_nobody : (n : ℕ) → has 0 n ≡ false
@@ -38,17 +38,11 @@ sessions_inserted set k low high h n there = elim (or_cases (n == k) (has set n)
   | inr p ↦ h n p
 ]
 
-pub sessions_common : (a b : ℕ) → AreSessions a → AreSessions (bit_and a b)
-sessions_common a b h n there = h n (and_parts _ _ (sym (has_common a b n) ∙ there)).0
-
 pub sessions_either : (a b : ℕ) → AreSessions a → AreSessions b → AreSessions (bit_or a b)
 sessions_either a b h k n there = elim (or_cases (has a n) (has b n) (sym (has_either a b n) ∙ there)) [
   | inl p ↦ h n p
   | inr p ↦ k n p
 ]
-
-pub sessions_nobody : AreSessions 0
-sessions_nobody n there = absurd (both_ways _ (has_nobody n) there)
 
 -- ---- the lowest bit of a set is its least session
 

@@ -1,7 +1,5 @@
 -- Which rows of a transaction others have installed since its begin.
-use Rattle.lab_engine.proofs.Common.{ap, append_assoc, arith, Asker, Bool, chain, chain_in, ComesFirst, commits, Conflict, ConflictKind, Conflicts, ConflictsBy, false, first_since, If, inl, inr, IsAsker, IsBelow, IsFirstCommitter, IsFirstConflict, IsSome, length, length-append, Level, List, None, none_some, Option, Past, Read, refl, Row, rules_of, same_Some, Some, subst, sym, Table, true, true≢false, Txn, unwrap_or, version_by, Write, writers, [], ℕ, ◌++◌, ◌∙◌, ◌∷◌, ◌≡◌}
-use Rattle.lab_engine.specs.Taken.{IsFirstTaken, IsLeastTaken}
-use Rattle.lab_engine.proofs.InstalledChains.{SinceThen, since_begin, last_no}
+use Rattle.lab_engine.{proofs.{Common.{ap, append_assoc, Asker, Bool, chain, chain_in, ComesFirst, commits, Conflict, ConflictKind, Conflicts, ConflictsBy, false, first_since, If, inl, inr, IsAsker, IsBelow, IsFirstCommitter, IsFirstConflict, IsSome, length, Level, List, None, none_some, Option, Past, Read, refl, Row, rules_of, same_Some, Some, subst, sym, Table, true, true≢false, Txn, unwrap_or, version_by, Write, writers, ℕ, [], ◌++◌, ◌∙◌, ◌∷◌, ◌≡◌}, InstalledChains.{last_no, since_begin, SinceThen}, RisingLists.{none_before}}, specs.Taken.{IsFirstTaken, IsLeastTaken}}
 
 -- ---- who has installed a row since a begin
 
@@ -32,9 +30,7 @@ module _ (past : Past) (txn : Txn) (row : Row) (s : SinceThen row past txn.befor
       (wrote, l.0, l.1, l.2, s.writers_are ∙ ap (λ (k : List Txn). k ++ writers row (commits txn.before)) l.3 ∙ append_assoc l.1 (l.0 ∷ []) (writers row (commits txn.before)))
 
   no_conflict : (number : ℕ) → first_since (length txn.before) (chain past row) ≡ None → ¬ Conflicts past txn row number
-  no_conflict number none (wrote, first, newer, number_is, is) =
-      let longer : length (writers row (commits txn.before)) ≡ length (newer ++ first ∷ writers row (commits txn.before)) = ap length (sym (untaken none) ∙ is) in
-      absurd (omega (arith, longer, length-append newer (first ∷ writers row (commits txn.before))))
+  no_conflict number none (wrote, first, newer, number_is, is) = none_before newer first (writers row (commits txn.before)) (sym (untaken none) ∙ is)
 
 -- ---- what was found
 
@@ -61,9 +57,7 @@ found_says level past txn asker found asks least = at found least
 
 -- who is the first committer has no conflict by what it wrote
 pub none_taken : (past : Past) (txn : Txn) (row : Row) (number : ℕ) → IsFirstCommitter (commits past) txn → ¬ Conflicts past txn row number
-none_taken past txn row number first (wrote, by, newer, number_is, is) =
-    let longer : length (writers row (commits txn.before)) ≡ length (newer ++ by ∷ writers row (commits txn.before)) = ap length (sym (first row wrote) ∙ is) in
-    absurd (omega (arith, longer, length-append newer (by ∷ writers row (commits txn.before))))
+none_taken past txn row number first (wrote, by, newer, number_is, is) = none_before newer by (writers row (commits txn.before)) (sym (first row wrote) ∙ is)
 
 -- ---- what the rules ask
 

@@ -1,10 +1,6 @@
 -- The transactions of a log after one more event.
-use Rattle.lab_engine.proofs.Common.{active, AllNumbered, ap, arith, Begun, begun, Bool, changed, changed_by, Command, commits, commits_after, Committed, committed, cond, end_of, eq-eqb, false, GatheredTxn, get_or, has_number, IsLegal, IsWithin, length, Level, List, list_any, Listed, LogEvent, map as each, map-append, ne_eqb, new_txn, number_of, numbers_from, Op, op_of, ops_of, Option, Outcome, Past, Permitted, recorded, Recorded, recorded_txn, recorded_txns, refl, Rows, set, Some, subst, suc, sym, Table, true, Txn, txns_after, View, with_ops, Writes, zero, [], ℕ, ◌++◌, ◌+◌, ◌-◌, ◌<◌, ◌==◌, ◌||◌, ◌∙◌, ◌∷◌, ◌≡◌, ◌≢◌, ◌≤◌}
-use Rattle.lab_history.specs.declared.transaction.Outcome.TheVariants.{Committed as EndCommitted, Aborted as EndAborted}
-use Rattle.lab_engine.proofs.Numbers.{numbers_hold}
-use Rattle.lab_engine.proofs.Records.{records_hold, nothing_added}
-use Rattle.lab_engine.specs.Recording.{has_committed}
-use Rattle.lab_engine.proofs.GatheredNumbers.{numbers_more}
+use Rattle.lab_engine.{proofs.{Common.{active, AllNumbered, ap, arith, Begun, begun, Bool, changed, changed_by, Command, commits, commits_after, Committed, committed, cond, end_of, eq-eqb, false, GatheredTxn, get_or, has_number, IsLegal, IsWithin, length, Level, List, list_any, Listed, map as each, map-append, ne_eqb, new_txn, number_of, numbers_from, Op, op_of, ops_of, Option, Outcome, Past, Permitted, recorded, Recorded, recorded_txn, recorded_txns, refl, Rows, set, Some, subst, suc, sym, Table, true, Txn, txns_after, View, with_ops, Writes, zero, ℕ, [], ◌++◌, ◌+◌, ◌-◌, ◌<◌, ◌==◌, ◌||◌, ◌∙◌, ◌∷◌, ◌≡◌, ◌≢◌, ◌≤◌}, Numbers.{numbers_hold}, Records.{nothing_added, records_hold}, GatheredNumbers.{numbers_more}}, specs.Recording.{has_committed}}
+use Rattle.lab_history.specs.declared.transaction.Outcome.TheVariants.{Aborted as EndAborted, Committed as EndCommitted}
 
 -- ---- transactions
 
@@ -112,14 +108,10 @@ module _ (level : Level) (setup : Table) (past : Past) (legal : IsLegal level se
       at n true = ap committed (same_txn past n true)
       at n false = same_txn past n false
 
-  txns_goes : (outcome : Outcome) → Permitted level setup past session command outcome
+  -- the transactions after one more event
+  pub txns_goes : (outcome : Outcome) → Permitted level setup past session command outcome
       → recorded_txns (after outcome) ≡ txns_after command outcome (number_of (active past session)) (recorded_txns past)
   txns_goes (Begun n) (is_begin, none, next) = begins n next
   txns_goes (Listed view rows writes) (s, t, asks, free, effect) = runs view rows writes t asks.active_is
   txns_goes Committed (t, gives, may) = commit t gives.active_is
   txns_goes other permitted = λ i. each (λ n. same_txn past n (has_number n (active past session)) i) (numbers_from 1 (begun past))
-
--- the transactions after one more event
-pub txns_go : (level : Level) (setup : Table) (past : Past) (event : LogEvent) → IsLegal level setup (event ∷ past)
-    → recorded_txns (event ∷ past) ≡ txns_after event.command event.outcome (number_of (active past event.session)) (recorded_txns past)
-txns_go level setup past event legal = txns_goes level setup past legal.0 event.session event.command event.outcome legal.1

@@ -1,7 +1,5 @@
 -- Layers of those from which walks lead to a goal, by how many stand between.
-use Rattle.lab_engine.proofs.Common.{and_from, and_parts, ap, append_assoc, arith, both_ways, cases_eq, cases_lt, eq-eqb, eqb-true, false, get_or, get_or-set_other, get_or-set_same, has, IfSome, inl, inr, is_some, IsRound, IsTrue, IsWalk, length, List, list_any, None, NotAfter, Option, or-false, or_left, refl, replicate, set, Some, subst, sym, waits_for, WaitsForOne, [], ℕ, ◌&&◌, ◌++◌, ◌+◌, ◌-◌, ◌<◌, ◌==◌, ◌↔◌, ◌∙◌, ◌∷◌, ◌≡◌, ◌≤◌, ◌⊎◌}
-use Rattle.lab_engine.specs.LeastWalk.{Leads, AreLayers, IsLeastWalk}
-use Rattle.lab_engine.proofs.Walks.{shortest_once, once_walk, once_few}
+use Rattle.lab_engine.{proofs.{Common.{and_from, and_parts, ap, append_assoc, arith, both_ways, cases_eq, cases_lt, eq-eqb, eqb-true, false, get_or, get_or-set_other, get_or-set_same, has, IfSome, inl, inr, is_some, IsRound, IsTrue, IsWalk, length, List, list_any, None, NotAfter, Option, or-false, or_left, refl, replicate, set, Some, subst, sym, waits_for, WaitsForOne, ℕ, [], ◌&&◌, ◌++◌, ◌+◌, ◌-◌, ◌<◌, ◌==◌, ◌↔◌, ◌∙◌, ◌∷◌, ◌≡◌, ◌≤◌, ◌⊎◌}, Walks.{once_few, once_walk, shortest_once}}, specs.LeastWalk.{AreLayers, IsLeastRound, IsLeastWalk, Leads}}
 
 module _ (graph : List ℕ) (goal : ℕ) where
   -- those that wait for the goal
@@ -125,10 +123,11 @@ module _ (graph : List ℕ) (goal : ℕ) where
         let once = once_walk graph goal goal leads.0 leads.2 in
         (goal ∷ once.0, (refl, once.1, once.2))
 
-    -- the least walk of the least length is a cycle
-    pub least_round : (between : ℕ) (rest : List ℕ) → between < 9 → ((k : ℕ) → k < between → has (get_or layers k 0) goal ≡ false) → IsLeastWalk graph between goal goal rest → IsRound graph goal (goal ∷ rest)
-    least_round between rest few first least = (
-      refl,
-      least.walk,
-      shortest_once graph goal goal rest least.walk (λ other walk. subst (λ n. n ≤ length other) (sym least.size) (shortest_round between few first other walk)),
-    )
+    -- the least walk of the least length is the least cycle
+    pub least_round : (between : ℕ) (rest : List ℕ) → between < 9 → ((k : ℕ) → k < between → has (get_or layers k 0) goal ≡ false) → IsLeastWalk graph between goal goal rest
+        → IsLeastRound graph goal (goal ∷ rest)
+    least_round between rest few first least = record {
+      round = (refl, least.walk, shortest_once graph goal goal rest least.walk (λ other walk. subst (λ n. n ≤ length other) (sym least.size) (shortest_round between few first other walk)));
+      shortest = λ other walk. omega (arith, shortest_round between few first other walk, least.size);
+      least = λ other walk same. inr (refl, least.least other walk (omega (arith, same, least.size)));
+    }

@@ -1,14 +1,11 @@
 -- Which sessions wait for which after a log.
 use Rattle.std.proofs.lemmas.{Map.Views.{any-filter_same}, List.Kept.{IsStrictlyIncreasing-filter}}
-use Rattle.lab_engine.proofs.Common.{active, Agree, all_sessions, and_from, and_parts, Any-from_list_any, ap, AreBlockers, AreOthers, AreWaits, Asker, BlockedBy, Blocks, cases_eq, cond, Contains, Describes, DescribesSession, eq-eqb, eqb-true, filter, get_or, has, inl, inr, IsAsker, IsRunning, IsTrue, length, length-map, Level, List, list_any, list_any_at, MayAsk, ne_eqb, none_some, or_cases, or_left, or_right, Past, refl, RunningTxn, same_Some, SessionState, Situation, Some, some_is, Statement, subst, sym, Table, take, take_all, Txn, waiting, waits_for, WaitsOn, ℕ, ◌&&◌, ◌+◌, ◌<◌, ◌==◌, ◌↔◌, ◌∙◌, ◌≡◌, ◌≢◌, ◌≤◌}
-use Rattle.lab_engine.proofs.Describing.{kept_txn}
-use Rattle.lab_engine.proofs.States.{describes_one}
-use Rattle.lab_engine.proofs.Rising.{rising, sessions_rise, kept_sessions, sessions_of, is_among, among, among_more}
+use Rattle.lab_engine.proofs.{Common.{arith, active, Agree, all_sessions, and_from, and_parts, Any-from_list_any, ap, AreBlockers, AreOthers, AreWaits, Asker, BlockedBy, Blocks, cases_eq, cond, Contains, Describes, DescribesSession, eq-eqb, eqb-true, filter, get_or, has, inl, inr, IsAsker, IsRunning, IsTrue, length, length-map, Level, List, list_any, list_any_at, MayAsk, ne_eqb, none_some, Past, refl, RunningTxn, same_Some, SessionState, Situation, Some, some_is, Statement, subst, sym, Table, take, take_all, Txn, waiting, waits_for, WaitsOn, ℕ, ◌&&◌, ◌+◌, ◌<◌, ◌==◌, ◌↔◌, ◌∙◌, ◌≡◌, ◌≢◌, ◌≤◌}, Describing.{kept_txn}, States.{described_there, number}, Rising.{kept_sessions, rising, sessions_of}, WaitGraphs.{session_range}}
 
--- a state stands at a place of a list
-pub record StandsAt (states : List SessionState) (i : ℕ) (state : SessionState) : Type 0 where
-  pub lt : i < length states
-  pub is : state ≡ get_or states i state
+-- what is said of the state at a place of a situation
+pub record StandsAt (level : Level) (past : Past) (i : ℕ) (state : SessionState) : Type 0 where
+  pub number : state.session ≡ i + 1
+  pub described : DescribesSession level past state
 
 module _ {level : Level} (past : Past) (situation : Situation) (d : Describes level past situation) where
   -- a situation has a state of each of the nine sessions
@@ -16,16 +13,15 @@ module _ {level : Level} (past : Past) (situation : Situation) (d : Describes le
   nine = sym (length-map situation.sessions (λ state. state.session)) ∙ ap length d.sessions
 
   -- so a state that a loop comes to stands in it
-  pub stands_at : (i : ℕ) (item : SessionState) → i < 9 → item ≡ get_or situation.sessions i item → StandsAt situation.sessions i (get_or situation.sessions i item)
-  stands_at i item lt is = record { lt = subst (λ n. i < n) (sym nine) lt; is = subst (λ state. state ≡ get_or situation.sessions i state) is is }
-
-  -- and none else
-  pub all_passed : (passed : ℕ) → 9 ≤ passed → length situation.sessions ≤ passed
-  all_passed passed le = subst (λ n. n ≤ passed) (sym nine) le
-
--- a state of a situation is described
-pub described_at : {level : Level} (past : Past) (situation : Situation) (i : ℕ) (state : SessionState) → Describes level past situation → StandsAt situation.sessions i state → DescribesSession level past state
-described_at {level} past situation i state d at = subst (DescribesSession level past) (sym at.is) (describes_one level past i situation.sessions state at.lt d.states)
+  pub stands_at : (i : ℕ) (item : SessionState) → i < 9 → item ≡ get_or situation.sessions i item → StandsAt level past i (get_or situation.sessions i item)
+  stands_at i item lt is =
+      let state : SessionState = get_or situation.sessions i item in
+      let same : state ≡ get_or situation.sessions i state = subst (λ s. s ≡ get_or situation.sessions i s) is is in
+      let high : i + 1 ≤ 9 = omega (arith, lt) in
+      record {
+        number = number situation.sessions (i + 1) i state d.sessions (omega arith) high (omega arith) same;
+        described = described_there situation.sessions (i + 1) i state d.sessions (omega arith) high (omega arith) same level past d.states;
+      }
 
 -- the active transaction that a state keeps
 pub running_txn : {level : Level} (past : Past) (state : SessionState) (running : RunningTxn) → DescribesSession level past state → state.running ≡ Some running
@@ -54,10 +50,10 @@ chosen_of_all set other = any-filter_same (λ k. k == other) (has set) (has set 
 
 -- once all are passed, those of a set of all that block are the blockers
 pub blockers_all : (level : Level) (setup : Table) (past : Past) (situation : Situation) (session : ℕ) (s : Statement) (passed set : ℕ) (on : List ℕ) → Describes level past situation
-    → length situation.sessions ≤ passed → ((other : ℕ) → IsTrue (has set other) ↔ BlockedBy level setup past session s other)
+    → 9 ≤ passed → ((other : ℕ) → IsTrue (has set other) ↔ BlockedBy level setup past session s other)
     → on ≡ sessions_of (filter (λ state. has set state.session) (take passed situation.sessions)) → AreBlockers level setup past session s on
 blockers_all level setup past situation session s passed set on d all blocking h = subst (AreBlockers level setup past session s) (sym is) (record {
-  rising = IsStrictlyIncreasing-filter (has set) all_sessions (rising 0 all_sessions sessions_rise);
+  rising = IsStrictlyIncreasing-filter (has set) all_sessions (rising 0 all_sessions (omega arith, (omega arith, (omega arith, (omega arith, (omega arith, (omega arith, (omega arith, (omega arith, (omega arith, tt))))))))));
   are = λ other. (
     (λ c. (blocking other).0 (and_parts _ _ (sym (chosen_of_all set other) ∙ contains_any (filter (has set) all_sessions) other c)).0),
     (λ b. any_contains (filter (has set) all_sessions) other
@@ -66,7 +62,7 @@ blockers_all level setup past situation session s passed set on d all blocking h
 })
   where
     is : on ≡ filter (has set) all_sessions
-    is = h ∙ ap (λ l. sessions_of (filter (λ state. has set state.session) l)) (take_all passed situation.sessions all) ∙ kept_sessions (has set) situation.sessions ∙ ap (filter (has set)) d.sessions
+    is = h ∙ ap (λ l. sessions_of (filter (λ state. has set state.session) l)) (take_all passed situation.sessions (omega (arith, nine past situation d, all))) ∙ kept_sessions (has set) situation.sessions ∙ ap (filter (has set)) d.sessions
 
 -- those that block the statement that a session waits with are those that it waits for
 pub waits_on_blocking : (level : Level) (setup : Table) (past : Past) (session : ℕ) (s : Statement) (set : ℕ) → waiting past session ≡ Some s
@@ -74,9 +70,9 @@ pub waits_on_blocking : (level : Level) (setup : Table) (past : Past) (session :
 waits_on_blocking level setup past session s set is are other =
     ((λ c. (s, is, (are other).0 c)), (λ w. (are other).1 (subst (λ t. BlockedBy level setup past session t other) (same_Some w.0 s (sym w.1 ∙ is)) w.2)))
 
--- a graph has what some sessions wait for
-abbrev pub AreWaitsOf : Level → Table → Past → List SessionState → List ℕ → Type 0
-AreWaitsOf level setup past states waits = (session other : ℕ) → IsTrue (waits_for waits session other) ↔ (IsTrue (is_among session states) × WaitsOn level setup past session other)
+-- a graph has what the sessions up to a number wait for
+abbrev pub AreWaitsOf : Level → Table → Past → ℕ → List ℕ → Type 0
+AreWaitsOf level setup past passed waits = (session other : ℕ) → IsTrue (waits_for waits session other) ↔ ((session ≤ passed) × WaitsOn level setup past session other)
 
 -- a graph has that one session waits for a set, and else what another graph has
 abbrev pub WithOne : List ℕ → List ℕ → ℕ → ℕ → Type 0
@@ -91,45 +87,28 @@ other_waits : (new waits : List ℕ) (session set : ℕ) → WithOne new waits s
 other_waits new waits session set with_one waiter other apart = with_one waiter other ∙ ap (λ b. cond b (has set other) (waits_for waits waiter other)) (ne_eqb waiter session apart)
 
 -- one more session
-pub waits_step : (level : Level) (setup : Table) (past : Past) (states : List SessionState) (i : ℕ) (state : SessionState) (waits new : List ℕ) (set : ℕ)
-    → i < length states → state ≡ get_or states i state → AreWaitsOf level setup past (take i states) waits
-    → ((other : ℕ) → IsTrue (has set other) ↔ WaitsOn level setup past state.session other) → WithOne new waits state.session set
-    → AreWaitsOf level setup past (take (i + 1) states) new
-waits_step level setup past states i state waits new set lt is h own with_one session other = elim (cases_eq session state.session) [
+pub waits_step : (level : Level) (setup : Table) (past : Past) (i session : ℕ) (waits new : List ℕ) (set : ℕ) → session ≡ i + 1 → AreWaitsOf level setup past i waits
+    → ((other : ℕ) → IsTrue (has set other) ↔ WaitsOn level setup past session other) → WithOne new waits session set → AreWaitsOf level setup past (i + 1) new
+waits_step level setup past i session waits new set at h own with_one waiter other = elim (cases_eq waiter session) [
   | inl same ↦ (
-    (λ w. (
-      among_more session states i state lt is ∙ or_right _ _ (eq-eqb state.session session (sym same)),
-      subst (λ k. WaitsOn level setup past k other) (sym same) ((own other).0 (sym (own_waits new waits state.session set with_one session other same) ∙ w)),
-    )),
-    (λ w. own_waits new waits state.session set with_one session other same ∙ (own other).1 (subst (λ k. WaitsOn level setup past k other) same w.1)),
+    (λ w. (omega (arith, at, same), subst (λ k. WaitsOn level setup past k other) (sym same) ((own other).0 (sym (own_waits new waits session set with_one waiter other same) ∙ w)))),
+    (λ w. own_waits new waits session set with_one waiter other same ∙ (own other).1 (subst (λ k. WaitsOn level setup past k other) same w.1)),
   )
   | inr apart ↦ (
-    (λ w. let old = (h session other).0 (sym (other_waits new waits state.session set with_one session other apart) ∙ w) in
-        (among_more session states i state lt is ∙ or_left _ _ old.0, old.1)),
-    (λ w. other_waits new waits state.session set with_one session other apart
-        ∙ elim (or_cases _ _ (sym (among_more session states i state lt is) ∙ w.0)) [
-          | inl p ↦ (h session other).1 (p, w.1)
-          | inr p ↦ absurd (apart (sym (eqb-true state.session session p)))
-        ]),
+    (λ w. let old = (h waiter other).0 (sym (other_waits new waits session set with_one waiter other apart) ∙ w) in (omega (arith, old.0), old.1)),
+    (λ w. other_waits new waits session set with_one waiter other apart ∙ (h waiter other).1 (omega (arith, w.0, at, apart), w.1)),
   )
 ]
 
--- a session that waits has a state
-pub waiter_there : {level : Level} (past : Past) (situation : Situation) (session : ℕ) (s : Statement) → Describes level past situation → waiting past session ≡ Some s
-    → Contains (sessions_of situation.sessions) session
-waiter_there past situation session s d is = subst (λ xs. Contains xs session) (sym d.sessions) (d.waiting_is session (some_is (waiting past session) s is))
+-- a session that waits is from 1 to 9
+pub waits_within : {level : Level} (past : Past) (situation : Situation) (session : ℕ) (s : Statement) → Describes level past situation → waiting past session ≡ Some s → (1 ≤ session) × (session ≤ 9)
+waits_within past situation session s d is = session_range session (contains_any all_sessions session (d.waiting_is session (some_is (waiting past session) s is)))
 
 -- once all are passed, the graph has all
-pub waits_all : (level : Level) (setup : Table) (past : Past) (situation : Situation) (passed : ℕ) (waits : List ℕ) → Describes level past situation → length situation.sessions ≤ passed
-    → AreWaitsOf level setup past (take passed situation.sessions) waits → AreWaits level setup past waits
-waits_all level setup past situation passed waits d all h session other = (
-  (λ w. ((h session other).0 w).1),
-  (λ w. (h session other).1 (
-    ap (is_among session) (take_all passed situation.sessions all)
-        ∙ among situation.sessions session (waiter_there past situation session w.0 d w.1),
-    w,
-  )),
-)
+pub waits_all : (level : Level) (setup : Table) (past : Past) (situation : Situation) (passed : ℕ) (waits : List ℕ) → Describes level past situation → 9 ≤ passed
+    → AreWaitsOf level setup past passed waits → AreWaits level setup past waits
+waits_all level setup past situation passed waits d all h session other =
+    ((λ w. ((h session other).0 w).1), (λ w. (h session other).1 (omega (arith, all, (waits_within past situation session w.0 d w.1).1), w)))
 
 -- a statement that a session may ask for is the one that it waits with
 pub asked_is : (past : Past) (session : ℕ) (s held : Statement) → MayAsk past session s → waiting past session ≡ Some held → held ≡ s

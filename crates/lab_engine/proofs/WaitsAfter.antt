@@ -1,15 +1,6 @@
 -- Whom a session waits for after an event that leaves this as it was.
-use Rattle.lab_engine.proofs.Common.{Aborted, active, active_after, AlreadyBegun, ap, Begun, BlockedBy, Blocks, both_ways, Busy, cases_eq, Command, Committed, cond, eq-eqb, grown, inl, inr, is_over, IsLegal, IsTrue, Level, Listed, ne_eqb, None, none_some, NoTransaction, Op, option_map, Outcome, Past, Permitted, refl, Refused, Rows, Run, same_Some, Some, some_of, Statement, subst, sym, Table, Txn, version_by, View, waiting, waiting_after, Waits, WaitsOn, Writes, ℕ, ⊤, ◌==◌, ◌↔◌, ◌∙◌, ◌∷◌, ◌≡◌, ◌≢◌, ◌⊎◌}
-use Rattle.lab_engine.proofs.Blockers.{blocks_none}
-use Rattle.lab_engine.proofs.LockSteps.{fresh}
-use Rattle.lab_engine.proofs.Apart.{writes_apart}
-use Rattle.lab_engine.proofs.AfterCommits.{blocks_alike, still_blocked}
-use Rattle.lab_engine.proofs.AfterReads.{Unasked, reads_off, reads_on}
+use Rattle.lab_engine.proofs.{Common.{Aborted, active, active_after, AlreadyBegun, ap, Begun, Blocks, both_ways, Busy, cases_eq, Command, Committed, cond, eq-eqb, grown, inl, inr, is_over, IsLegal, IsTrue, Level, Listed, ne_eqb, None, none_some, NoTransaction, Op, Outcome, Past, Permitted, refl, Refused, Rows, Run, same_Some, Some, some_of, Statement, subst, sym, Table, Txn, version_by, View, waiting, waiting_after, Waits, WaitsOn, Writes, ℕ, ⊤, ◌==◌, ◌↔◌, ◌∙◌, ◌∷◌, ◌≡◌, ◌≢◌, ◌⊎◌}, Blockers.{blocks_none}, LockSteps.{fresh}, Locks.{are_off}, AfterCommits.{blocks_alike, still_blocked}, AfterReads.{reads_off, reads_on, Unasked}}
 use Rattle.std.specs.FinMap as map
-
--- a transaction that has run nothing blocks nobody
-fresh_blocks : (level : Level) (setup : Table) (past : Past) (asker : Txn) (s : Statement) (n : ℕ) (begun : Past) → ¬ Blocks level setup past asker s (fresh n begun)
-fresh_blocks level setup past asker s n begun = blocks_none level setup past asker s (fresh n begun) (λ h. none_some _ h.2) (λ h. absurd (both_ways _ refl h.1)) (λ h. absurd (both_ways _ refl h.2))
 
 -- where nothing commits, who blocks whom is the same
 same_blocks : (level : Level) (setup : Table) (past : Past) (e : ℕ) (command : Command) (outcome : Outcome) → outcome ≢ Committed → (asker holder : Txn) (s : Statement)
@@ -24,138 +15,117 @@ abbrev pub LeavesWaiter : Level → Table → Past → ℕ → ℕ → Outcome �
 LeavesWaiter level setup past e k (Listed view rows writes) s = IsTrue (map.len writes == 0) × (Unasked level s ⊎ WaitsOn level setup past k e)
 LeavesWaiter level setup past e k other s = ⊤
 
-module _ (level : Level) (setup : Table) (past : Past) (e k : ℕ) (off : e ≢ k) (command : Command) (outcome : Outcome) where
-  abbrev after : Past
-  after = record { session = e; command = command; outcome = outcome } ∷ past
+module _ (level : Level) (setup : Table) (past : Past) (e k : ℕ) (off : e ≢ k) (command : Command) where
+  abbrev after : Outcome → Past
+  after outcome = record { session = e; command = command; outcome = outcome } ∷ past
 
-  -- the session waits for the same after the event
-  abbrev SameWaits : Type 0
-  SameWaits = (other : ℕ) → WaitsOn level setup after k other ↔ WaitsOn level setup past k other
+  -- another session waits for one after an event where it did before
+  abbrev SameFor : Outcome → ℕ → Type 0
+  SameFor outcome other = WaitsOn level setup (after outcome) k other ↔ WaitsOn level setup past k other
 
-  own_active : active after e ≡ active_after command outcome past (active past e)
-  own_active = ap (λ b. cond b (active_after command outcome past (active past e)) (active past e)) (eq-eqb e e refl)
+  own_active : (outcome : Outcome) → active (after outcome) e ≡ active_after command outcome past (active past e)
+  own_active outcome = ap (λ b. cond b (active_after command outcome past (active past e)) (active past e)) (eq-eqb e e refl)
 
-  other_active : (j : ℕ) → e ≢ j → active after j ≡ active past j
-  other_active j apart = ap (λ b. cond b (active_after command outcome past (active past j)) (active past j)) (ne_eqb e j apart)
+  other_active : (outcome : Outcome) (j : ℕ) → e ≢ j → active (after outcome) j ≡ active past j
+  other_active outcome j apart = ap (λ b. cond b (active_after command outcome past (active past j)) (active past j)) (ne_eqb e j apart)
 
-  same_waiting : waiting after k ≡ waiting past k
-  same_waiting = ap (λ b. cond b (waiting_after command outcome (waiting past k)) (waiting past k)) (ne_eqb e k off)
+  same_waiting : (outcome : Outcome) → waiting (after outcome) k ≡ waiting past k
+  same_waiting outcome = ap (λ b. cond b (waiting_after command outcome (waiting past k)) (waiting past k)) (ne_eqb e k off)
 
-  -- so it does where who blocks its statement is the same: the event's session, and each other one
-  module _ (own : (s : Statement) → waiting past k ≡ Some s → BlockedBy level setup after k s e ↔ BlockedBy level setup past k s e)
-      (same : (s : Statement) (asker holder : Txn) (other : ℕ) → waiting past k ≡ Some s → active past k ≡ Some asker → e ≢ other → active past other ≡ Some holder
-      → Blocks level setup after asker s holder ↔ Blocks level setup past asker s holder) where
-    module _ (s : Statement) (is : waiting past k ≡ Some s) (other : ℕ) where
-      was_blocked : BlockedBy level setup after k s other → BlockedBy level setup past k s other
-      was_blocked (asker, holder, apart, is_asker, is_holder, b) = elim (cases_eq e other) [
-        | inl at ↦ subst (BlockedBy level setup past k s) at ((own s is).0 (subst (BlockedBy level setup after k s) (sym at) (asker, holder, apart, is_asker, is_holder, b)))
-        | inr there ↦
-            let was : active past k ≡ Some asker = sym (other_active k off) ∙ is_asker in
-            let held : active past other ≡ Some holder = sym (other_active other there) ∙ is_holder in
-            (asker, holder, apart, was, held, (same s asker holder other is was there held).0 b)
-      ]
+  -- it waits for one in two logs where it waits with the same and is active as the same, and what the one does in the first it does in the second
+  waits_map : (one two : Past) (other : ℕ) → waiting one k ≡ waiting two k → active one k ≡ active two k
+      → ((s : Statement) (asker holder : Txn) → waiting one k ≡ Some s → active one k ≡ Some asker → active one other ≡ Some holder → Blocks level setup one asker s holder
+      → (next : Txn) × (active two other ≡ Some next) × Blocks level setup two asker s next)
+      → WaitsOn level setup one k other → WaitsOn level setup two k other
+  waits_map one two other waits own go (s, is, b) =
+      let next = go s b.0 b.1 is b.3 b.4 b.5 in (s, sym waits ∙ is, (b.0, next.0, b.2, sym own ∙ b.3, next.1, next.2))
 
-      is_blocked : BlockedBy level setup past k s other → BlockedBy level setup after k s other
-      is_blocked (asker, holder, apart, is_asker, is_holder, b) = elim (cases_eq e other) [
-        | inl at ↦ subst (BlockedBy level setup after k s) at ((own s is).1 (subst (BlockedBy level setup past k s) (sym at) (asker, holder, apart, is_asker, is_holder, b)))
-        | inr there ↦
-            (asker, holder, apart, other_active k off ∙ is_asker, other_active other there ∙ is_holder, (same s asker holder other is is_asker there is_holder).1 b)
-      ]
+  -- so for one that is active as before, and blocks as before
+  same_for : (outcome : Outcome) (other : ℕ) → active (after outcome) other ≡ active past other
+      → ((s : Statement) (asker holder : Txn) → waiting past k ≡ Some s → active past k ≡ Some asker → active past other ≡ Some holder
+      → Blocks level setup (after outcome) asker s holder ↔ Blocks level setup past asker s holder) → SameFor outcome other
+  same_for outcome other alike blocks = (
+    waits_map (after outcome) past other (same_waiting outcome) (other_active outcome k off) (λ s asker holder is own held b.
+        let was = sym alike ∙ held in (holder, was, (blocks s asker holder (sym (same_waiting outcome) ∙ is) (sym (other_active outcome k off) ∙ own) was).0 b)),
+    waits_map past (after outcome) other (sym (same_waiting outcome)) (sym (other_active outcome k off)) (λ s asker holder is own held b. (holder, alike ∙ held, (blocks s asker holder is own held).1 b)),
+  )
 
-    waits_alike : SameWaits
-    waits_alike other = (before, behind)
-      where
-        before : WaitsOn level setup after k other → WaitsOn level setup past k other
-        before (s, is, b) = let was : waiting past k ≡ Some s = sym same_waiting ∙ is in (s, was, was_blocked s was other b)
+  -- for the event's session, and each other one
+  each_other : (outcome : Outcome) → SameFor outcome e → ((other : ℕ) → e ≢ other → SameFor outcome other) → (other : ℕ) → SameFor outcome other
+  each_other outcome own others other = elim (cases_eq e other) [ inl at ↦ subst (SameFor outcome) at own | inr there ↦ others other there ]
 
-        behind : WaitsOn level setup past k other → WaitsOn level setup after k other
-        behind (s, is, b) = (s, same_waiting ∙ is, is_blocked s is other b)
+  -- for the event's session, where it blocks neither before nor behind
+  neither : (outcome : Outcome) → ¬ WaitsOn level setup past k e → ¬ WaitsOn level setup (after outcome) k e → SameFor outcome e
+  neither outcome before behind = ((λ w. absurd (behind w)), (λ w. absurd (before w)))
 
-  -- the event's session blocks it neither before nor behind
-  neither : ¬ WaitsOn level setup past k e → ((s : Statement) → ¬ BlockedBy level setup after k s e) → (s : Statement) → waiting past k ≡ Some s
-      → BlockedBy level setup after k s e ↔ BlockedBy level setup past k s e
-  neither before behind s is = ((λ b. absurd (behind s b)), (λ b. absurd (before (s, is, b))))
-
-  module _ (commits : outcome ≢ Committed) where
+  module _ (outcome : Outcome) (commits : outcome ≢ Committed) where
     -- an event by which nothing commits
-    quiet : ((s : Statement) → waiting past k ≡ Some s → BlockedBy level setup after k s e ↔ BlockedBy level setup past k s e) → SameWaits
-    quiet own = waits_alike own (λ s asker holder other _ _ _ _. same_blocks level setup past e command outcome commits asker holder s)
+    quiet : SameFor outcome e → (other : ℕ) → SameFor outcome other
+    quiet own = each_other outcome own (λ other there. same_for outcome other (other_active outcome other there) (λ s asker holder _ _ _. same_blocks level setup past e command outcome commits asker holder s))
 
     -- by which a transaction ends
-    ends : active_after command outcome past (active past e) ≡ None → ¬ WaitsOn level setup past k e → SameWaits
-    ends none before = quiet (neither before (λ s b. none_some _ (sym (own_active ∙ none) ∙ b.4)))
+    ends : active_after command outcome past (active past e) ≡ None → ¬ WaitsOn level setup past k e → (other : ℕ) → SameFor outcome other
+    ends none before = quiet (neither outcome before (λ w. none_some _ (sym (own_active outcome ∙ none) ∙ w.2.4)))
 
     -- by which each transaction stays as it is
-    stays : active_after command outcome past (active past e) ≡ active past e → SameWaits
-    stays same = quiet (λ s is. (before s, behind s))
-      where
-        before : (s : Statement) → BlockedBy level setup after k s e → BlockedBy level setup past k s e
-        before s (asker, holder, apart, is_asker, is_holder, b) =
-            (asker, holder, apart, sym (other_active k off) ∙ is_asker, sym (own_active ∙ same) ∙ is_holder, (same_blocks level setup past e command outcome commits asker holder s).0 b)
+    stays : active_after command outcome past (active past e) ≡ active past e → (other : ℕ) → SameFor outcome other
+    stays same = quiet (same_for outcome e (own_active outcome ∙ same) (λ s asker holder _ _ _. same_blocks level setup past e command outcome commits asker holder s))
 
-        behind : (s : Statement) → BlockedBy level setup past k s e → BlockedBy level setup after k s e
-        behind s (asker, holder, apart, is_asker, is_holder, b) =
-            (asker, holder, apart, other_active k off ∙ is_asker, own_active ∙ same ∙ is_holder, (same_blocks level setup past e command outcome commits asker holder s).1 b)
+  -- ---- by what the event is
 
--- ---- by what the event is
+  begins_waits : (n : ℕ) → Permitted level setup past e command (Begun n) → (other : ℕ) → SameFor (Begun n) other
+  begins_waits n (is, idle, number) = quiet (Begun n) (λ eq. cc) (neither (Begun n) (λ w. none_some _ (sym idle ∙ w.2.4))
+      (λ w. blocks_none level setup (after (Begun n)) w.2.0 w.0 (fresh n past) (λ h. none_some _ h.2) (λ h. absurd (both_ways _ refl h.1)) (λ h. absurd (both_ways _ refl h.2))
+      (subst (Blocks level setup (after (Begun n)) w.2.0 w.0) (sym (same_Some (fresh n past) w.2.1 (sym (own_active (Begun n)) ∙ w.2.4))) w.2.5)))
 
-module _ (level : Level) (setup : Table) (past : Past) (e k : ℕ) (off : e ≢ k) (command : Command) where
-  begins_waits : (n : ℕ) → Permitted level setup past e command (Begun n) → SameWaits level setup past e k off command (Begun n)
-  begins_waits n (is, idle, number) = quiet level setup past e k off command (Begun n) (λ eq. cc)
-      (neither level setup past e k off command (Begun n) (λ w. none_some _ (sym idle ∙ w.2.4))
-      (λ s b. fresh_blocks level setup (after level setup past e k off command (Begun n)) b.0 s n past
-      (subst (Blocks level setup (after level setup past e k off command (Begun n)) b.0 s) (sym (same_Some (fresh n past) b.1 (sym (own_active level setup past e k off command (Begun n)) ∙ b.4))) b.5)))
-
-  commits_waits : IsLegal level setup past → Permitted level setup past e command Committed → ¬ WaitsOn level setup past k e → SameWaits level setup past e k off command Committed
-  commits_waits legal (t, gives, may) before = waits_alike level setup past e k off command Committed
-      (neither level setup past e k off command Committed before (λ s b. none_some _ (sym (own_active level setup past e k off command Committed) ∙ b.4)))
-      (λ s asker holder other is was there held. still_blocked level setup past e command t gives.active_is asker s
-      (λ b. before (s, is, (asker, t, (λ same. off (sym same)), was, gives.active_is, b))) holder
+  commits_waits : IsLegal level setup past → Permitted level setup past e command Committed → ¬ WaitsOn level setup past k e → (other : ℕ) → SameFor Committed other
+  commits_waits legal (t, gives, may) before = each_other Committed (neither Committed before (λ w. none_some _ (sym (own_active Committed) ∙ w.2.4)))
+      (λ other there. same_for Committed other (other_active Committed other there) (λ s asker holder is own held.
+      still_blocked level setup past e command t gives.active_is asker s (λ b. before (s, is, (asker, t, (λ same. off (sym same)), own, gives.active_is, b))) holder
       (λ locks row some.
       let v = some_of (version_by holder row) some in
-      writes_apart level locks setup past legal other e holder t row v.0 (λ same. there (sym same)) held gives.active_is v.1))
+      (are_off level locks setup past legal other e holder t row v.0 (λ same. there (sym same)) held gives.active_is v.1).0)))
 
   -- a statement ran that wrote nothing, and what was read is of no weight, or its session was waited for
-  module _ (s t : Statement) (waits : waiting past k ≡ Some t) (view : View) (rows : Rows) (writes : Writes) (txn : Txn) (is_txn : active past e ≡ Some txn)
+  module _ (s t : Statement) (view : View) (rows : Rows) (writes : Writes) (txn : Txn) (run : command ≡ Run s) (is_txn : active past e ≡ Some txn) (waits : waiting past k ≡ Some t)
       (none : IsTrue (map.len writes == 0)) where
     abbrev op : Op
     op = record { statement = s; view = view; rows = rows; writes = writes }
 
-    ran : active (after level setup past e k off (Run s) (Listed view rows writes)) e ≡ Some (grown txn op)
-    ran = own_active level setup past e k off (Run s) (Listed view rows writes) ∙ ap (option_map (λ u. grown u op)) is_txn
+    abbrev ran : Outcome
+    ran = Listed view rows writes
 
-    reads_waits : Unasked level t ⊎ WaitsOn level setup past k e → SameWaits level setup past e k off (Run s) (Listed view rows writes)
-    reads_waits why = quiet level setup past e k off (Run s) (Listed view rows writes) (λ eq. cc) (λ u is. (before why u is, behind u))
-      where
-        before : Unasked level t ⊎ WaitsOn level setup past k e → (u : Statement) → waiting past k ≡ Some u
-            → BlockedBy level setup (after level setup past e k off (Run s) (Listed view rows writes)) k u e → BlockedBy level setup past k u e
-        before (inl unasked) u is (asker, holder, apart, is_asker, is_holder, b) =
-            let now = subst (Blocks level setup (after level setup past e k off (Run s) (Listed view rows writes)) asker u) (sym (same_Some (grown txn op) holder (sym ran ∙ is_holder))) b in
-            let was = reads_off level setup past asker u txn op none (subst (Unasked level) (same_Some t u (sym waits ∙ is)) unasked)
-            ((same_blocks level setup past e (Run s) (Listed view rows writes) (λ eq. cc) asker (grown txn op) u).0 now) in
-            (asker, txn, apart, sym (other_active level setup past e k off (Run s) (Listed view rows writes) k off) ∙ is_asker, is_txn, was)
-        before (inr (held, is_held, b)) u is _ = subst (λ v. BlockedBy level setup past k v e) (same_Some held u (sym is_held ∙ is)) b
+    grew : active (after ran) e ≡ Some (grown txn op)
+    grew = own_active ran ∙ (λ i. active_after (run i) ran past (is_txn i))
 
-        behind : (u : Statement) → BlockedBy level setup past k u e → BlockedBy level setup (after level setup past e k off (Run s) (Listed view rows writes)) k u e
-        behind u (asker, holder, apart, is_asker, is_holder, b) =
-            let was = reads_on level setup past asker u txn op none (subst (Blocks level setup past asker u) (same_Some holder txn (sym is_holder ∙ is_txn)) b) in
-            let now = (same_blocks level setup past e (Run s) (Listed view rows writes) (λ eq. cc) asker (grown txn op) u).1 was in
-            (asker, grown txn op, apart, other_active level setup past e k off (Run s) (Listed view rows writes) k off ∙ is_asker, ran, now)
+    before : Unasked level t ⊎ WaitsOn level setup past k e → WaitsOn level setup (after ran) k e → WaitsOn level setup past k e
+    before (inl unasked) = waits_map (after ran) past e (same_waiting ran) (other_active ran k off) (λ u asker holder is own held b.
+        let now = subst (Blocks level setup (after ran) asker u) (sym (same_Some (grown txn op) holder (sym grew ∙ held))) b in
+        let lists = subst (Unasked level) (same_Some t u (sym waits ∙ sym (same_waiting ran) ∙ is)) unasked in
+        (txn, is_txn, reads_off level setup past asker u txn op none lists ((same_blocks level setup past e command ran (λ eq. cc) asker (grown txn op) u).0 now)))
+    before (inr was) = λ _. was
+
+    behind : WaitsOn level setup past k e → WaitsOn level setup (after ran) k e
+    behind = waits_map past (after ran) e (sym (same_waiting ran)) (sym (other_active ran k off)) (λ u asker holder is own held b.
+        let was = subst (Blocks level setup past asker u) (same_Some holder txn (sym held ∙ is_txn)) b in
+        (grown txn op, grew, (same_blocks level setup past e command ran (λ eq. cc) asker (grown txn op) u).1 (reads_on level setup past asker u txn op none was)))
+
+    reads_waits : Unasked level t ⊎ WaitsOn level setup past k e → (other : ℕ) → SameFor ran other
+    reads_waits why = quiet ran (λ eq. cc) (before why, behind)
 
   -- another session that waits behind an event waits for the same, where it waited for no transaction that the event ended, and
   pub same_waits : (outcome : Outcome) (t : Statement) → IsLegal level setup past → Permitted level setup past e command outcome → (IsTrue (is_over outcome) → ¬ WaitsOn level setup past k e)
-      → LeavesWaiter level setup past e k outcome t → waiting (record { session = e; command = command; outcome = outcome } ∷ past) k ≡ Some t → SameWaits level setup past e k off command outcome
+      → LeavesWaiter level setup past e k outcome t → waiting (after outcome) k ≡ Some t → (other : ℕ) → SameFor outcome other
   same_waits (Begun n) t legal permitted before leaves waits = begins_waits n permitted
   same_waits (Listed view rows writes) t legal (s, txn, asks, free, effect) before leaves waits =
-      subst (λ c. SameWaits level setup past e k off c (Listed view rows writes)) (sym asks.command_is)
-      (reads_waits s t (sym (same_waiting level setup past e k off command (Listed view rows writes)) ∙ waits) view rows writes txn asks.active_is leaves.0 leaves.1)
+      reads_waits s t view rows writes txn asks.command_is asks.active_is (sym (same_waiting (Listed view rows writes)) ∙ waits) leaves.0 leaves.1
   same_waits Committed t legal permitted before leaves waits = commits_waits legal permitted (before refl)
-  same_waits Aborted t legal permitted before leaves waits = ends level setup past e k off command Aborted (λ eq. cc) refl (before refl)
-  same_waits (Waits on) t legal permitted before leaves waits = stays level setup past e k off command (Waits on) (λ eq. cc) refl
-  same_waits (Refused Busy) t legal permitted before leaves waits = stays level setup past e k off command (Refused Busy) (λ eq. cc) refl
-  same_waits (Refused NoTransaction) t legal permitted before leaves waits = stays level setup past e k off command (Refused NoTransaction) (λ eq. cc) refl
-  same_waits (Refused AlreadyBegun) t legal permitted before leaves waits = stays level setup past e k off command (Refused AlreadyBegun) (λ eq. cc) refl
-  same_waits (Refused fault) t legal permitted before leaves waits = ends level setup past e k off command (Refused fault) (λ eq. cc) refl (before refl)
+  same_waits Aborted t legal permitted before leaves waits = ends Aborted (λ eq. cc) refl (before refl)
+  same_waits (Waits on) t legal permitted before leaves waits = stays (Waits on) (λ eq. cc) refl
+  same_waits (Refused Busy) t legal permitted before leaves waits = stays (Refused Busy) (λ eq. cc) refl
+  same_waits (Refused NoTransaction) t legal permitted before leaves waits = stays (Refused NoTransaction) (λ eq. cc) refl
+  same_waits (Refused AlreadyBegun) t legal permitted before leaves waits = stays (Refused AlreadyBegun) (λ eq. cc) refl
+  same_waits (Refused fault) t legal permitted before leaves waits = ends (Refused fault) (λ eq. cc) refl (before refl)
 
 -- any outcome but that of a statement that ran
 pub leaves_waiter : (level : Level) (setup : Table) (past : Past) (e k : ℕ) (outcome : Outcome) (s : Statement) → ((view : View) (rows : Rows) (writes : Writes) → outcome ≢ Listed view rows writes)

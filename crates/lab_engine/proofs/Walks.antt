@@ -1,7 +1,6 @@
 -- Walks to a goal along the graph of who waits for whom.
-use Rattle.lab_engine.proofs.Common.{AllByRecursion, AllDistinct, Any-from_list_any, ap, arith, Bool, both_ways, eq-eqb, eqb-false, eqb-true, false, false_from_ne_true, inl, inr, IsRound, IsTrue, IsWalk, length, List, list_any, list_any_at, ne_eqb, or_cases, or_parts, refl, subst, sym, true, waits_for, [], ℕ, ◌<◌, ◌==◌, ◌∙◌, ◌∷◌, ◌≡◌, ◌≤◌, ◌⊎◌}
+use Rattle.lab_engine.proofs.{Common.{AllByRecursion, AllDistinct, Any-from_list_any, ap, arith, Bool, both_ways, eq-eqb, eqb-false, eqb-true, false, false_from_ne_true, inl, inr, IsRound, IsTrue, IsWalk, length, List, list_any, list_any_at, ne_eqb, or_cases, or_parts, refl, subst, sym, true, waits_for, ℕ, [], ◌<◌, ◌==◌, ◌∙◌, ◌∷◌, ◌≡◌, ◌≤◌, ◌⊎◌}, WaitGraphs.{waiter_range}}
 use Rattle.std.{specs.List.{IsDistinct}, proofs.lemmas.Map.Steps.{length-le_from_distinct_below}}
-use Rattle.lab_engine.proofs.WaitGraphs.{waiter_range}
 
 -- from each session on a walk on which nobody stands twice such a walk leads to the goal, which is no longer
 from_there : (graph : List ℕ) (session there goal : ℕ) (rest : List ℕ) → IsWalk graph session rest goal → AllDistinct (session ∷ rest) → IsTrue (list_any (λ m. m == there) (session ∷ rest))

@@ -4,7 +4,7 @@ use Rattle.std.specs.Prelude as list
 use Rattle.lab_table.specs.Row.{Row}
 use Rattle.lab_engine.specs.declared.row_state.Installed.{Installed}
 use Rattle.lab_engine.specs.declared.event.Outcome.{Outcome}
-use Rattle.lab_engine.specs.declared.event.Outcome.TheVariants.{Begun, Rows as Listed, Committed, Aborted, Waits, Refused}
+use Rattle.lab_engine.specs.declared.event.Outcome.TheVariants.{Committed}
 use Rattle.lab_engine.specs.Log.{Past, Version, Txn, active, version_by}
 
 -- a chain with one version more, if there is one, of this transaction and with so many events before its commit
@@ -14,13 +14,8 @@ longer by place (Some v) chain = record { version = v; by = by; place = place } 
 
 -- a row's chain after an outcome with so many events before it, where the session had this transaction active
 abbrev pub chain_after : Outcome → Option Txn → ℕ → Row → List Installed → List Installed
-chain_after (Begun n) txn place row chain = chain
-chain_after (Listed view rows writes) txn place row chain = chain
-chain_after Committed None place row chain = chain
 chain_after Committed (Some t) place row chain = longer t.no place (version_by t row) chain
-chain_after Aborted txn place row chain = chain
-chain_after (Waits on) txn place row chain = chain
-chain_after (Refused fault) txn place row chain = chain
+chain_after other txn place row chain = chain
 
 -- the installed versions of a row
 abbrev pub chain : Past → Row → List Installed

@@ -1,11 +1,8 @@
 -- What a statement does to rows that are seen.
 use Rattle.std.specs.Prelude.{◌≡◌, false, IsTrue}
-use Rattle.std.specs.FinMap as map
 use Rattle.lab_table.specs.Row.{Row}
-use Rattle.lab_table.specs.Table.{Rows, Writes}
-use Rattle.lab_table.specs.Statement.{listed, written, fails}
+use Rattle.lab_table.specs.Statement.{fails}
 use Rattle.lab_table.specs.declared.statement.Statement.{Statement}
-use Rattle.lab_history.specs.VersionName.{View}
 use Rattle.lab_engine.specs.declared.effect.EffectFault.{EffectFault}
 use Rattle.lab_engine.specs.declared.effect.EffectFault.TheVariants.{NoMemory, DuplicateKey, OutOfRange}
 use Rattle.lab_engine.specs.declared.event.EngineFault.{EngineFault}
@@ -13,14 +10,7 @@ use Rattle.lab_engine.specs.declared.event.EngineFault.TheVariants as refusal
 use Rattle.lab_engine.specs.declared.event.Outcome.{Outcome}
 use Rattle.lab_engine.specs.declared.event.Outcome.TheVariants as outcome
 use Rattle.lab_engine.specs.Log.{Version}
-use Rattle.lab_engine.specs.Rules.{in_view, IsInsertOf, IsUpdate, IsBelow}
-
--- a statement on rows seen at these versions: what it lists of them, and what it writes
-pub record IsEffectOn (sees : Row → Version) (s : Statement) (view : View) (rows : Rows) (writes : Writes) : Type 0 where
-  pub runs : (row : Row) → fails s row (sees row).state ≡ false
-  pub view_is : (row : Row) → map.get view row ≡ in_view (sees row).name
-  pub rows_are : (row : Row) → map.get rows row ≡ listed s row (sees row).state
-  pub writes_are : (row : Row) → map.get writes row ≡ written s row (sees row).state
+use Rattle.lab_engine.specs.Rules.{IsBelow, IsEffectOn, IsInsertOf, IsUpdate}
 
 -- why a statement doesn't run on rows seen at these versions; memory may be wanting at any time
 abbrev pub IsEffectFault : (Row → Version) → Statement → EffectFault → Type 0
@@ -33,18 +23,10 @@ IsEffectFault sees s (OutOfRange row) = IsUpdate s × IsTrue (fails s row (sees 
 abbrev pub IsRefusalOn : (Row → Version) → Statement → EngineFault → Type 0
 IsRefusalOn sees s (refusal.DuplicateKey row) = IsEffectFault sees s (DuplicateKey row)
 IsRefusalOn sees s (refusal.OutOfRange row) = IsEffectFault sees s (OutOfRange row)
-IsRefusalOn sees s (refusal.Deadlock circle) = ⊥
-IsRefusalOn sees s (refusal.WriteConflict row by) = ⊥
-IsRefusalOn sees s refusal.NoTransaction = ⊥
-IsRefusalOn sees s refusal.AlreadyBegun = ⊥
-IsRefusalOn sees s refusal.Busy = ⊥
-IsRefusalOn sees s (refusal.ReadConflict row by) = ⊥
+IsRefusalOn sees s other = ⊥
 
 -- what a statement that nobody blocks answers: its effect, or a refusal
 abbrev pub IsResultOn : (Row → Version) → Statement → Outcome → Type 0
-IsResultOn sees s (outcome.Begun number) = ⊥
 IsResultOn sees s (outcome.Rows view rows writes) = IsEffectOn sees s view rows writes
-IsResultOn sees s outcome.Committed = ⊥
-IsResultOn sees s outcome.Aborted = ⊥
-IsResultOn sees s (outcome.Waits on) = ⊥
 IsResultOn sees s (outcome.Refused fault) = IsRefusalOn sees s fault
+IsResultOn sees s other = ⊥

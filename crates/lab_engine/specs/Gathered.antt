@@ -7,7 +7,7 @@ use Rattle.lab_history.specs.declared.operation.Op.{Op}
 use Rattle.lab_history.specs.declared.transaction.Txn.{Txn as Recorded}
 use Rattle.lab_history.specs.declared.transaction.Outcome.TheVariants.{Committed as EndCommitted, Aborted as EndAborted}
 use Rattle.lab_engine.specs.declared.event.Outcome.{Outcome}
-use Rattle.lab_engine.specs.declared.event.Outcome.TheVariants.{Begun, Rows as Listed, Committed, Aborted, Waits, Refused}
+use Rattle.lab_engine.specs.declared.event.Outcome.TheVariants.{Begun, Rows as Listed, Committed}
 use Rattle.lab_engine.specs.declared.gathering.GatheredTxn.{GatheredTxn}
 use Rattle.lab_engine.specs.declared.gathering.Gathering.{Gathering}
 use Rattle.lab_engine.specs.EventQuery.{is_over}
@@ -59,9 +59,7 @@ abbrev pub txns_after : Command → Outcome → Option ℕ → List Recorded →
 txns_after command (Begun n) by txns = txns ++ new_txn n ∷ []
 txns_after command (Listed view rows writes) by txns = changed_by by (with_ops (op_of command (Listed view rows writes))) txns
 txns_after command Committed by txns = changed_by by committed txns
-txns_after command Aborted by txns = txns
-txns_after command (Waits on) by txns = txns
-txns_after command (Refused fault) by txns = txns
+txns_after command other by txns = txns
 
 -- where there is a number, there are so many transactions
 abbrev pub IsWithin : Option ℕ → ℕ → Type 0

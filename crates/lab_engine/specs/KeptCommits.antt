@@ -5,7 +5,7 @@ use Rattle.std.specs.List.{list_any}
 use Rattle.lab_table.specs.Row.{Row, row_eq}
 use Rattle.lab_engine.specs.declared.committed_rows.CommittedRows.{CommittedRows}
 use Rattle.lab_engine.specs.declared.event.Outcome.{Outcome}
-use Rattle.lab_engine.specs.declared.event.Outcome.TheVariants.{Begun, Rows as Listed, Committed, Aborted, Waits, Refused}
+use Rattle.lab_engine.specs.declared.event.Outcome.TheVariants.{Committed}
 use Rattle.lab_engine.specs.Log.{Past, Txn, active, version_by}
 
 -- of commits how many events stand before each, and the rows that it installed
@@ -26,12 +26,8 @@ AreWritten (Some txn) (Some rows) = (row : Row) → list_any (row_eq row) rows �
 
 -- these are the rows that an outcome installs, where the session had this transaction active
 abbrev pub AreInstalled : Outcome → Option Txn → Option (List Row) → Type 0
-AreInstalled (Begun n) txn rows = rows ≡ None
-AreInstalled (Listed view read writes) txn rows = rows ≡ None
 AreInstalled Committed txn rows = AreWritten txn rows
-AreInstalled Aborted txn rows = rows ≡ None
-AreInstalled (Waits on) txn rows = rows ≡ None
-AreInstalled (Refused fault) txn rows = rows ≡ None
+AreInstalled other txn rows = rows ≡ None
 
 -- what is kept of commits, the newest first, agrees with the log
 abbrev pub AreCommits : Past → List (ℕ × List Row) → Type 0
@@ -41,12 +37,8 @@ AreCommits (event ∷ past) kept = (older : List (ℕ × List Row)) × (rows : O
 
 -- how many commits an outcome makes
 abbrev pub commits_by : Outcome → ℕ
-commits_by (Begun n) = 0
-commits_by (Listed view read writes) = 0
 commits_by Committed = 1
-commits_by Aborted = 0
-commits_by (Waits on) = 0
-commits_by (Refused fault) = 0
+commits_by other = 0
 
 -- those from a place on, of commits with the newest first
 abbrev pub commits_since : ℕ → List (ℕ × List Row) → List (ℕ × List Row)

@@ -1,7 +1,7 @@
 -- Walks along the graph of who waits for whom, by their lengths.
-use Rattle.std.specs.Prelude.{◌≡◌, ◌<◌, ℕ, List, IsTrue, ◌↔◌, get_or, length}
+use Rattle.std.specs.Prelude.{◌≡◌, ◌<◌, ◌≤◌, ◌+◌, ℕ, List, ◌∷◌, IsTrue, ◌↔◌, get_or, length}
 use Rattle.lab_engine.specs.SessionBits.{has}
-use Rattle.lab_engine.specs.WaitsFor.{IsWalk}
+use Rattle.lab_engine.specs.WaitsFor.{IsRound, IsWalk}
 use Rattle.lab_engine.specs.LeastCircle.{NotAfter}
 
 -- a walk leads from a session to a goal, with so many between
@@ -17,3 +17,9 @@ pub record IsLeastWalk (graph : List ℕ) (between session goal : ℕ) (rest : L
   pub size : length rest ≡ between
   pub walk : IsWalk graph session rest goal
   pub least : (other : List ℕ) → IsWalk graph session other goal → length other ≡ between → NotAfter rest other
+
+-- a cycle of the graph: none of its walks from the session back to it is shorter, and none of its length comes before it
+pub record IsLeastRound (graph : List ℕ) (session : ℕ) (circle : List ℕ) : Type 0 where
+  pub round : IsRound graph session circle
+  pub shortest : (rest : List ℕ) → IsWalk graph session rest session → length circle ≤ 1 + length rest
+  pub least : (rest : List ℕ) → IsWalk graph session rest session → length circle ≡ 1 + length rest → NotAfter circle (session ∷ rest)

@@ -1,6 +1,6 @@
 -- What a log says of its sessions and rows. A log is read backwards, from its newest event.
 use Rattle.std.specs.Option.{option_or}
-use Rattle.std.specs.Prelude.{◌≡◌, ℕ, ◌+◌, ◌==◌, Bool, true, false, ◌||◌, cond, Option, Some, None, option_map, is_some, unwrap_or, List, [], ◌∷◌, length, filter, reverse}
+use Rattle.std.specs.Prelude.{ℕ, ◌+◌, ◌==◌, Bool, true, false, ◌||◌, cond, Option, Some, None, option_map, is_some, unwrap_or, List, [], ◌∷◌, length, filter, reverse}
 use Rattle.std.specs.Prelude as list
 use Rattle.std.specs.FinMap as map
 use Rattle.lab_table.specs.Row.{Row}
@@ -8,16 +8,16 @@ use Rattle.lab_table.specs.Table.{Table, State, Rows, Writes}
 use Rattle.lab_table.specs.Statement.{matches}
 use Rattle.lab_table.specs.declared.statement.Statement.{Statement}
 use Rattle.lab_table.specs.declared.statement.Command.{Command}
-use Rattle.lab_table.specs.declared.statement.Command.TheVariants.{Begin, Commit, Abort, Run}
+use Rattle.lab_table.specs.declared.statement.Command.TheVariants.{Run}
 use Rattle.lab_history.specs.declared.operation.Op.{Op}
 use Rattle.lab_history.specs.declared.operation.VersionName.TheVariants.{Initial, Of}
 use Rattle.lab_history.specs.VersionName.{View}
 use Rattle.lab_engine.specs.declared.version.Version.{Version as Named}
 use Rattle.lab_engine.specs.declared.event.Level.{Level}
 use Rattle.lab_engine.specs.declared.event.EngineFault.{EngineFault}
-use Rattle.lab_engine.specs.declared.event.EngineFault.TheVariants.{DuplicateKey, OutOfRange, Deadlock, WriteConflict, NoTransaction, AlreadyBegun, Busy, ReadConflict}
+use Rattle.lab_engine.specs.declared.event.EngineFault.TheVariants.{NoTransaction, AlreadyBegun, Busy}
 use Rattle.lab_engine.specs.declared.event.Outcome.{Outcome}
-use Rattle.lab_engine.specs.declared.event.Outcome.TheVariants.{Begun, Rows as Listed, Committed, Aborted, Waits, Refused}
+use Rattle.lab_engine.specs.declared.event.Outcome.TheVariants.{Begun, Rows as Listed, Committed, Waits, Refused}
 use Rattle.lab_engine.specs.declared.event.LogEvent.{LogEvent}
 use Rattle.lab_engine.specs.RuleTable.{rules_of}
 
@@ -41,30 +41,23 @@ pub record Txn : Type 0 where
 
 -- a transaction's operations after a command that listed rows
 abbrev pub ops_after : Command → View → Rows → Writes → List Op → List Op
-ops_after Begin view rows writes ops = ops
-ops_after Commit view rows writes ops = ops
-ops_after Abort view rows writes ops = ops
 ops_after (Run s) view rows writes ops = record { statement = s; view = view; rows = rows; writes = writes } ∷ ops
+ops_after other view rows writes ops = ops
 
 -- whether a refusal ends the transaction
 abbrev pub is_fatal : EngineFault → Bool
-is_fatal (DuplicateKey id) = true
-is_fatal (OutOfRange id) = true
-is_fatal (Deadlock circle) = true
-is_fatal (WriteConflict row by) = true
 is_fatal NoTransaction = false
 is_fatal AlreadyBegun = false
 is_fatal Busy = false
-is_fatal (ReadConflict row by) = true
+is_fatal other = true
 
 -- the active transaction of a session after one of its events
 abbrev pub active_after : Command → Outcome → Past → Option Txn → Option Txn
 active_after command (Begun n) past txn = Some (record { no = n; ops = []; before = past })
 active_after command (Listed view rows writes) past txn = option_map (λ t. record { no = t.no; ops = ops_after command view rows writes t.ops; before = t.before }) txn
-active_after command Committed past txn = None
-active_after command Aborted past txn = None
 active_after command (Waits on) past txn = txn
 active_after command (Refused fault) past txn = cond (is_fatal fault) None txn
+active_after command other past txn = None
 
 -- the active transaction of a session: from its begin to its commit, abort or fatal refusal
 abbrev pub active : Past → ℕ → Option Txn
@@ -73,13 +66,8 @@ active (event ∷ past) session = cond (event.session == session) (active_after 
 
 -- what an outcome adds to the committed transactions, where the session had this transaction active
 abbrev pub commits_after : Outcome → Option Txn → List Txn → List Txn
-commits_after (Begun n) txn txns = txns
-commits_after (Listed view rows writes) txn txns = txns
-commits_after Committed None txns = txns
 commits_after Committed (Some t) txns = t ∷ txns
-commits_after Aborted txn txns = txns
-commits_after (Waits on) txn txns = txns
-commits_after (Refused fault) txn txns = txns
+commits_after other txn txns = txns
 
 -- the committed transactions, the last to commit first
 abbrev pub commits : Past → List Txn
@@ -139,26 +127,14 @@ seen level setup past txn row = unwrap_or (version_by txn row) (committed_versio
 
 -- what a command that waits asks for
 abbrev pub asked : Command → Option Statement
-asked Begin = None
-asked Commit = None
-asked Abort = None
 asked (Run s) = Some s
+asked other = None
 
 -- the statement that a session waits with after one of its events
 abbrev pub waiting_after : Command → Outcome → Option Statement → Option Statement
-waiting_after command (Begun n) before = None
-waiting_after command (Listed view rows writes) before = None
-waiting_after command Committed before = None
-waiting_after command Aborted before = None
 waiting_after command (Waits on) before = asked command
-waiting_after command (Refused (DuplicateKey id)) before = None
-waiting_after command (Refused (OutOfRange id)) before = None
-waiting_after command (Refused (Deadlock circle)) before = None
-waiting_after command (Refused (WriteConflict row by)) before = None
-waiting_after command (Refused NoTransaction) before = None
-waiting_after command (Refused AlreadyBegun) before = None
 waiting_after command (Refused Busy) before = before
-waiting_after command (Refused (ReadConflict row by)) before = None
+waiting_after command other before = None
 
 -- the statement that a session waits with: that of its last event, Busy aside, if its outcome is Waits
 abbrev pub waiting : Past → ℕ → Option Statement
@@ -168,11 +144,7 @@ waiting (event ∷ past) session = cond (event.session == session) (waiting_afte
 -- how many transactions have begun, after one more outcome
 abbrev pub begun_after : Outcome → ℕ → ℕ
 begun_after (Begun n) before = before + 1
-begun_after (Listed view rows writes) before = before
-begun_after Committed before = before
-begun_after Aborted before = before
-begun_after (Waits on) before = before
-begun_after (Refused fault) before = before
+begun_after other before = before
 
 -- how many transactions have begun
 abbrev pub begun : Past → ℕ

@@ -16,7 +16,7 @@ use Rattle.lab_history.specs.declared.transaction.Outcome.TheVariants.{Committed
 use Rattle.lab_engine.specs.declared.event.Level.{Level}
 use Rattle.lab_engine.specs.declared.event.EngineFault.TheVariants.{Busy}
 use Rattle.lab_engine.specs.declared.event.Outcome.{Outcome}
-use Rattle.lab_engine.specs.declared.event.Outcome.TheVariants.{Begun, Rows as Listed, Committed, Aborted, Waits, Refused}
+use Rattle.lab_engine.specs.declared.event.Outcome.TheVariants.{Rows as Listed, Waits, Refused}
 use Rattle.lab_engine.specs.declared.event.LogEvent.{LogEvent}
 use Rattle.lab_engine.specs.Log.{Past, Txn, ops_after, active, commits, committed_version, installers, waiting, begun}
 use Rattle.lab_engine.specs.Rules.{IsLegal, IsFree, IsCircle}
@@ -28,12 +28,8 @@ has_number number (Some txn) = txn.no == number
 
 -- the operation that an event is, if it is one
 abbrev pub op_of : Command → Outcome → List Op
-op_of command (Begun n) = []
 op_of command (Listed view rows writes) = ops_after command view rows writes []
-op_of command Committed = []
-op_of command Aborted = []
-op_of command (Waits on) = []
-op_of command (Refused fault) = []
+op_of command other = []
 
 -- the operations of the transaction with this number, in order
 abbrev pub ops_of : Past → ℕ → List Op
@@ -80,12 +76,8 @@ pub record IsLegalRecording (level : Level) (setup : Table) (past : Past) (histo
 
 -- whether an outcome answers its command
 abbrev pub is_answer : Outcome → Bool
-is_answer (Begun n) = true
-is_answer (Listed view rows writes) = true
-is_answer Committed = true
-is_answer Aborted = true
 is_answer (Waits on) = false
-is_answer (Refused fault) = true
+is_answer other = true
 
 -- the calls of a session: the answered events of a log that are its own, in order
 abbrev pub calls : ℕ → List LogEvent → List LogEvent

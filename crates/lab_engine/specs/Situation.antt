@@ -1,5 +1,5 @@
 -- What a situation says of a log, read from its newest event.
-use Rattle.std.specs.Prelude.{◌≡◌, ◌==◌, ◌+◌, ◌≤◌, ◌<◌, ℕ, Bool, true, false, cond, Option, Some, None, option_map, option_and_then, is_some, List, [], ◌∷◌, length, reverse, IsSome, Contains, ⊤}
+use Rattle.std.specs.Prelude.{◌≡◌, ◌==◌, ◌+◌, ◌≤◌, ◌<◌, ℕ, Bool, true, cond, Option, Some, None, option_and_then, is_some, List, [], ◌∷◌, length, reverse, IsSome, Contains, ⊤}
 use Rattle.std.specs.Prelude as list
 use Rattle.std.specs.Vec.{vec_capacity}
 use Rattle.std.specs.FinMap as map
@@ -11,7 +11,7 @@ use Rattle.lab_table.specs.declared.statement.Command.{Command}
 use Rattle.lab_history.specs.declared.operation.Op.{Op}
 use Rattle.lab_engine.specs.declared.event.Level.{Level}
 use Rattle.lab_engine.specs.declared.event.Outcome.{Outcome}
-use Rattle.lab_engine.specs.declared.event.Outcome.TheVariants.{Begun, Rows as Listed, Committed, Aborted, Waits, Refused}
+use Rattle.lab_engine.specs.declared.event.Outcome.TheVariants.{Rows as Listed, Waits}
 use Rattle.lab_engine.specs.declared.row_states.RowStates.{RowStates}
 use Rattle.lab_engine.specs.declared.session_state.RunningTxn.{RunningTxn}
 use Rattle.lab_engine.specs.declared.session_state.SessionState.{SessionState}
@@ -68,25 +68,30 @@ Agree level None (Some running) = ⊥
 Agree level (Some txn) None = ⊥
 Agree level (Some txn) (Some running) = IsRunning level txn running
 
+-- something that may be kept of a session, by the session's state
+abbrev pub kept_by : {A : Type 0} → (SessionState → Option A) → List SessionState → ℕ → Option A
+kept_by f [] session = None
+kept_by f (state ∷ states) session = cond (state.session == session) (f state) (kept_by f states session)
+
 -- the active transaction that is kept of a session, if any
 abbrev pub running_of : List SessionState → ℕ → Option RunningTxn
-running_of [] session = None
-running_of (state ∷ states) session = cond (state.session == session) state.running (running_of states session)
+running_of states session = kept_by (λ state. state.running) states session
 
 -- the statement that is kept of a session as the one that it waits with, if any
 abbrev pub waiting_of : List SessionState → ℕ → Option Statement
-waiting_of [] session = None
-waiting_of (state ∷ states) session = cond (state.session == session) state.waits (waiting_of states session)
+waiting_of states session = kept_by (λ state. state.waits) states session
 
--- what is kept of a session agrees with the log
-pub record DescribesSession (level : Level) (past : Past) (state : SessionState) : Type 0 where
-  pub waits : state.waits ≡ waiting past state.session
-  pub running : Agree level (active past state.session) state.running
+-- what is kept of a session agrees with the log: the statement that it waits with, and its active transaction
+pub record DescribesDoing (level : Level) (past : Past) (session : ℕ) (held : Option Statement) (kept : Option RunningTxn) : Type 0 where
+  pub waits : held ≡ waiting past session
+  pub running : Agree level (active past session) kept
 
--- so is it for each of some sessions
+-- so of a state, and of each session
+abbrev pub DescribesSession : Level → Past → SessionState → Type 0
+DescribesSession level past state = DescribesDoing level past state.session state.waits state.running
+
 abbrev pub DescribesAll : Level → Past → List SessionState → Type 0
-DescribesAll level past [] = ⊤
-DescribesAll level past (state ∷ states) = DescribesSession level past state × DescribesAll level past states
+DescribesAll level past states = (session : ℕ) → DescribesDoing level past session (waiting_of states session) (running_of states session)
 
 -- the version of a row that a transaction, if any, has written last
 abbrev pub written_by : Option Txn → Row → Option Version
@@ -112,12 +117,9 @@ pub record Describes (level : Level) (past : Past) (situation : Situation) : Typ
 
 -- the statement of an event that is kept behind it: one that ran, where those are kept, or one that waits
 abbrev pub kept_of : Bool → Command → Outcome → Option Statement
-kept_of keeps command (Begun n) = None
 kept_of keeps command (Listed view rows writes) = cond keeps (asked command) None
-kept_of keeps command Committed = None
-kept_of keeps command Aborted = None
 kept_of keeps command (Waits on) = asked command
-kept_of keeps command (Refused fault) = None
+kept_of keeps command other = None
 
 -- an active transaction, if one is kept, has room for these rows and, where it is kept, one more statement
 abbrev pub HasPlaces : Bool → Option RunningTxn → Writes → Type 0
@@ -127,9 +129,5 @@ HasPlaces keeps (Some running) writes = (keeps ≡ true → length running.state
 
 -- there is room for what an outcome writes
 abbrev pub HoldsOutcome : Bool → Outcome → Option RunningTxn → RowStates → Type 0
-HoldsOutcome keeps (Begun n) running rows = ⊤
 HoldsOutcome keeps (Listed view written writes) running rows = HasPlaces keeps running writes × AreReady rows writes
-HoldsOutcome keeps Committed running rows = ⊤
-HoldsOutcome keeps Aborted running rows = ⊤
-HoldsOutcome keeps (Waits on) running rows = ⊤
-HoldsOutcome keeps (Refused fault) running rows = ⊤
+HoldsOutcome keeps other running rows = ⊤

@@ -5,11 +5,10 @@
 //! shortest cycles. Back through the layers each goes on to the least session that it may, so the walk is the least of
 //! the shortest.
 
-ghost use Rattle.std.specs.Prelude.{◌≡◌, ◌≤◌, ◌<◌, ◌+◌, ◌∷◌, ◌↔◌, false, None, List, ℕ, length, get_or, IfOk, IfSome, IsTrue};
+ghost use Rattle.std.specs.Prelude.{◌≡◌, ◌<◌, ◌∷◌, ◌↔◌, false, None, List, ℕ, get_or, IfOk, IfSome, IsTrue, MatchOption};
 ghost use Rattle.lab_engine.specs.SessionBits.{has};
 ghost use Rattle.lab_engine.specs.WaitsFor.{IsWalk, IsRound};
-ghost use Rattle.lab_engine.specs.LeastWalk.{AreLayers, IsLeastWalk};
-ghost use Rattle.lab_engine.specs.LeastCircle.{NotAfter};
+ghost use Rattle.lab_engine.specs.LeastWalk.{AreLayers, IsLeastRound, IsLeastWalk};
 
 use crate::event::Sessions;
 use crate::session_set::SessionSet;
@@ -76,10 +75,7 @@ pub fn shortest_circle(
     waits: &WaitGraph,
     session: Session,
 ) -> Result<Option<Sessions>, NoMemory>
-    ensures found { IfOk result (λ found. IfSome found (IsRound waits.now session)) }
-    ensures shortest { IfOk result (λ found. IfSome found (λ circle. (rest : List ℕ) → IsWalk waits.now session rest session → length circle ≤ 1 + length rest)) }
-    ensures least { IfOk result (λ found. IfSome found (λ circle. (rest : List ℕ) → IsWalk waits.now session rest session → length circle ≡ 1 + length rest → NotAfter circle (session ∷ rest))) }
-    ensures none { IfOk result (λ found. found ≡ None → (rest : List ℕ) → ¬ IsWalk waits.now session rest session) }
+    ensures { IfOk result (λ found. MatchOption found ((rest : List ℕ) → ¬ IsWalk waits.now session rest session) (IsLeastRound waits.now session)) }
 {
     let layers = layers_to(waits, session);
     match first_with(&layers, session) {

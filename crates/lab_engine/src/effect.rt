@@ -9,7 +9,8 @@ ghost use Rattle.lab_history.specs.declared.operation.State.TheVariants.{Present
 ghost use Rattle.lab_engine.specs.Log.{Version};
 ghost use Rattle.lab_engine.specs.EachRow.{with_row, each_row, value_rewritten};
 ghost use Rattle.lab_engine.specs.EachRow as made;
-ghost use Rattle.lab_engine.specs.Effect.{IsEffectOn, IsEffectFault};
+ghost use Rattle.lab_engine.specs.Effect.{IsEffectFault};
+ghost use Rattle.lab_engine.specs.Rules.{IsEffectOn};
 ghost use Rattle.lab_engine.specs.Asker.{seen_in};
 ghost use Rattle.lab_engine.specs.Overlay.{AreMatching};
 ghost use Rattle.lab_engine.specs.declared.effect.EffectFault.TheVariants.{NoMemory};

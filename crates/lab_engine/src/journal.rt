@@ -2,15 +2,14 @@
 
 ghost use Rattle.std.specs.Prelude.{◌≡◌, ◌≢◌, ◌<◌, ◌+◌, ◌∷◌, ◌++◌, [], Some, true, false, length, Contains, IsSome, IfOk, OnOk, OnErr};
 ghost use Rattle.std.specs.Vec.{vec_capacity};
-ghost use Rattle.lab_table.specs.declared.statement.Statement.{Statement as Asked};
-ghost use Rattle.lab_table.specs.declared.statement.Command.TheVariants.{Run};
 ghost use Rattle.lab_engine.specs.declared.event.EngineFault.TheVariants.{Busy};
 ghost use Rattle.lab_engine.specs.declared.event.Outcome.TheVariants.{Refused};
 ghost use Rattle.lab_engine.specs.Answer.{HasPlacesOfCommits, HasPlacesOfEnds};
 ghost use Rattle.lab_engine.specs.KeptCommits.{commits_by};
 ghost use Rattle.lab_engine.specs.Engine.{Ends};
 ghost use Rattle.lab_engine.specs.EventQuery.{is_ending};
-ghost use Rattle.lab_engine.specs.LeastCircle.{NamesLeastOf, NamesLeastOfWaiting};
+ghost use Rattle.lab_engine.specs.Journal.{IsRetried};
+ghost use Rattle.lab_engine.specs.LeastCircle.{NamesLeastOf};
 ghost use Rattle.lab_engine.specs.Limits.{max_events};
 ghost use Rattle.lab_engine.specs.Log.{past_of, active, asked, waiting};
 ghost use Rattle.lab_engine.specs.Rules.{Permitted};
@@ -112,10 +111,7 @@ impl<R: Rules> Journal<R> {
     fn retried(&self, alloc: Global, session: Session) -> Result<LogEvent, NoMemory>
         requires room { length self.now.log < max_events }
         requires waits { IsSome (waiting (past_of self.now.log) session) }
-        ensures of { IfOk result (λ event. (s : Asked) × (waiting (past_of self.now.log) session ≡ Some s) × (event ≡ record { session = session; command = Run s; outcome = event.outcome })) }
-        ensures permitted { IfOk result (λ event. Permitted R.kind self.now.setup (past_of self.now.log) event.session event.command event.outcome) }
-        ensures answered { IfOk result (λ event. event.outcome ≢ Refused Busy) }
-        ensures least { IfOk result (λ event. NamesLeastOfWaiting R.kind self.now.setup (past_of self.now.log) session event.outcome) }
+        ensures { IfOk result (IsRetried R.kind self.now session) }
     {
         let command = waiting_command(alloc, &self.situation, session)?;
         let outcome = answer_to(

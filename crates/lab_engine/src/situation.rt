@@ -1,6 +1,6 @@
 //! What is kept of a log: where it leaves its sessions and rows, and who waits for whom.
 
-ghost use Rattle.std.specs.Prelude.{◌≡◌, ◌<◌, ◌≤◌, ◌+◌, ℕ, [], ◌∷◌, false, true, length, option_map, is_some, Contains, IfOk, OnOk, OnErr};
+ghost use Rattle.std.specs.Prelude.{◌≡◌, ◌<◌, ◌≤◌, ◌+◌, ℕ, [], ◌∷◌, false, true, length, option_map, is_some, Contains, IfOk, IsTrue, OnOk, OnErr};
 ghost use Rattle.std.specs.Prelude as list;
 ghost use Rattle.std.specs.List.{list_all};
 ghost use Rattle.std.specs.Option.{is_none};
@@ -190,7 +190,8 @@ fn session_of(number: u8) -> Session
 /// Every session, with no transaction.
 fn idle_sessions() -> [SessionState; 9]
     ensures sessions { list.map (λ state. state.session) result ≡ all_sessions }
-    ensures idle { (level : Kind) → DescribesAll level [] result }
+    ensures waits { IsTrue (list_all (λ state. is_none state.waits) result) }
+    ensures running { IsTrue (list_all (λ state. is_none state.running) result) }
 {
     [
         SessionState::idle(session_of(1)),

@@ -1,8 +1,9 @@
-use Rattle.lab_engine.proofs.{Common.{Answers, ap, AreWaits, asked, conflict_fault, IfOk, MayAsk, MayCommit, refl, Refused, Run, Situation, subst, sym}, Describing.{running_txn, running_none}, Answering.{gives, may_ask, conflict_none, conflict_some, ran}}
+use Rattle.lab_engine.proofs.{Common.{active, Agree, Answers, ap, AreWaits, asked, conflict_fault, IfOk, MayAsk, MayCommit, refl, Refused, Run, Situation, subst, sym}, Describing.{running_txn, kept_none}, Answering.{gives, may_ask, conflict_none, conflict_some, ran}}
 use Rattle.lab_engine.proofs.answer.answer_to.Goals as goal
 
 pub returns-in_default-clause-answer : goal.returns-in_default-clause-answer
-returns-in_default-clause-answer g c past d may h = c.without_transaction.ensures _ _ past d (running_none past c.args.situation.now d c.args.session (sym c.in_default.ensures))
+returns-in_default-clause-answer g c past d may h = c.without_transaction.ensures _ _ past d
+    (kept_none _ _ (subst (Agree g.R.Rules.kind (active past c.args.session)) (sym c.in_default.ensures) (d.states c.args.session).running))
 
 pub returns-in-Begin-clause-answer : goal.returns-in-Begin-clause-answer
 returns-in-Begin-clause-answer g c past d may h = let t = running_txn past c.args.situation.now d c.args.session c.in-Some.running.now (sym c.in-Some.ensures) in

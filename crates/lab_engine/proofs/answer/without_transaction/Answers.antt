@@ -1,5 +1,4 @@
-use Rattle.std.proofs.Common.{◌≡◌, arith, true, false}
-use Rattle.lab_engine.proofs.EventBounds.{begun_at_most}
+use Rattle.lab_engine.proofs.{Common.{arith, false, true, ◌≡◌}, EventBounds.{begun_at_most}}
 use Rattle.lab_engine.proofs.answer.without_transaction.Goals as goal
 
 pub overflow_add-situation : goal.overflow_add-situation

@@ -1,5 +1,4 @@
-use Rattle.std.proofs.Common.{◌≤◌}
-use Rattle.lab_engine.proofs.WaitLayers.{GoesOn}
+use Rattle.lab_engine.proofs.{Common.{◌≤◌}, WaitLayers.{GoesOn}}
 use Rattle.lab_engine.proofs.circle.circle_by.Given as goal
 
 -- the cycle so far goes on from the session that was reached

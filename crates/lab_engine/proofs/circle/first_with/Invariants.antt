@@ -1,5 +1,4 @@
-use Rattle.std.proofs.Common.{◌≡◌, ◌<◌, ℕ, false, get_or}
-use Rattle.lab_engine.specs.SessionBits.{has}
+use Rattle.lab_engine.proofs.Common.{false, get_or, has, ℕ, ◌<◌, ◌≡◌}
 use Rattle.lab_engine.proofs.circle.first_with.Given as goal
 
 -- no layer so far has the session

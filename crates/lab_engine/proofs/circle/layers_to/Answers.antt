@@ -1,5 +1,4 @@
-use Rattle.std.proofs.{Common.{◌-◌, ◌<◌, get_or, length, ◌∙◌, arith, length-set}, lemmas.Grind.{get_or_default_zero}}
-use Rattle.lab_engine.proofs.WaitLayers.{layers_first, layers_more}
+use Rattle.lab_engine.proofs.{Common.{arith, get_or, get_or_default_zero, length, length-set, ◌-◌, ◌<◌, ◌∙◌}, WaitLayers.{layers_first, layers_more}}
 use Rattle.lab_engine.proofs.circle.layers_to.Goals as goal
 
 pub loop-between-init : goal.loop-between-init

@@ -1,5 +1,4 @@
-use Rattle.std.proofs.Common.{◌≡◌, ◌≤◌, length}
-use Rattle.lab_engine.specs.LeastWalk.{AreLayers}
+use Rattle.lab_engine.{proofs.Common.{length, ◌≡◌, ◌≤◌}, specs.LeastWalk.{AreLayers}}
 use Rattle.lab_engine.proofs.circle.layers_to.Given as goal
 
 -- the layers so far

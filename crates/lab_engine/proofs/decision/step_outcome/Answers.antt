@@ -1,5 +1,4 @@
-use Rattle.std.{proofs.{Common.{sym, ap, ◌∙◌, inl, true≢false}, lemmas.Result.{IfOk-weaker}}, specs.Prelude.{is_some}}
-use Rattle.lab_engine.proofs.Answering.{at_ease}
+use Rattle.lab_engine.proofs.{Common.{ap, IfOk-weaker, inl, is_some, sym, true≢false, ◌∙◌}, Answering.{at_ease}}
 use Rattle.lab_engine.proofs.decision.step_outcome.Goals as goal
 
 pub returns-then-is_waiting-clause-permitted : goal.returns-then-is_waiting-clause-permitted

@@ -1,5 +1,4 @@
-use Rattle.std.proofs.Common.{sym, ap, ◌∙◌, is_some, true≢false}
-use Rattle.lab_table.specs.declared.statement.Command.TheVariants.{Run}
+use Rattle.lab_engine.proofs.Common.{ap, is_some, Run, sym, true≢false, ◌∙◌}
 use Rattle.lab_engine.proofs.decision.waiting_command.Goals as goal
 
 pub unreachable-requires : goal.unreachable-requires

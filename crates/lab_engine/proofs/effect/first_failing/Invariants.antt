@@ -1,5 +1,4 @@
-use Rattle.std.proofs.Common.{◌≡◌, drop}
-use Rattle.lab_engine.specs.EachRow.{first_failing}
+use Rattle.lab_engine.proofs.Common.{drop, first_failing, ◌≡◌}
 use Rattle.lab_engine.proofs.effect.first_failing.Given as goal
 
 -- the first one is found among the entries that are left as among all

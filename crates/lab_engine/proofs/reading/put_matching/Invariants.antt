@@ -1,5 +1,4 @@
-use Rattle.std.proofs.Common.{◌≡◌, ◌++◌, drop}
-use Rattle.lab_engine.specs.Overlay.{matching_rows}
+use Rattle.lab_engine.proofs.Common.{drop, matching_rows, ◌++◌, ◌≡◌}
 use Rattle.lab_engine.proofs.reading.put_matching.Given as goal
 
 -- the rows so far, and then those of the rest that match

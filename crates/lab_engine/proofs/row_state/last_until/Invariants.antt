@@ -1,5 +1,4 @@
-use Rattle.std.proofs.Common.{◌≡◌, length, reverse}
-use Rattle.lab_engine.specs.Chains.{last_before}
+use Rattle.lab_engine.proofs.Common.{last_before, length, reverse, ◌≡◌}
 use Rattle.lab_engine.proofs.row_state.last_until.Given as goal
 
 -- what is left answers as all

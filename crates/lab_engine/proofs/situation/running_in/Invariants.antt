@@ -1,5 +1,4 @@
-use Rattle.std.proofs.Common.{◌≡◌, drop}
-use Rattle.lab_engine.specs.Situation.{running_of}
+use Rattle.lab_engine.proofs.Common.{drop, running_of, ◌≡◌}
 use Rattle.lab_engine.proofs.situation.running_in.Given as goal
 
 -- it is found among the states that are left as among all

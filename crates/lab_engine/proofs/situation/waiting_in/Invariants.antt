@@ -1,5 +1,4 @@
-use Rattle.std.proofs.Common.{◌≡◌, drop}
-use Rattle.lab_engine.specs.Situation.{waiting_of}
+use Rattle.lab_engine.proofs.Common.{drop, waiting_of, ◌≡◌}
 use Rattle.lab_engine.proofs.situation.waiting_in.Given as goal
 
 -- it is found among the states that are left as among all

@@ -1,7 +1,4 @@
-use Rattle.std.specs.Vec.{vec_capacity}
-use Rattle.lab_engine.proofs.Common.{ap, AreWaits, arith, EngineRun, HasPlacesOfCommits, HasPlacesOfEnds, Keeps, keeps_commits, kept_of, length, length-reverse, List, LogEvent, Past, past_of, Permitted, refl, reverse-append, Situation, subst, sym, [], ◌<◌, ◌∙◌, ◌∷◌, ◌≡◌}
-use Rattle.lab_engine.proofs.Describing.{same_log}
-use Rattle.lab_engine.proofs.RuleTables.{where_holds, where_made}
+use Rattle.lab_engine.proofs.{Common.{ap, AreWaits, arith, EngineRun, HasPlacesOfCommits, HasPlacesOfEnds, Keeps, keeps_commits, kept_of, length, length-reverse, List, LogEvent, Past, past_of, Permitted, refl, reverse-append, Situation, subst, sym, vec_capacity, [], ◌<◌, ◌∙◌, ◌∷◌, ◌≡◌}, Describing.{same_log}, RuleTables.{where_holds, where_made}}
 use Rattle.lab_engine.proofs.journal.Journal.go_on.Goals as goal
 
 pub reserve_place-requires-clause-commits : goal.reserve_place-requires-clause-commits

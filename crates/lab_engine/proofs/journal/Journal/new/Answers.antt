@@ -1,5 +1,4 @@
-use Rattle.std.specs.Vec.{vec_capacity}
-use Rattle.lab_engine.{proofs.{Common.{ap, AreWaits, arith, both_ways, HasPlacesOfCommits, keeps_commits, length, none_some, rules, [], ◌≡◌}, RuleTables.{where_made}}, specs.RuleTable.{Where}}
+use Rattle.lab_engine.proofs.{Common.{ap, AreWaits, arith, both_ways, HasPlacesOfCommits, keeps_commits, length, none_some, rules, vec_capacity, Where, [], ◌≡◌}, RuleTables.{where_made}}
 use Rattle.lab_engine.proofs.journal.Journal.new.Goals as goal
 
 pub invariant_of-result : goal.invariant_of-result

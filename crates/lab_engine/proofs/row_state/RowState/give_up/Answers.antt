@@ -1,5 +1,4 @@
-use Rattle.std.proofs.Common.{arith, ◌-◌}
-use Rattle.lab_engine.proofs.PendingVersions.{roomy_less}
+use Rattle.lab_engine.proofs.{Common.{arith, ◌-◌}, PendingVersions.{roomy_less}}
 use Rattle.lab_engine.proofs.row_state.RowState.give_up.Goals as goal
 
 pub invariant_of-self : goal.invariant_of-self

@@ -1,5 +1,4 @@
-use Rattle.std.{proofs.Common.{◌≡◌, ◌<◌, ◌-◌, ◌∙◌, ap, sym, arith, length, get_or, None, Some}, specs.Vec.{vec_capacity}}
-use Rattle.lab_engine.{specs.Kept.{pending_of}, proofs.{PendingVersions.{own_place, place_left, roomy_moved}, row_state.RowState.install.Goals.{After-set}}}
+use Rattle.lab_engine.proofs.{Common.{ap, arith, get_or, length, None, pending_of, Some, sym, vec_capacity, ◌-◌, ◌<◌, ◌∙◌, ◌≡◌}, PendingVersions.{own_place, place_left, roomy_moved}, row_state.RowState.install.Goals.{After-set}}
 use Rattle.lab_engine.proofs.row_state.RowState.install.Goals as goal
 
 -- the version to be installed stands in the session's place

@@ -1,9 +1,12 @@
-use Rattle.lab_engine.proofs.{Common.{ap, arith, cases_lt, get_or, get_or_default, inl, inr, IsReadyAt, Row, subst, Written, ◌∙◌, ◌≡◌}, RowChanges.{same_then}, RowWalks.{entry_of}}
+use Rattle.lab_engine.proofs.{Common.{ap, arith, cases_lt, get_or, get_or_default, inl, inr, IsReadyAt, Row, subst, Written, ◌∙◌, ◌≡◌}, RowWalks.{entry_of}}
 use Rattle.lab_engine.proofs.row_states.RowStates.reserve_each.Goals as goal
 
 pub loop-entry-preserved : goal.loop-entry-preserved
 loop-entry-preserved c = record {
-  same = same_then c.args.self.now c.loop-entry.self c.reserve.new.self c.loop-entry.invariant.same c.in_ok-reserve.ensures.same;
+  same = record {
+    chain = λ row. c.in_ok-reserve.ensures.same.chain row ∙ c.loop-entry.invariant.same.chain row;
+    pending = λ row n. c.in_ok-reserve.ensures.same.pending row n ∙ c.loop-entry.invariant.same.pending row n;
+  };
   ready = λ k d lt. elim (cases_lt k c.loop-entry.entry-index) [
     | inl less ↦ c.in_ok-reserve.ensures.still (get_or c.entries-entries.result.now k d).0 (c.loop-entry.invariant.ready k d less)
     | inr from ↦

@@ -1,5 +1,4 @@
-use Rattle.std.proofs.Common.{ap, ◌∙◌}
-use Rattle.lab_engine.{specs.SessionBits.{has}, proofs.SessionBits.{has_tested}}
+use Rattle.lab_engine.proofs.{Common.{ap, has, ◌∙◌}, SessionBits.{has_tested}}
 use Rattle.lab_engine.proofs.session_set.SessionSet.has.Goals as goal
 
 pub returns : goal.returns

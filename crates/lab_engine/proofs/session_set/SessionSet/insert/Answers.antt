@@ -1,5 +1,4 @@
-use Rattle.std.proofs.Common.{ap, ◌∙◌, ◌==◌, ◌||◌, arith}
-use Rattle.lab_engine.{specs.SessionBits.{has}, proofs.SessionBits.{has_inserted, sessions_inserted}}
+use Rattle.lab_engine.proofs.{Common.{ap, arith, has, ◌==◌, ◌||◌, ◌∙◌}, SessionBits.{has_inserted, sessions_inserted}}
 use Rattle.lab_engine.proofs.session_set.SessionSet.insert.Goals as goal
 
 pub invariant_of-self : goal.invariant_of-self

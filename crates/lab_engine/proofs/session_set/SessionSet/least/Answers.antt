@@ -1,5 +1,4 @@
-use Rattle.std.proofs.Common.{◌≡◌, ◌≤◌, ℕ, subst, None, false, IfSome, IsTrue}
-use Rattle.lab_engine.{specs.SessionBits.{has}, proofs.SessionBits.{least_some, least_least, least_none}}
+use Rattle.lab_engine.proofs.{Common.{false, has, IfSome, IsTrue, None, subst, ℕ, ◌≡◌, ◌≤◌}, SessionBits.{least_least, least_none, least_some}}
 use Rattle.lab_engine.proofs.session_set.SessionSet.least.Goals as goal
 
 pub returns-clause-some : goal.returns-clause-some

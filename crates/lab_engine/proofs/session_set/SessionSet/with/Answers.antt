@@ -1,5 +1,4 @@
-use Rattle.std.proofs.Common.{◌||◌, ap, ◌∙◌}
-use Rattle.lab_engine.{specs.SessionBits.{has}, proofs.SessionBits.{has_either, sessions_either}}
+use Rattle.lab_engine.proofs.{Common.{ap, has, ◌||◌, ◌∙◌}, SessionBits.{has_either, sessions_either}}
 use Rattle.lab_engine.proofs.session_set.SessionSet.with.Goals as goal
 
 pub invariant_of-result : goal.invariant_of-result

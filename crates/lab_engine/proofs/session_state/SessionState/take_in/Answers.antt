@@ -1,4 +1,4 @@
-use Rattle.lab_engine.proofs.{Common.{active, Agree, ap, AreInstalled, AreWritten, keeps_statements, kept_of, None, option_map, Outcome, refl, Row, subst, sym, ◌∙◌}, KeptCommits.{busy_apart, none_installed, rows_written}, SessionStates.{follows, abandons}}
+use Rattle.lab_engine.{proofs.{Common.{active, Agree, ap, AreInstalled, AreWritten, keeps_statements, kept_of, None, option_map, Outcome, refl, Row, subst, sym, true≢false, ◌∙◌}, KeptCommits.{none_installed, rows_written}, SessionStates.{abandons, follows}}, specs.EventQuery.{busy}}
 use Rattle.lab_engine.proofs.session_state.SessionState.take_in.Goals as goal
 
 pub returns-in-Begun-clause-goes_on : goal.returns-in-Begun-clause-goes_on
@@ -28,7 +28,7 @@ returns-then-is_over-clause-goes_on c level past kept own at is =
     c.in_default.not-Committed given_up.ensures.chain (given_up.ensures.pending level _ is.0.running (λ row. is.1.pending row c.args.self.now.session)))
 
 pub returns-then-is_busy-clause-installed : goal.returns-then-is_busy-clause-installed
-returns-then-is_busy-clause-installed c level past own is = none_installed c.args.event.now.outcome _ (busy_apart c.args.event.now.outcome (sym c.is_busy.ensures ∙ c.if-is_busy.true))
+returns-then-is_busy-clause-installed c level past own is = none_installed c.args.event.now.outcome _ (λ same. true≢false (sym c.if-is_busy.true ∙ c.is_busy.ensures ∙ ap busy same))
 
 pub returns-in-Committed-clause-installed : goal.returns-in-Committed-clause-installed
 returns-in-Committed-clause-installed c level past own is =

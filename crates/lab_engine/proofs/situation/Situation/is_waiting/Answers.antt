@@ -1,5 +1,4 @@
-use Rattle.std.proofs.Common.{◌∙◌, sym, ap, is_some}
-use Rattle.lab_engine.proofs.Describing.{some_made}
+use Rattle.lab_engine.proofs.{Common.{ap, is_some, sym, ◌∙◌}, Describing.{some_made}}
 use Rattle.lab_engine.proofs.situation.Situation.is_waiting.Goals as goal
 
 pub returns : goal.returns

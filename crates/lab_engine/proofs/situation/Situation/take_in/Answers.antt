@@ -1,8 +1,4 @@
-use Rattle.lab_engine.proofs.Common.{ap, arith, cond, installs, keeps_commits, kept_rows, length, length-append, length-map, List, option_map, refl, Row, [], ℕ, ◌++◌, ◌∙◌}
-use Rattle.lab_engine.proofs.Describing.{goes_on, some_made}
-use Rattle.lab_engine.proofs.EventBounds.{begun_at_most}
-use Rattle.lab_engine.proofs.KeptCommits.{commits_go_on, count_after, one_commit}
-use Rattle.lab_engine.proofs.RuleTables.{where_map}
+use Rattle.lab_engine.proofs.{Common.{ap, arith, cond, installs, keeps_commits, kept_rows, length, length-append, length-map, List, option_map, refl, Row, ℕ, [], ◌++◌, ◌∙◌}, Describing.{goes_on, some_made}, EventBounds.{begun_at_most}, KeptCommits.{commits_go_on, count_after, one_commit}, RuleTables.{where_map}}
 use Rattle.lab_engine.proofs.situation.Situation.take_in.Goals as goal
 
 pub advance_session-installed-requires-clause-sessions : goal.advance_session-installed-requires-clause-sessions

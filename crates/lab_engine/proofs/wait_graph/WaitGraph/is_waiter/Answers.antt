@@ -1,5 +1,4 @@
-use Rattle.std.proofs.Common.{sym, subst, IsTrue, ◌↔◌}
-use Rattle.lab_engine.{specs.WaitsFor.{WaitsForOne}, proofs.WaitGraphs.{waits_for_one}}
+use Rattle.lab_engine.proofs.{Common.{IsTrue, subst, sym, WaitsForOne, ◌↔◌}, WaitGraphs.{waits_for_one}}
 use Rattle.lab_engine.proofs.wait_graph.WaitGraph.is_waiter.Goals as goal
 
 pub returns : goal.returns

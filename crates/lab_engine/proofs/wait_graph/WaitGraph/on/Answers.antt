@@ -1,5 +1,4 @@
-use Rattle.std.proofs.Common.{ap, ◌∙◌}
-use Rattle.lab_engine.{specs.WaitsFor.{waits_for}, proofs.WaitGraphs.{own_set}}
+use Rattle.lab_engine.proofs.{Common.{ap, waits_for, ◌∙◌}, WaitGraphs.{own_set}}
 use Rattle.lab_engine.proofs.wait_graph.WaitGraph.on.Goals as goal
 
 pub returns : goal.returns
