@@ -3,12 +3,7 @@ use Rattle.std.proofs.Common.{◌≡◌, ap}
 use Rattle.lab_history.specs.History.{History}
 use Rattle.lab_deps.{proofs.FaultOrders.{one_first}, specs.KindSets.{is_any}}
 use Rattle.lab_order.proofs.{BackCircles.{one_circle}, Least.{neither_after}}
-use Rattle.lab_judge.specs.Judgement.{IsSerialVerdict, IsSnapshotVerdict, RestsOnOrder, RestsOnPlaces, IsExactJudgement}
-use Rattle.lab_judge.specs.BackPoints.{HasBackCircle}
-use Rattle.lab_judge.specs.LeastPlaces.{IsLower, IsLeastPlacing}
-use Rattle.lab_judge.specs.LeastWalks.{HasDueWalk}
-use Rattle.lab_judge.specs.Places.{IsArrow}
-use Rattle.lab_judge.specs.Verdicts.{IsLeastOrder}
+use Rattle.lab_judge.specs.{Judgement.{IsSerialVerdict, IsSnapshotVerdict, RestsOnOrder, RestsOnPlaces, IsExactJudgement}, BackPoints.{HasBackCircle}, LeastPlaces.{IsLower, IsLeastPlacing}, LeastWalks.{HasDueWalk}, Places.{IsArrow}, Verdicts.{IsLeastOrder}}
 use Rattle.lab_judge.specs.declared.{places.Places.{Places}, report.Report.{Report}, serial.Serial.{Serial}}
 use Rattle.lab_judge.specs.declared.places.Places.TheVariants as places
 use Rattle.lab_judge.specs.declared.serial.Serial.TheVariants as serial

@@ -1,5 +1,5 @@
 -- Walks along edges: joined, cut, begun elsewhere, and counted by kind.
-use Rattle.std.{proofs.{Common.{◌≡◌, ℕ, ◌+◌, ◌≤◌, Bool, true, false, cond, List, [], ◌∷◌, ◌++◌, refl, sym, ap, ◌∙◌, subst, arith}, lemmas.List.{append-nil, Recursion.{is_count_by}}}, specs.Prelude.{⊤, not}}
+use Rattle.std.{proofs.{Common.{◌≡◌, ℕ, ◌+◌, ◌<◌, ◌≤◌, Bool, true, false, cond, List, [], ◌∷◌, ◌++◌, length, refl, sym, ap, ◌∙◌, subst, arith}, lemmas.{Bool.{not-false}, List.{append-nil, Recursion.{is_count_by}, Sorted.{IsPermutation-append_comm, sum_by-IsPermutation}}}}, specs.Prelude.{⊤, not}}
 use Rattle.lab_history.specs.History.{History}
 use Rattle.lab_deps.specs.{Edges.{IsEdge}, declared.edge.{Edge.{Edge}, Kind.{Kind}}}
 use Rattle.lab_judge.specs.{LeastWalks.{IsTurnToLeast}, Phenomena.{IsWalk, IsClosedWalk, count_kind}}
@@ -11,17 +11,6 @@ times test (e ∷ es) = cond (test e.kind) (1 + times test es) (times test es)
 
 pub times_are : (test : Kind → Bool) (es : List Edge) → times test es ≡ count_kind test es
 times_are test es = is_count_by (times test) (λ e. test e.kind) refl (λ _ _. refl) es
-
-pub times_append : (test : Kind → Bool) (xs ys : List Edge) → times test (xs ++ ys) ≡ times test xs + times test ys
-times_append test [] ys = omega arith
-times_append test (e ∷ xs) ys =
-    elim (test e.kind) as (λ b. cond b (1 + times test (xs ++ ys)) (times test (xs ++ ys)) ≡ cond b (1 + times test xs) (times test xs) + times test ys) [
-      | true ↦ omega (arith, times_append test xs ys)
-      | false ↦ times_append test xs ys
-    ]
-
-times_turned : (test : Kind → Bool) (xs ys : List Edge) → times test (xs ++ ys) ≡ times test (ys ++ xs)
-times_turned test xs ys = omega (arith, times_append test xs ys, times_append test ys xs)
 
 -- every edge has an allowed kind
 abbrev pub Through : (Kind → Bool) → List Edge → Type 0
@@ -59,6 +48,25 @@ such test (e ∷ es) some = at (such test es) (test e.kind) refl some
         let more : HasSuch test es = later s in
         record { front = e ∷ more.front; edge = more.edge; rest = more.rest; parts = ap (λ l. e ∷ l) more.parts; passes = more.passes }
 
+-- where every kind is allowed, so is each edge's
+pub each_through : (allows : Kind → Bool) → ((k : Kind) → allows k ≡ true) → (es : List Edge) → Through allows es
+each_through allows each [] = tt
+each_through allows each (e ∷ es) = (each e.kind, each_through allows each es)
+
+-- where no edge has another kind, each has an allowed one
+pub all_through : (allowed : Kind → Bool) (es : List Edge) → count_kind (λ k. not (allowed k)) es ≡ 0 → Through allowed es
+all_through allowed es none = none_forbidden (λ k. not (allowed k)) allowed (λ k h. not-false (allowed k) h) es (times_are (λ k. not (allowed k)) es ∙ none)
+
+-- along edges of allowed kinds that lead upwards nothing leads back
+module _ (h : History) (rank : ℕ → ℕ) (allows : Kind → Bool) (ahead : (e : Edge) → IsEdge h e → allows e.kind ≡ true → rank e.from < rank e.to) where
+  rises : (from : ℕ) (es : List Edge) (to : ℕ) → IsWalk h from es to → Through allows es → rank from ≤ rank to
+  rises from [] to w t = omega (arith, ap rank w)
+  rises from (e ∷ es) to w t = omega (arith, ahead e w.0 t.0, ap rank w.1, rises e.to es to w.2 t.1)
+
+  pub none_closed : (es : List Edge) → IsClosedWalk h es → Through allows es → ⊥
+  none_closed [] w t = w
+  none_closed (e ∷ es) w t = omega (arith, ahead e w.0 t.0, rises e.to es e.from w.2 t.1)
+
 module _ (h : History) where
   -- two walks, one behind the other, are a walk
   pub joined : (a : ℕ) (xs : List Edge) (b : ℕ) (ys : List Edge) (c : ℕ) → IsWalk h a xs b → IsWalk h b ys c → IsWalk h a (xs ++ ys) c
@@ -83,6 +91,11 @@ module _ (h : History) where
   pub closed : (e : Edge) (back : List Edge) → IsEdge h e → IsWalk h e.to back e.from → IsClosedWalk h (e ∷ back)
   closed e back edge w = (edge, refl, w)
 
+  -- and so is a walk that isn't empty and ends where it begins
+  pub closes : (es : List Edge) (a : ℕ) → 1 ≤ length es → IsWalk h a es a → IsClosedWalk h es
+  closes [] a some walk = absurd (omega (arith, some))
+  closes (e ∷ es) a some (edge, from, rest) = (edge, refl, subst (λ n. IsWalk h e.to es n) (sym from) rest)
+
   -- a cycle may begin at any of its edges
   turned : (xs ys : List Edge) → IsClosedWalk h (xs ++ ys) → IsClosedWalk h (ys ++ xs)
   turned xs [] w = subst (IsClosedWalk h) (append-nil xs) w
@@ -95,4 +108,6 @@ module _ (h : History) where
 -- and has as many edges of each kind
 pub turn_counts : (test : Kind → Bool) (round walk : List Edge) → IsTurnToLeast round walk → count_kind test walk ≡ count_kind test round
 turn_counts test round walk t =
-    sym (times_are test walk) ∙ ap (times test) t.turned ∙ times_turned test (t.first ∷ t.rest) t.front ∙ ap (times test) (sym t.split) ∙ times_are test round
+    ap (count_kind test) t.turned
+    ∙ sum_by-IsPermutation (λ e. cond (test e.kind) 1 0) (t.front ++ t.first ∷ t.rest) ((t.first ∷ t.rest) ++ t.front) (IsPermutation-append_comm t.front (t.first ∷ t.rest))
+    ∙ ap (count_kind test) (sym t.split)

@@ -1,7 +1,7 @@
 -- Things that are labels of other things, as transactions are of nodes: an order of the ones is one of the others.
 use Rattle.std.proofs.Common.{◌≡◌, ℕ, suc, ◌+◌, ◌<◌, ◌≤◌, Bool, true, false, cond, List, [], ◌∷◌, get_or, map, refl, sym, ap, ◌∙◌, subst, arith, inl, inr}
 use Rattle.std.specs.{Prelude.{Decides}, List.{All, count_by}}
-use Rattle.std.proofs.lemmas.{Bool.{both_ways, Decides.{same_from_decides, Decides-like}}, List.{Elements.{All-head, All-tail}, Recursion.{is_count_by}, Sums.{sum_by-cons, get_or-le-sum_by}}}
+use Rattle.std.proofs.lemmas.{Bool.{both_ways, Decides.{same_from_decides, Decides-like}}, Simd.{map-map}, List.{Folds.{map_fixed}, Elements.{All-head, All-tail}, Recursion.{is_count_by}, Sums.{sum_by-cons, get_or-le-sum_by}}}
 use Rattle.lab_order.specs.Least.{NotAfterBy}
 
 -- when two are the same, where one stands in a list, which are there, and that arrows are between these alone
@@ -103,9 +103,7 @@ module _ {X Y : Type 0} (there : X → Bool) (IsLessX : X → X → Type 0) (IsL
 
 -- the things of labels have these labels
 pub labels_again : {X Y : Type 0} (there : Y → Bool) (f : X → Y) (g : Y → X) → ((y : Y) → there y ≡ true → f (g y) ≡ y) → (ys : List Y) → All (λ y. there y ≡ true) ys → map f (map g ys) ≡ ys
-labels_again there f g again [] all = refl
-labels_again there f g again (y ∷ ys) all =
-    ap (λ z. z ∷ map f (map g ys)) (again y (All-head (λ y. there y ≡ true) y ys all)) ∙ ap (λ zs. y ∷ zs) (labels_again there f g again ys (All-tail (λ y. there y ≡ true) y ys all))
+labels_again there f g again ys all = map-map f g ys ∙ map_fixed (λ y. f (g y)) ys (λ k d lt. again (get_or ys k d) (all k d lt))
 
 module _ {X Y : Type 0} {same_x : X → X → Bool} {place_x : List X → X → ℕ} {there_x : X → Bool} {ArrowX : X → X → Type 0} (xt : AreThings same_x place_x there_x ArrowX)
     {same_y : Y → Y → Bool} {place_y : List Y → Y → ℕ} {there_y : Y → Bool} {ArrowY : Y → Y → Type 0} (yt : AreThings same_y place_y there_y ArrowY)

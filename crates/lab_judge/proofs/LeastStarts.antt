@@ -1,8 +1,7 @@
 -- A cycle that is turned to the first of the edges that begin with the least transaction.
-use Rattle.std.proofs.Common.{◌≡◌, ℕ, suc, ◌<◌, ◌≤◌, Bool, true, List, [], ◌∷◌, ◌++◌, length, get_or, take, drop, sym, ap, ◌∙◌, subst, arith, inl, inr}
-use Rattle.std.specs.{Cmp.{nat_cmp_is}, List.{IsFirstBest}, Ordering.{nat_cmp, is_lt}, declared.cmp.Ordering.TheVariants.{Greater, Equal}}
-use Rattle.std.proofs.lemmas.{Bool.{false≢true, cases_lt}, List.{take-append-drop, get_or-take, length-take-le, Elements.{All-drop, All-from_get_or}}, Map.Keys.{ge_from_not_lt}}
-use Rattle.std.proofs.Math.Seq.{drop-cons}
+use Rattle.std.proofs.{Common.{◌≡◌, ℕ, suc, ◌<◌, ◌≤◌, Bool, true, List, [], ◌∷◌, ◌++◌, length, get_or, take, drop, sym, ap, ◌∙◌, subst, arith}, Math.Seq.{drop-cons}}
+use Rattle.std.specs.{List.{IsFirstBest}, Ordering.{nat_cmp, is_lt}}
+use Rattle.std.proofs.lemmas.{Bool.Decides.{nat_tests}, List.{take-append-drop, get_or-take, length-take-le, Elements.{All-drop, All-from_get_or}}, Map.Keys.{ge_from_not_lt}}
 use Rattle.lab_deps.specs.declared.edge.Edge.{Edge}
 use Rattle.lab_judge.specs.LeastWalks.{IsTurnToLeast}
 
@@ -11,13 +10,7 @@ abbrev pub begins_lower : Edge → Edge → Bool
 begins_lower x y = is_lt (nat_cmp x.from y.from)
 
 lt_from_lt : (a b : ℕ) → is_lt (nat_cmp a b) ≡ true → a < b
-lt_from_lt a b h = elim (cases_lt a b) [
-  | inl less ↦ less
-  | inr ge ↦ elim (cases_lt b a) [
-    | inl more ↦ absurd (false≢true (ap is_lt (nat_cmp_is a b Greater more) ∙ h))
-    | inr le ↦ absurd (false≢true (ap is_lt (nat_cmp_is a b Equal (omega (arith, ge, le))) ∙ h))
-  ]
-]
+lt_from_lt a b h = grind (arith, nat_tests)
 
 -- edges that are turned to the first least begin with it
 pub turn_at : (es : List Edge) (k : ℕ) → IsFirstBest begins_lower es (length es) k → (walk : List Edge) → walk ≡ drop k es ++ take k es → IsTurnToLeast es walk

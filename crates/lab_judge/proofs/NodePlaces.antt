@@ -1,61 +1,37 @@
 -- The places of nodes in an order.
-use Rattle.std.proofs.Common.{◌≡◌, ℕ, zero, suc, ◌+◌, ◌<◌, ◌≤◌, ◌==◌, Bool, true, false, cond, Some, List, [], ◌∷◌, length, get_or, set, slice_index, refl, sym, ap, ◌∙◌, subst, arith, inl, inr}
+use Rattle.std.proofs.Common.{◌≡◌, ℕ, zero, suc, ◌+◌, ◌<◌, ◌≤◌, ◌==◌, Bool, true, false, cond, Some, List, [], ◌∷◌, length, nat_lt, get_or, set, slice_index, refl, sym, ap, ◌∙◌, subst, arith, inl, inr}
 use Rattle.std.specs.{Prelude.{Contains}, List.{All, count_by}}
-use Rattle.std.proofs.lemmas.{Bool.{eqb-true, eq-eqb, both_ways, cases_lt}, List.Elements.{All-head, All-tail}, Option.{slice_get-get_or, get_or_from_slice_get}}
+use Rattle.std.proofs.lemmas.{Bool.{eqb-true, eq-eqb, both_ways, cases_lt, le-ltb, lt-ltb, Decides.{nat_tests}}, List.Elements.{All-head, All-tail}, Option.{slice_get-get_or, get_or_from_slice_get}}
 use Rattle.lab_order.{proofs.Writes.{set_read}, specs.Order.{position}}
 use Rattle.lab_judge.proofs.{Lists.{one_place}, Numbers.{stands, position_within}}
 use Rattle.lab_deps.proofs.Places.{times, times_count}
 
--- how many of the numbers below a number stand in a list, counted as often as they do
-total : ℕ → List ℕ → ℕ
-total zero ns = 0
-total (suc n) ns = times n ns + total n ns
+-- how many of a list are below a number
+abbrev below : ℕ → List ℕ → ℕ
+below n [] = 0
+below n (x ∷ xs) = cond (nat_lt x n) (1 + below n xs) (below n xs)
 
-total-nil : (n : ℕ) → total n [] ≡ 0
-unfolding total
-total-nil zero = refl
-total-nil (suc n) = let rest : total n [] ≡ 0 = total-nil n in omega (arith, rest)
+below_none : (ns : List ℕ) → below 0 ns ≡ 0
+below_none [] = refl
+below_none (x ∷ xs) = ap (λ b. cond b (1 + below 0 xs) (below 0 xs)) (le-ltb x 0 (omega arith)) ∙ below_none xs
 
-total-past : (n x : ℕ) (xs : List ℕ) → n ≤ x → total n (x ∷ xs) ≡ total n xs
-unfolding total
-total-past zero x xs le = refl
-total-past (suc n) x xs le = at (total-past n x xs (omega arith)) (x == n) refl
-  where
-    at : total n (x ∷ xs) ≡ total n xs → (b : Bool) → (x == n) ≡ b → cond b (1 + times n xs) (times n xs) + total n (x ∷ xs) ≡ times n xs + total n xs
-    at rest true e = let same : x ≡ n = eqb-true x n e in absurd (omega (arith, same, le))
-    at rest false e = ap (λ k. times n xs + k) rest
+below_next : (n : ℕ) (ns : List ℕ) → below (suc n) ns ≡ below n ns + times n ns
+below_next n [] = refl
+below_next n (x ∷ xs) = let rest = below_next n xs in grind (arith, nat_tests)
 
-total-within : (n x : ℕ) (xs : List ℕ) → x < n → total n (x ∷ xs) ≡ 1 + total n xs
-unfolding total
-total-within zero x xs lt = absurd (omega arith)
-total-within (suc n) x xs lt = at (total-within n x xs) (x == n) refl
-  where
-    at : (x < n → total n (x ∷ xs) ≡ 1 + total n xs) → (b : Bool) → (x == n) ≡ b → cond b (1 + times n xs) (times n xs) + total n (x ∷ xs) ≡ 1 + (times n xs + total n xs)
-    at rest true e = let same : x ≡ n = eqb-true x n e in let past : total n (x ∷ xs) ≡ total n xs = total-past n x xs (omega (arith, same)) in omega (arith, past)
-    at rest false e = elim (cases_lt x n) [
-      | inl less ↦ let r : total n (x ∷ xs) ≡ 1 + total n xs = rest less in omega (arith, r)
-      | inr more ↦ absurd (cannot (omega arith) e)
-    ]
-      where
-        cannot : x ≡ n → (x == n) ≡ false → ⊥
-        cannot same not_equal = both_ways (x == n) not_equal (eq-eqb x n same)
-
-total-is : (n : ℕ) (ns : List ℕ) → All (λ a. a < n) ns → total n ns ≡ length ns
-total-is n [] all = total-nil n
-total-is n (x ∷ ns) all =
-    let one : total n (x ∷ ns) ≡ 1 + total n ns = total-within n x ns (All-head (λ a. a < n) x ns all) in
-    let rest : total n ns ≡ length ns = total-is n ns (All-tail (λ a. a < n) x ns all) in
-    let size : length (x ∷ ns) ≡ suc (length ns) = refl in
-    omega (arith, one, rest, size)
-
-total-most : (n : ℕ) (ns : List ℕ) → ((a : ℕ) → times a ns ≤ 1) → total n ns ≤ n
-unfolding total
-total-most zero ns once = omega arith
-total-most (suc n) ns once = let rest : total n ns ≤ n = total-most n ns once in let one : times n ns ≤ 1 = once n in omega (arith, rest, one)
+below_all : (n : ℕ) (ns : List ℕ) → All (λ a. a < n) ns → below n ns ≡ length ns
+below_all n [] all = refl
+below_all n (x ∷ xs) all =
+    let kept = ap {B = ℕ} (λ b. cond b (1 + below n xs) (below n xs)) (lt-ltb x n (All-head (λ a. a < n) x xs all)) in
+    omega (arith, kept, below_all n xs (All-tail (λ a. a < n) x xs all))
 
 -- numbers below a number, each at most once, are no more than that
 pub no_more : (n : ℕ) (ns : List ℕ) → All (λ a. a < n) ns → ((a : ℕ) → times a ns ≤ 1) → length ns ≤ n
-no_more n ns all once = let is = total-is n ns all in let most = total-most n ns once in omega (arith, is, most)
+no_more n ns all once = let most = few n in omega (arith, below_all n ns all, most)
+  where
+    few : (n : ℕ) → below n ns ≤ n
+    few zero = omega (arith, below_none ns)
+    few (suc n) = let rest = few n in omega (arith, rest, below_next n ns, once n)
 
 module _ (places ns : List ℕ) (count : ℕ) (size : length places ≡ count) (all : All (λ a. a < count) ns) (once : (node : ℕ) → count_by (λ n. n == node) ns ≤ 1) where
   -- one node more has its place

@@ -1,11 +1,11 @@
 -- Rising numbers: each comes once, at its own place, and they are one list.
-use Rattle.std.proofs.Common.{◌≡◌, ℕ, zero, suc, ◌+◌, ◌-◌, min, ◌<◌, ◌≤◌, ◌==◌, Bool, true, false, cond, Some, List, [], ◌∷◌, length, get_or, refl, sym, ap, ◌∙◌, subst, arith, inl, inr}
-use Rattle.std.specs.{Prelude.{slice_get, Contains, Err}, List.Sorted.{IsStrictlyIncreasing, IsStrictlySortedBy, IsBinarySearchResult}, Ordering.{nat_cmp}, declared.cmp.Ordering.TheVariants.{Equal}}
+use Rattle.std.proofs.Common.{◌≡◌, ℕ, zero, suc, ◌+◌, ◌-◌, min, ◌<◌, ◌≤◌, ◌==◌, Bool, true, false, cond, Some, List, [], ◌∷◌, length, get_or, slice_index, refl, sym, ap, ◌∙◌, arith, inl, inr}
+use Rattle.std.specs.{Prelude.{slice_get, Contains}, List.Sorted.{IsStrictlyIncreasing, IsStrictlySortedBy}, Ordering.{nat_cmp}}
+use Rattle.std.proofs.lemmas.{Bool.{cases_order}, Map.Keys.{below_from_sorted, non_decreasing_from_sorted, sorted_from_strictly_increasing, sorted_tail}, Option.{slice_get-get_or, slice_get_within, get_or_from_slice_get}}
 use Rattle.lab_history.specs.Version.{place_in}
-use Rattle.std.proofs.lemmas.{Bool.{eqb-true, cases_lt}, Map.Keys.{below_from_sorted, non_decreasing_from_sorted, sorted_from_strictly_increasing, sorted_tail}, Cmp.{ranked}, List.Sorted.{searched}, Option.{slice_get-get_or, slice_get_within, get_or_from_slice_get}}
 use Rattle.lab_order.specs.Order.{position}
 use Rattle.lab_judge.proofs.Orders.{at_position}
-use Rattle.lab_deps.proofs.Places.{times, times_here, at_times, placed}
+use Rattle.lab_deps.proofs.Places.{times, times_here, at_times, placed, at_most_once as once_of_places}
 
 -- what a list contains stands in it
 pub contained : (ns : List ℕ) (n : ℕ) → Contains ns n → 1 ≤ times n ns
@@ -22,49 +22,27 @@ stands ns n h = at_position ns n (contained ns n h)
 pub position_within : (ns : List ℕ) (n : ℕ) → Contains ns n → position ns n < length ns
 position_within ns n h = slice_get_within ns (position ns n) n (stands ns n h)
 
--- of rising numbers each comes at most once
-once : (ns : List ℕ) → IsStrictlySortedBy nat_cmp ns → (n : ℕ) → times n ns ≤ 1
-once [] up n = omega arith
-once (m ∷ ms) up n = at (once ms (sorted_tail nat_cmp m ms up) n) (m == n) refl
-  where
-    again : m ≡ n → 0 < times n ms → ⊥
-    again e some =
-        let p : (p : ℕ) × (place_in ms n ≡ Some (suc p)) × (slice_get ms p ≡ Some n) = placed ms n (omega arith) in
-        let lt : p.0 < length ms = slice_get_within ms p.0 n p.2 in
-        let less : m < get_or ms p.0 0 = below_from_sorted (m ∷ ms) 0 (suc p.0) 0 up (omega arith) (omega arith) in
-        let is : get_or ms p.0 0 ≡ n = get_or_from_slice_get ms p.0 n 0 p.2 in
-        omega arith
-
-    at : times n ms ≤ 1 → (b : Bool) → (m == n) ≡ b → cond b (1 + times n ms) (times n ms) ≤ 1
-    at rest true e = elim (cases_lt 0 (times n ms)) [ inl some ↦ absurd (again (eqb-true m n e) some) | inr none ↦ omega arith ]
-    at rest false e = rest
+-- what stands at a place of a list
+pub read : (ns : List ℕ) (a n : ℕ) → slice_get ns a ≡ Some n → slice_index ns a ≡ n
+read ns a n h = get_or_from_slice_get ns a n 0 h
 
 module _ (ns : List ℕ) (up : IsStrictlyIncreasing ns) where
+  -- no number is at a later place too
+  apart : (p q n : ℕ) → slice_get ns p ≡ Some n → slice_get ns q ≡ Some n → p < q → ⊥
+  apart p q n h k l =
+      let rise = below_from_sorted ns p q 0 (sorted_from_strictly_increasing ns up) l (slice_get_within ns q n k) in
+      omega (arith, rise, read ns p n h, read ns q n k)
+
   -- equal numbers have one place
   one_place : (p q n : ℕ) → slice_get ns p ≡ Some n → slice_get ns q ≡ Some n → p ≡ q
-  one_place p q n h k =
-      let lp : p < length ns = slice_get_within ns p n h in
-      let lq : q < length ns = slice_get_within ns q n k in
-      let ep : get_or ns p 0 ≡ n = get_or_from_slice_get ns p n 0 h in
-      let eq : get_or ns q 0 ≡ n = get_or_from_slice_get ns q n 0 k in
-      elim (cases_lt p q) [
-        | inl l ↦ let b = below_from_sorted ns p q 0 (sorted_from_strictly_increasing ns up) l lq in absurd (omega (arith, b, ep, eq))
-        | inr ge ↦ elim (cases_lt q p) [
-          | inl l ↦ let b = below_from_sorted ns q p 0 (sorted_from_strictly_increasing ns up) l lp in absurd (omega (arith, b, ep, eq))
-          | inr le ↦ omega (arith, ge, le)
-        ]
-      ]
+  one_place p q n h k = elim (cases_order p q) [ inl same ↦ same | inr (inl l) ↦ absurd (apart p q n h k l) | inr (inr l) ↦ absurd (apart q p n k h l) ]
 
   -- the place where a number stands is its position
   pub at_its_place : (p n : ℕ) → slice_get ns p ≡ Some n → position ns n ≡ p
   at_its_place p n h = one_place (position ns n) p n (at_position ns n (at_times ns p n h)) h
 
   pub at_most_once : (n : ℕ) → times n ns ≤ 1
-  at_most_once n = once ns (sorted_from_strictly_increasing ns up) n
-
--- rising numbers don't fall
-non_decreasing : (ns : List ℕ) → IsStrictlyIncreasing ns → (i j : ℕ) → i ≤ j → j < length ns → get_or ns i 0 ≤ get_or ns j 0
-non_decreasing ns up i j le lt = non_decreasing_from_sorted ns (sorted_from_strictly_increasing ns up) i j 0 le lt
+  at_most_once n = once_of_places ns n (λ p q h k. one_place p q n h k)
 
 -- the last of rising numbers is at least as much as there are before it
 up_to : (ns : List ℕ) → IsStrictlyIncreasing ns → (k : ℕ) → k < length ns → k ≤ get_or ns k 0
@@ -73,27 +51,6 @@ up_to ns up (suc k) lt =
     let before : k ≤ get_or ns k 0 = up_to ns up k (omega arith) in
     let less : get_or ns k 0 < get_or ns (suc k) 0 = below_from_sorted ns k (suc k) 0 (sorted_from_strictly_increasing ns up) (omega arith) lt in
     omega arith
-
-module _ (items now shown : List ℕ) (is : items ≡ now) (view : shown ≡ items) (up : IsStrictlyIncreasing items) (number place : ℕ) where
-  -- what a search finds in rising numbers stands at its position
-  pub searched_place : place < length shown → ((d : ℕ) → nat_cmp (get_or shown place d) number ≡ Equal) → place ≡ position now number
-  searched_place lt found =
-      let same : get_or shown place number ≡ number = ranked (get_or shown place number) number Equal (sym (found number)) in
-      let here : slice_get items place ≡ Some number = ap (λ ns. slice_get ns place) (sym view) ∙ slice_get-get_or shown place number lt ∙ ap Some same in
-      sym (ap (λ ns. position ns number) (sym is) ∙ at_its_place items up place number here)
-
-  -- and what it doesn't find isn't there
-  pub searched_nowhere : IsBinarySearchResult (λ y. nat_cmp y number) shown (Err place) → Contains now number → ⊥
-  searched_nowhere point (k, lt, e) =
-      let rises : IsStrictlyIncreasing shown = subst IsStrictlyIncreasing (sym view) up in
-      let between : (place ≤ length shown) × ((k : ℕ) → k < place → get_or shown k 0 < number) × ((k : ℕ) → place ≤ k → k < length shown → number < get_or shown k 0)
-      = searched shown number (Err place) point (non_decreasing shown rises) in
-      let size : length shown ≡ length now = ap length (view ∙ is) in
-      let there : get_or shown k 0 ≡ number = ap (λ ns. get_or ns k 0) (view ∙ is) ∙ get_or_from_slice_get now k number 0 (slice_get-get_or now k number lt ∙ ap Some e) in
-      elim (cases_lt k place) [
-        | inl l ↦ let b = between.1 k l in omega (arith, b, there)
-        | inr ge ↦ let b = between.2 k ge (omega (arith, lt, size)) in omega (arith, b, there)
-      ]
 
 -- how many rising numbers there are
 pub how_many : (ns : List ℕ) (last found : ℕ) → IsStrictlyIncreasing ns → slice_get ns (length ns - 1) ≡ Some last → found ≡ min (length ns) (last + 1) → found ≡ length ns

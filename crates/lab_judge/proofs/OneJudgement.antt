@@ -1,20 +1,13 @@
 -- A history has one judgement.
-use Rattle.std.proofs.Common.{◌≡◌, ℕ, zero, suc, ◌<◌, Bool, true, false, List, [], ◌∷◌, length, inr, refl, sym, ap, ◌∙◌, subst, arith}
+use Rattle.std.{proofs.{Common.{◌≡◌, ℕ, zero, suc, ◌<◌, Bool, true, false, List, length, inr, refl, sym, ap, ◌∙◌, subst, arith}, lemmas.{List.{same_lists}, Option.{slice_get-get_or}}}, specs.Prelude.{unwrap_or}}
 use Rattle.lab_history.specs.History.{History}
 use Rattle.lab_table.specs.Row.{Row}
-use Rattle.lab_deps.proofs.FaultOrders.{one_of_kind}
-use Rattle.lab_deps.specs.FaultKinds.{parts_of}
-use Rattle.lab_deps.specs.FaultOrder.{IsFirstRead}
-use Rattle.lab_deps.specs.KindSets.{is_any, is_write, is_flow, is_anti, is_item_anti}
-use Rattle.lab_deps.specs.Refusal.{is_uncommitted_read}
-use Rattle.lab_deps.specs.Soundness.{Stands}
+use Rattle.lab_deps.{proofs.FaultOrders.{one_of_kind}, specs.{FaultKinds.{parts_of}, FaultOrder.{IsFirstRead}, KindSets.{is_any, is_write, is_flow, is_anti, is_item_anti}, Refusal.{is_uncommitted_read}, Soundness.{Stands}}}
 use Rattle.lab_deps.specs.declared.{edge.Edge.{Edge}, fault.{LocalFault.{LocalFault, TheVariants.{AbortedRead, IntermediateRead}}, FaultParts.{FaultParts}}}
 use Rattle.lab_deps.specs.declared.fault.FaultParts.TheVariants as parts
-use Rattle.lab_judge.specs.Judgement.{FindsWalk, FindsFault, JudgesAll, JudgesReads, JudgesNothing, JudgesAtRead, Judges, IsExactJudgement}
-use Rattle.lab_judge.specs.LeastWalks.{FindsDue, FindsDueWalks}
+use Rattle.lab_judge.specs.{Judgement.{FindsWalk, FindsFault, JudgesAll, JudgesReads, JudgesNothing, JudgesAtRead, Judges, IsExactJudgement}, LeastWalks.{FindsDue, FindsDueWalks}, Phenomena.{IsG0, IsG1c, IsGSingle, IsG2Item, IsG2}}
 use Rattle.lab_judge.specs.Findings as found
 use Rattle.lab_judge.specs.declared.{report.{Finding.{Finding, TheVariants.{Absent, Walk, At, NotJudged}}, Grade.{Grade}, Report.{Report}}, serial.Serial.{Serial}}
-use Rattle.lab_judge.specs.Phenomena.{IsG0, IsG1c, IsGSingle, IsG2Item, IsG2}
 use Rattle.lab_judge.specs.declared.serial.Serial.TheVariants as serial
 use Rattle.lab_judge.proofs.{Agreeing.{serial_agrees, snapshot_agrees}, Grades.{one_grade}, OneWalk.{one_back_walk}, OneOpenedRound.{one_opened_round}}
 
@@ -62,13 +55,8 @@ one_read h made agrees (At n k row) NotJudged p q = absurd q
 
 -- lists of as many findings that have the same at each place are one
 same_by : (n : ℕ) (p q : List Finding) → length p ≡ n → length q ≡ n → ((k : ℕ) → k < n → found.finding_at k p ≡ found.finding_at k q) → p ≡ q
-same_by zero [] [] l m same = refl
-same_by zero [] (y ∷ q) l m same = absurd (omega (arith, m))
-same_by zero (x ∷ p) q l m same = absurd (omega (arith, l))
-same_by (suc n) [] q l m same = absurd (omega (arith, l))
-same_by (suc n) (x ∷ p) [] l m same = absurd (omega (arith, m))
-same_by (suc n) (x ∷ p) (y ∷ q) l m same =
-    ap (λ f. f ∷ p) (same 0 (omega arith)) ∙ ap (λ fs. y ∷ fs) (same_by n p q (omega (arith, l)) (omega (arith, m)) (λ k lt. same (suc k) (omega (arith, lt))))
+same_by n p q l m same = same_lists p q (l ∙ sym m) (λ k x lt.
+    sym (ap (λ o. unwrap_or o NotJudged) (slice_get-get_or p k x lt)) ∙ same k (omega (arith, lt, l)) ∙ ap (λ o. unwrap_or o NotJudged) (slice_get-get_or q k x (omega (arith, lt, l, m))))
 
 module _ (h : History) (p q : List Finding) (a b : Grade) (d : FindsDueWalks h p) (e : FindsDueWalks h q) where
   -- seven findings that are the same one by one

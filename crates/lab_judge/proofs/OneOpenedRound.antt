@@ -1,26 +1,18 @@
 -- Of the walks that begin with a first anti-dependency a history has one of each kind.
-use Rattle.std.{proofs.{Common.{◌≡◌, ℕ, ◌<◌, ◌≤◌, Bool, List, [], ◌∷◌, ◌++◌, drop, get_or, refl, sym, ap, ◌∙◌, subst, arith}, lemmas.List.Elements.{All-head, All-tail}}, specs.List.{All}}
+use Rattle.std.{proofs.{Common.{◌≡◌, ℕ, ◌<◌, ◌≤◌, Bool, List, [], ◌∷◌, ◌++◌, refl, sym, ap, ◌∙◌, subst, arith}, lemmas.List.Elements.{All-head, All-tail, All-contains, Contains-append_right}}, specs.List.{All}}
 use Rattle.lab_order.{specs.{Arrows.{Arrows}, Order.{position}, Path.{IsShortestPath}}, proofs.{Least.{one_least}, SameGraphs.{HasArrowsOf, path_in, least_path_in}}}
 use Rattle.lab_history.specs.History.{History}
 use Rattle.lab_deps.specs.declared.edge.{Edge.{Edge}, Kind.{Kind}}
-use Rattle.lab_judge.{specs.{LeastWalks.{IsEdgeGraph, GoesBy, IsWayBack, IsFirstOpening, IsTurnToLeast, IsOpenedRound}, Openings.{IsOpening}}, proofs.{LeastEdges.{neither_less, one_along}, OneWalk.{one_committed, same_arrows}}}
+use Rattle.lab_judge.{specs.{LeastWalks.{IsEdgeGraph, GoesBy, IsWayBack, IsFirstOpening, IsTurnToLeast, IsOpenedRound}, Openings.{IsOpening}}, proofs.{LeastEdges.{neither_less, one_along}, Suffixes.{head_same, tail_same}, OneWalk.{one_committed, same_arrows}}}
 
 module _ (g k : Arrows) (more : HasArrowsOf k g) where
   -- what opens a walk does so where there are more arrows
   opening_in : (opening : Kind → Bool) (txns : List ℕ) (e : Edge) → IsOpening opening g txns e → IsOpening opening k txns e
   opening_in opening txns e (opens, (path, is)) = (opens, (path, path_in g k more (position txns e.to) (position txns e.from) path is))
 
--- the first and the rest of a list
-heads : (x y : Edge) (xs ys : List Edge) → x ∷ xs ≡ y ∷ ys → x ≡ y
-heads x y xs ys same = ap (λ l. get_or l 0 x) same
-
-tails : (x y : Edge) (xs ys : List Edge) → x ∷ xs ≡ y ∷ ys → xs ≡ ys
-tails x y xs ys same = ap (drop 1) same
-
 -- what holds of all of a list holds of the first behind its front
 behind_front : (P : Edge → Type 0) (front : List Edge) (e : Edge) (rest : List Edge) → All P (front ++ e ∷ rest) → P e
-behind_front P [] e rest all = All-head P e rest all
-behind_front P (x ∷ front) e rest all = behind_front P front e rest (All-tail P x (front ++ e ∷ rest) all)
+behind_front P front e rest all = All-contains P (front ++ e ∷ rest) e all (Contains-append_right front (e ∷ rest) e (0, omega arith, refl))
 
 -- edges are cut in one way before the first of those from the least transaction
 cut_once : (f : List Edge) (x : Edge) (r g : List Edge) (y : Edge) (s : List Edge) → f ++ x ∷ r ≡ g ++ y ∷ s
@@ -28,18 +20,18 @@ cut_once : (f : List Edge) (x : Edge) (r g : List Edge) (y : Edge) (s : List Edg
 cut_once [] x r [] y s same p q u v = (refl, same)
 cut_once [] x r (b ∷ g) y s same p q u v =
     let less : y.from < b.from = All-head (λ e. y.from < e.from) b g u in
-    let is : x.from ≡ b.from = ap (λ e. e.from) (heads x b r (g ++ y ∷ s) same) in
-    let low : x.from ≤ y.from = behind_front (λ e. x.from ≤ e.from) g y s (subst (All (λ e. x.from ≤ e.from)) (tails x b r (g ++ y ∷ s) same) q) in
+    let is : x.from ≡ b.from = ap (λ e. e.from) (head_same x b r (g ++ y ∷ s) same) in
+    let low : x.from ≤ y.from = behind_front (λ e. x.from ≤ e.from) g y s (subst (All (λ e. x.from ≤ e.from)) (tail_same x b r (g ++ y ∷ s) same) q) in
     absurd (omega (arith, less, is, low))
 cut_once (a ∷ f) x r [] y s same p q u v =
     let less : x.from < a.from = All-head (λ e. x.from < e.from) a f p in
-    let is : a.from ≡ y.from = ap (λ e. e.from) (heads a y (f ++ x ∷ r) s same) in
-    let low : y.from ≤ x.from = behind_front (λ e. y.from ≤ e.from) f x r (subst (All (λ e. y.from ≤ e.from)) (sym (tails a y (f ++ x ∷ r) s same)) v) in
+    let is : a.from ≡ y.from = ap (λ e. e.from) (head_same a y (f ++ x ∷ r) s same) in
+    let low : y.from ≤ x.from = behind_front (λ e. y.from ≤ e.from) f x r (subst (All (λ e. y.from ≤ e.from)) (sym (tail_same a y (f ++ x ∷ r) s same)) v) in
     absurd (omega (arith, less, is, low))
 cut_once (a ∷ f) x r (b ∷ g) y s same p q u v =
     let rest : (f ≡ g) × (x ∷ r ≡ y ∷ s)
-    = cut_once f x r g y s (tails a b (f ++ x ∷ r) (g ++ y ∷ s) same) (All-tail (λ e. x.from < e.from) a f p) q (All-tail (λ e. y.from < e.from) b g u) v in
-    (ap (λ e. e ∷ f) (heads a b (f ++ x ∷ r) (g ++ y ∷ s) same) ∙ ap (λ es. b ∷ es) rest.0, rest.1)
+    = cut_once f x r g y s (tail_same a b (f ++ x ∷ r) (g ++ y ∷ s) same) (All-tail (λ e. x.from < e.from) a f p) q (All-tail (λ e. y.from < e.from) b g u) v in
+    (ap (λ e. e ∷ f) (head_same a b (f ++ x ∷ r) (g ++ y ∷ s) same) ∙ ap (λ es. b ∷ es) rest.0, rest.1)
 
 -- a round is turned to its least transaction in one way
 one_turn : (round walk other : List Edge) → IsTurnToLeast round walk → IsTurnToLeast round other → walk ≡ other

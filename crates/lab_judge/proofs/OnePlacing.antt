@@ -1,25 +1,26 @@
 -- There is one least placing of the points of a history.
-use Rattle.std.{proofs.{Common.{◌≡◌, ◌⊎◌, suc, List, [], ◌∷◌, length, get_or, map, drop, refl, sym, ap, ◌∙◌, subst, arith, inl, inr}, lemmas.{Bool.{cases_lt, cases_order}, Map.Keys.{sorted_from_strictly_increasing}}}, specs.Prelude.{Contains}}
+use Rattle.std.{proofs.{Common.{◌≡◌, ◌⊎◌, suc, List, [], ◌∷◌, length, get_or, map, drop, refl, sym, ap, ◌∙◌, subst, arith, inl, inr}, lemmas.Bool.{cases_order}}, specs.Prelude.{Contains}}
 use Rattle.lab_order.proofs.Least.{one_least_by}
 use Rattle.lab_history.specs.History.{History}
-use Rattle.lab_judge.{specs.{LeastPlaces.{IsLower, IsPointOrder, IsLeastPointOrder, ArePlacedAlong, place_in}, Runs.{HoldsEachOnce, Span}, declared.places.Point.{Point, TheVariants.{Start, Commit}}}, proofs.{Numbers.{one_rising}, Orders.{times_is}}}
+use Rattle.lab_judge.{specs.{LeastPlaces.{label, IsLower, IsPointOrder, IsLeastPointOrder, ArePlacedAlong, place_in}, Runs.{HoldsEachOnce, Span}, declared.places.Point.{Point, TheVariants.{Start, Commit}}}, proofs.OneWalk.{one_committed}}
+
+-- points of one label are one
+pub one_label : (p q : Point) → label p ≡ label q → p ≡ q
+one_label (Start m) (Start n) e = ap Start (omega (arith, e))
+one_label (Start m) (Commit n) e = absurd (omega (arith, e))
+one_label (Commit m) (Start n) e = absurd (omega (arith, e))
+one_label (Commit m) (Commit n) e = ap Commit (omega (arith, e))
 
 -- of two points one at most is lower
 pub not_both : (p q : Point) → IsLower p q → IsLower q p → ⊥
-not_both (Start m) (Start n) l k = omega (arith, l, k)
-not_both (Start m) (Commit n) l k = omega (arith, l, k)
-not_both (Commit m) (Start n) l k = omega (arith, l, k)
-not_both (Commit m) (Commit n) l k = omega (arith, l, k)
+not_both p q l k = omega (arith, l, k)
 
 -- and of two that aren't one, one is
 pub lower_cases : (p q : Point) → (p ≡ q) ⊎ IsLower p q ⊎ IsLower q p
-lower_cases (Start m) (Start n) = elim (cases_order m n) [ inl same ↦ inl (ap Start same) | inr o ↦ inr o ]
-lower_cases (Start m) (Commit n) = elim (cases_lt n m) [ inl less ↦ inr (inr less) | inr ge ↦ inr (inl ge) ]
-lower_cases (Commit m) (Start n) = elim (cases_lt m n) [ inl less ↦ inr (inl less) | inr ge ↦ inr (inr ge) ]
-lower_cases (Commit m) (Commit n) = elim (cases_order m n) [ inl same ↦ inl (ap Commit same) | inr o ↦ inr o ]
+lower_cases p q = elim (cases_order (label p) (label q)) [ inl same ↦ inl (one_label p q same) | inr o ↦ inr o ]
 
 -- a span has its places along an order
-abbrev IsPlaced : List Point → Span → Type 0
+abbrev pub IsPlaced : List Point → Span → Type 0
 IsPlaced points s = (s.start ≡ place_in points (Start s.txn)) × (s.commit ≡ place_in points (Commit s.txn))
 
 one_span : (points : List Point) (s t : Span) → s.txn ≡ t.txn → IsPlaced points s → IsPlaced points t → s ≡ t
@@ -47,6 +48,5 @@ one_least_placing h one other a b (ps, l, placed_one) (qs, k, placed_other) =
     let same : ps ≡ qs = one_least_by IsLower not_both (IsPointOrder h) ps qs l k in
     let along : ArePlacedAlong ps other = subst (λ points. ArePlacedAlong points other) (sym same) placed_other in
     one_placing ps one other
-    (one_rising (map (λ s. s.txn) one) (map (λ s. s.txn) other) (sorted_from_strictly_increasing (map (λ s. s.txn) one) placed_one.rising)
-    (sorted_from_strictly_increasing (map (λ s. s.txn) other) along.rising)
-    (λ n. times_is h (map (λ s. s.txn) one) a n ∙ sym (times_is h (map (λ s. s.txn) other) b n))) (λ s c. placed_one.placed s c) (λ s c. along.placed s c)
+    (one_committed h (map (λ s. s.txn) one) (map (λ s. s.txn) other) (record { each_once = a; rising = placed_one.rising }) (record { each_once = b; rising = along.rising }))
+    (λ s c. placed_one.placed s c) (λ s c. along.placed s c)

@@ -1,33 +1,18 @@
 -- Starts and commits are labels of the nodes of their graph.
-use Rattle.std.proofs.{Common.{◌≡◌, ℕ, ◌*◌, ◌/◌, ◌%◌, ◌<◌, ◌≤◌, Bool, true, List, length, map, nat_lt, slice_index, refl, sym, ap, ◌∙◌, subst, arith, inl, inr}, lemmas.Bool.{eqb-true, eq-eqb, both_ways, cases_lt, cases_order, ltb-true, lt-ltb}}
-use Rattle.std.specs.{Prelude.{◌↔◌, Contains, Decides}, List.Sorted.{IsStrictlyIncreasing}}
+use Rattle.std.proofs.{Common.{◌≡◌, ℕ, ◌+◌, ◌*◌, ◌/◌, ◌%◌, ◌<◌, ◌==◌, Bool, true, false, cond, List, length, map, nat_lt, slice_index, refl, sym, ap, ◌∙◌, subst, arith, inl, inr}, lemmas.Bool.{eqb-true, eqb-false, cases_lt, cases_order, ltb-true, lt-ltb, Decides.{Decides-eqb, Decides-like}}}
+use Rattle.std.specs.{Prelude.{Decides}, List.Sorted.{IsStrictlyIncreasing}}
 use Rattle.lab_order.specs.Arrows as arrows
 use Rattle.lab_order.specs.{Arrows.{Arrows, nodes_of, IsGraph}, Knots.{IsBackCircle}, Least.{IsLess, IsLeast}, Order.{position}}
 use Rattle.lab_order.specs.Back as back
 use Rattle.lab_order.specs.Order as order
 use Rattle.lab_history.specs.{History.{History}, Version.{outcome_of}}
-use Rattle.lab_deps.{specs.{Edges.{IsEdge}, Soundness.{has_committed}, declared.edge.Edge.{Edge}}, proofs.Found.{committed as is_committed}}
-use Rattle.lab_judge.specs.{LeastPlaces.{txn_of, is_point, IsLower, place_in, IsPointOrder, IsLeastPointOrder}, PlaceGraphs.{start_node, commit_node, point_at, IsPlaceGraph}, Places.{IsArrow, IsCircle}, Runs.{HoldsEachOnce}, declared.places.Point.{Point, TheVariants.{Start, Commit}}}
-use Rattle.lab_judge.proofs.GraphNodes.{ends as node_ends, node_things, as_order}
-use Rattle.lab_judge.proofs.LabelledKnots.{circle_label, ring_of}
-use Rattle.lab_judge.proofs.Labels.{AreThings, AreLabels, labelled, not_after, place_is as place_of_label}
-use Rattle.lab_judge.proofs.OnePlacing.{not_both}
-use Rattle.lab_judge.proofs.PlaceNodes.{IsOfCommitted, ends, node_of, point_start, point_commit, of_both, point_again, arrow_is, has_it}
-use Rattle.lab_judge.proofs.SerialVerdicts as numbers
-
--- what is a point is the same
-same_point : (p q : Point) → is_point p q ≡ true → p ≡ q
-same_point (Start m) (Start n) h = ap Start (eqb-true m n h)
-same_point (Start m) (Commit n) h = absurd (both_ways _ refl h)
-same_point (Commit m) (Start n) h = absurd (both_ways _ refl h)
-same_point (Commit m) (Commit n) h = ap Commit (eqb-true m n h)
-
-is_itself : (p : Point) → is_point p p ≡ true
-is_itself (Start n) = eq-eqb n n refl
-is_itself (Commit n) = eq-eqb n n refl
+use Rattle.lab_deps.{specs.{KindSets.{is_any}, KindsBetween.{KindsBetween}, Soundness.{has_committed}}, proofs.Found.{committed as is_committed}}
+use Rattle.lab_judge.specs.{Graphs.{IsNetOf}, Joining.{start_node, commit_node}, LeastPlaces.{txn_of, label, is_point, IsLower, place_in, IsPointOrder, IsLeastPointOrder}, PlaceGraphs.{point_at, IsPlaceGraph}, Places.{IsArrow}, Runs.{HoldsEachOnce}, declared.places.Point.{Point, TheVariants.{Start, Commit}}}
+use Rattle.lab_judge.proofs.{GraphNodes.{ends as node_ends, node_things, as_order}, LabelledKnots.{circle_label}, Lists.{of_both}, Nets.{rises as numbers_rise, node_again as number_node, node_within as number_within, commits_at}}
+use Rattle.lab_judge.proofs.{Labels.{AreThings, AreLabels, labelled, not_after, place_is as place_of_label}, OnePlacing.{one_label, not_both}, PlaceNodes.{IsOfCommitted, ends, node_of, point_start, point_commit, point_again, arrow_is, has_it}}
 
 pub is_same : (p q : Point) → Decides (is_point p q) (p ≡ q)
-is_same p q = (same_point p q, λ e. subst (λ r. is_point p r ≡ true) e (is_itself p))
+is_same p q = Decides-like (is_point p q) (one_label p q) (ap label) (Decides-eqb (label p) (label q))
 
 -- the starts and commits of the committed transactions
 pub point_things : (h : History) → AreThings is_point place_in (λ p. has_committed (outcome_of h (txn_of p))) (IsArrow h)
@@ -45,44 +30,42 @@ by_half P at_start at_commit a = elim (cases_lt (a % 2) 1) [
 ]
 
 module _ (ns : List ℕ) (up : IsStrictlyIncreasing ns) where
-  -- no lesser node has a greater number
-  rises_or_same : (i j : ℕ) → i ≤ j → j < length ns → slice_index ns i ≤ slice_index ns j
-  rises_or_same i j l within = elim (cases_lt i j) [
-    | inl less ↦ let r = numbers.rises ns up i j less within in omega (arith, r)
-    | inr ge ↦ let same : i ≡ j = omega (arith, l, ge) in let e = ap (slice_index ns) same in omega (arith, e)
-  ]
+  label_at : (a : ℕ) → label (point_at ns a) ≡ 2 * slice_index ns (a / 2) + a % 2
+  label_at a = at (a % 2 == 0) refl
+    where
+      at : (b : Bool) → (a % 2 == 0) ≡ b → label (cond b (Start (slice_index ns (a / 2))) (Commit (slice_index ns (a / 2)))) ≡ 2 * slice_index ns (a / 2) + a % 2
+      at true e = let even = eqb-true (a % 2) 0 e in omega (arith, even)
+      at false e = let odd = eqb-false (a % 2) 0 e in omega (arith, odd)
 
   -- points are lower as their nodes are less
   lower : (a b : ℕ) → a < b → b < 2 * length ns → IsLower (point_at ns a) (point_at ns b)
-  lower = by_half (λ a. (b : ℕ) → a < b → b < 2 * length ns → IsLower (point_at ns a) (point_at ns b)) from_start from_commit
-    where
-      from_start : (i b : ℕ) → start_node i < b → b < 2 * length ns → IsLower (point_at ns (start_node i)) (point_at ns b)
-      from_start i = by_half (λ b. start_node i < b → b < 2 * length ns → IsLower (point_at ns (start_node i)) (point_at ns b))
-          (λ j l lt. of_both IsLower (sym (point_start ns i)) (sym (point_start ns j)) (numbers.rises ns up i j (omega (arith, l)) (omega (arith, lt))))
-          (λ j l lt. of_both IsLower (sym (point_start ns i)) (sym (point_commit ns j)) (rises_or_same i j (omega (arith, l)) (omega (arith, lt))))
-
-      from_commit : (i b : ℕ) → commit_node i < b → b < 2 * length ns → IsLower (point_at ns (commit_node i)) (point_at ns b)
-      from_commit i = by_half (λ b. commit_node i < b → b < 2 * length ns → IsLower (point_at ns (commit_node i)) (point_at ns b))
-          (λ j l lt. of_both IsLower (sym (point_commit ns i)) (sym (point_start ns j)) (numbers.rises ns up i j (omega (arith, l)) (omega (arith, lt))))
-          (λ j l lt. of_both IsLower (sym (point_commit ns i)) (sym (point_commit ns j)) (numbers.rises ns up i j (omega (arith, l)) (omega (arith, lt))))
+  lower a b l within = elim (cases_lt (a / 2) (b / 2)) [
+    | inl less ↦ let rise = numbers_rise ns up (a / 2) (b / 2) less (omega (arith, within)) in omega (arith, rise, label_at a, label_at b)
+    | inr ge ↦ let same : a / 2 ≡ b / 2 = omega (arith, l, ge) in omega (arith, l, same, ap (slice_index ns) same, label_at a, label_at b)
+  ]
 
   node_again : (a : ℕ) → a < 2 * length ns → node_of ns (point_at ns a) ≡ a
   node_again = by_half (λ a. a < 2 * length ns → node_of ns (point_at ns a) ≡ a)
-      (λ k lt. ap (node_of ns) (point_start ns k) ∙ ap start_node (numbers.node_again ns up k (omega (arith, lt))))
-      (λ k lt. ap (node_of ns) (point_commit ns k) ∙ ap commit_node (numbers.node_again ns up k (omega (arith, lt))))
+      (λ k lt. ap (node_of ns) (point_start ns k) ∙ ap start_node (number_node ns up k (omega (arith, lt))))
+      (λ k lt. ap (node_of ns) (point_commit ns k) ∙ ap commit_node (number_node ns up k (omega (arith, lt))))
 
 module _ (h : History) (ns : List ℕ) (once : HoldsEachOnce h ns) where
   pub node_within : (p : Point) → IsOfCommitted h p → node_of ns p < 2 * length ns
-  node_within (Start n) c = let l = numbers.node_within h ns once n c in omega (arith, l)
-  node_within (Commit n) c = let l = numbers.node_within h ns once n c in omega (arith, l)
+  node_within (Start n) c = let l = number_within h ns once n c in omega (arith, l)
+  node_within (Commit n) c = let l = number_within h ns once n c in omega (arith, l)
 
   point_there : (a : ℕ) → a < 2 * length ns → IsOfCommitted h (point_at ns a)
   point_there = by_half (λ a. a < 2 * length ns → IsOfCommitted h (point_at ns a))
-      (λ k lt. subst (IsOfCommitted h) (sym (point_start ns k)) (numbers.commits_at h ns once k (omega (arith, lt))))
-      (λ k lt. subst (IsOfCommitted h) (sym (point_commit ns k)) (numbers.commits_at h ns once k (omega (arith, lt))))
+      (λ k lt. subst (IsOfCommitted h) (sym (point_start ns k)) (commits_at h ns once k (omega (arith, lt))))
+      (λ k lt. subst (IsOfCommitted h) (sym (point_commit ns k)) (commits_at h ns once k (omega (arith, lt))))
 
-module _ (h : History) (ns : List ℕ) (up : IsStrictlyIncreasing ns) (once : HoldsEachOnce h ns) (es : List Edge) (exact : (e : Edge) → Contains es e ↔ IsEdge h e)
-    (graph : Arrows) (g : IsGraph graph) (is : IsPlaceGraph ns es graph) where
+module _ {h : History} {net : KindsBetween} (of : IsNetOf h is_any net) (graph : Arrows) (g : IsGraph graph) (is : IsPlaceGraph net graph) where
+  abbrev ns : List ℕ
+  ns = net.numbers
+
+  abbrev once : HoldsEachOnce h ns
+  once = of.committed.each_once
+
   abbrev there : Point → Bool
   there p = has_committed (outcome_of h (txn_of p))
 
@@ -96,14 +79,14 @@ module _ (h : History) (ns : List ℕ) (up : IsStrictlyIncreasing ns) (once : Ho
   labels = record {
     goes = λ a lt. ap has_committed (point_there h ns once a (inside a lt));
     comes = λ p t. lt-ltb (node_of ns p) (nodes_of graph) (subst (λ k. node_of ns p < k) (sym is.size) (node_within h ns once p (committed p t)));
-    back = λ a lt. node_again ns up a (inside a lt);
-    again = λ p t. point_again h ns once p (committed p t);
-    to = arrow_is h ns once es exact graph is;
-    from = has_it h ns once es exact graph is;
+    back = λ a lt. node_again ns of.committed.rising a (inside a lt);
+    again = λ p t. point_again of p (committed p t);
+    to = arrow_is of graph is;
+    from = has_it of graph is;
   }
 
   rises : (a b : ℕ) → nat_lt b (nodes_of graph) ≡ true → a < b → IsLower (point_at ns a) (point_at ns b)
-  rises a b lt less = lower ns up a b less (inside b lt)
+  rises a b lt less = lower ns of.committed.rising a b less (inside b lt)
 
   falls : (p q : Point) → there p ≡ true → there q ≡ true → IsLower p q → node_of ns p < node_of ns q
   falls p q tp tq less = elim (cases_order (node_of ns p) (node_of ns q)) [
@@ -136,11 +119,7 @@ module _ (h : History) (ns : List ℕ) (up : IsStrictlyIncreasing ns) (once : Ho
         (λ nodes n. l.least nodes (record { each_once = n.each_once; forward = n.forward })) others (record { each_once = o.each_once; forward = o.forward });
   }
 
-  -- a cycle of nodes is one of points
-  pub circle_is : (circle : List ℕ) → order.IsCircle graph circle → IsCircle h (map (point_at ns) circle)
-  circle_is circle c = ring_of (arrows.IsArrow graph) (IsArrow h) (point_at ns) labels.to circle c
-
-  -- and so is that on the way back from the least stuck node
+  -- a cycle on the way back from the least stuck node is one of points
   pub back_circle : (circle : List ℕ) → back.IsBackCircle graph circle → IsBackCircle IsLower (IsArrow h) (map (point_at ns) circle)
   back_circle circle k =
       circle_label (λ a. nat_lt a (nodes_of graph)) (arrows.IsArrow graph) there (IsArrow h) (point_at ns) (node_of ns) (node_ends graph g) (point_things h).ends labels IsLess IsLower rises falls

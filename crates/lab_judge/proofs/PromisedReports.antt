@@ -4,12 +4,10 @@ use Rattle.lab_table.specs.{Table.{Table}, Row.{Row}}
 use Rattle.lab_history.specs.History.{History}
 use Rattle.lab_engine.specs.{declared.event.Level.{Level}, RuleTable.{rules_of, keeps_reads, keeps_snapshots}, Recording.{IsLegalRecording}, RecordedLog.{RecordedLog, IsSoundRecord}, Log.{Past, past_of}}
 use Rattle.lab_deps.specs.{declared.{edge.Edge.{Edge}, fault.LocalFault.{LocalFault, TheVariants.{AbortedRead, IntermediateRead}}}, Soundness.{IsSound}}
-use Rattle.lab_judge.specs.Phenomena.{NoWalk, IsG0, NoG1}
+use Rattle.lab_judge.specs.{Phenomena.{NoWalk, IsG0, NoG1}, Judgement.{FindsWalk, FindsFault, JudgesAll, Judges, IsSerialVerdict, IsExactJudgement}, Promises.{KeepsBy, IsAbsent, PromisedBy, IsPromised}}
 use Rattle.lab_judge.specs.declared.{report.{Finding.{Finding, TheVariants.{Absent, Walk, At, NotJudged}}, Report.{Report}, Grade.{Grade}}, serial.Serial.{Serial}}
 use Rattle.lab_judge.specs.Findings as found
-use Rattle.lab_judge.specs.Judgement.{FindsWalk, FindsFault, JudgesAll, Judges, IsSerialVerdict, IsExactJudgement}
 use Rattle.lab_judge.specs.declared.serial.Serial.TheVariants as serial
-use Rattle.lab_judge.specs.Promises.{KeepsBy, IsAbsent, PromisedBy, IsPromised}
 use Rattle.lab_judge.proofs.{SoundRecordings.{is_sound}, ExactJudgements.{yes_exactly, placed_exactly}, KeptPromises.{keeps_promise}}
 
 absent_walk : (is_one : List Edge → Type 0) → NoWalk is_one → (found : Finding) → FindsWalk is_one found → IsAbsent found

@@ -1,21 +1,14 @@
 -- What the order of the graph of starts and commits says of the history.
-use Rattle.std.proofs.Common.{◌≡◌, ℕ, suc, ◌+◌, ◌<◌, ◌≤◌, ◌==◌, Bool, true, false, cond, List, [], ◌∷◌, get_or, map, slice_index, refl, sym, ap, ◌∙◌, subst, arith}
-use Rattle.std.specs.{Prelude.{◌↔◌, Contains, count_by}, List.{All, Sorted.{IsStrictlyIncreasing}}}
-use Rattle.std.proofs.lemmas.{Bool.{eqb-true}, List.{get_or-map, length-map, Elements.{All-head, All-tail, All-map, All-contains, Contains-get_or}, Sums.{sum_by-cons}}}
+use Rattle.std.proofs.{Common.{◌≡◌, ℕ, suc, ◌+◌, ◌<◌, ◌≤◌, ◌==◌, Bool, true, false, cond, List, [], ◌∷◌, get_or, map, slice_index, refl, sym, ap, ◌∙◌, subst, arith}, lemmas.{List.{map-id, Elements.{All-map, All-contains, Contains-get_or}, Sums.{sum_by-cons}}, Option.{slice_get-get_or}, Simd.{map-map}}}
+use Rattle.std.specs.{Prelude.{Contains, count_by}, List.{All, Sorted.{IsStrictlyIncreasing}}}
+use Rattle.lab_table.proofs.Members.{member_at}
 use Rattle.lab_order.specs.{Arrows.{Arrows, nodes_of, IsGraph}, Least.{IsLeast}, Order.{position}}
 use Rattle.lab_order.specs.Order as order
 use Rattle.lab_history.specs.{History.{History}, Version.{IsCommitted}}
-use Rattle.lab_deps.{specs.{Edges.{IsEdge}, Soundness.{IsSound, has_committed}, declared.edge.Edge.{Edge}}, proofs.Places.{times, times_count}}
-use Rattle.lab_judge.specs.Runs.{HoldsEachOnce, Span, all_places, IsSnapshotRun}
-use Rattle.lab_judge.specs.Places.{start_of, commit_of, place_of_point, IsForwardPlacing}
-use Rattle.lab_judge.specs.LeastPlaces.{is_point, place_in, IsPointOrder, IsLeastPointOrder, ArePlacedAlong}
-use Rattle.lab_judge.specs.PlaceGraphs.{IsPlaceGraph, point_at, span_in}
+use Rattle.lab_deps.{specs.{KindSets.{is_any}, KindsBetween.{KindsBetween}, Soundness.{has_committed}}, proofs.Places.{times_count, at_times}}
+use Rattle.lab_judge.specs.{Runs.{HoldsEachOnce, Span, all_places}, Places.{start_of, commit_of, place_of_point, IsForwardPlacing}, LeastPlaces.{is_point, place_in, IsPointOrder, IsLeastPointOrder, ArePlacedAlong}, Graphs.{IsNetOf}, PlaceGraphs.{IsPlaceGraph, point_at, span_in}}
 use Rattle.lab_judge.specs.declared.places.Point.{Point, TheVariants.{Start, Commit}}
-use Rattle.lab_judge.proofs.{GraphNodes.{in_order}, Numbers.{contained}, Orders.{at_most, committed_in, committed_once}, PlaceNodes.{IsOfCommitted, ends, node_of}, PlacesApart.{IsTold, owners, apart}, Placings.{is_snapshot}, PointNodes.{is_same, node_within, place_is, is_order, is_least}}
-
--- a span has its places along an order
-abbrev IsPlaced : List Point → Span → Type 0
-IsPlaced points s = (s.start ≡ place_in points (Start s.txn)) × (s.commit ≡ place_in points (Commit s.txn))
+use Rattle.lab_judge.proofs.{GraphNodes.{in_order}, Numbers.{contained}, OnePlacing.{IsPlaced}, Orders.{at_most, committed_in, committed_once}, PlaceNodes.{IsOfCommitted, ends, node_of}, PlacesApart.{IsTold, owners, owner_at, apart}, Placings.{find_span, places_of}, PointNodes.{is_same, node_within, place_is, is_least}}
 
 -- points of one place are one, where one of them is in the list
 one_point : (ps : List Point) (p q : Point) → 1 ≤ count_by (λ r. is_point r p) ps → place_in ps p ≡ place_in ps q → p ≡ q
@@ -30,27 +23,14 @@ one_point (r ∷ ps) p q some same =
     at rest false true e f some same = absurd (omega (arith, same))
     at rest false false e f some same = rest (omega (arith, some)) (omega (arith, same))
 
--- the places of a transaction among spans along an order
-places_are : (points : List Point) (ss : List Span) → All (IsPlaced points) ss → (n : ℕ) → 1 ≤ times n (owners ss)
-    → (start_of ss n ≡ place_in points (Start n)) × (commit_of ss n ≡ place_in points (Commit n))
-places_are points [] placed n some = absurd (omega arith)
-places_are points (s ∷ ss) placed n some = at (places_are points ss (All-tail (IsPlaced points) s ss placed) n) (s.txn == n) refl some
-  where
-    own : IsPlaced points s
-    own = All-head (IsPlaced points) s ss placed
-
-    at : (1 ≤ times n (owners ss) → (start_of ss n ≡ place_in points (Start n)) × (commit_of ss n ≡ place_in points (Commit n))) → (b : Bool) → (s.txn == n) ≡ b
-        → 1 ≤ cond b (1 + times n (owners ss)) (times n (owners ss))
-        → (cond b s.start (start_of ss n) ≡ place_in points (Start n)) × (cond b s.commit (commit_of ss n) ≡ place_in points (Commit n))
-    at rest true e some = let same = eqb-true s.txn n e in (own.0 ∙ ap (λ k. place_in points (Start k)) same, own.1 ∙ ap (λ k. place_in points (Commit k)) same)
-    at rest false e some = rest some
-
 -- the transactions of spans are those that they were made of
 numbers_are : (ns places ms : List ℕ) → owners (map (span_in ns places) ms) ≡ ms
-numbers_are ns places [] = refl
-numbers_are ns places (m ∷ ms) = ap (λ l. m ∷ l) (numbers_are ns places ms)
+numbers_are ns places ms = map-map (λ s. s.txn) (span_in ns places) ms ∙ map-id ms
 
-module _ (h : History) (points : List Point) (o : IsPointOrder h points) (ss : List Span) (once : HoldsEachOnce h (owners ss)) (placed : All (IsPlaced points) ss) where
+module _ (h : History) (points : List Point) (o : IsPointOrder h points) (ss : List Span) (once : HoldsEachOnce h (owners ss)) (along : ArePlacedAlong points ss) where
+  placed : All (IsPlaced points) ss
+  placed k d lt = along.placed (get_or ss k d) (Contains-get_or ss k d lt)
+
   -- a place tells the point that has it
   abbrev Tells : ℕ → Point → Type 0
   Tells x p = IsOfCommitted h p × (x ≡ place_in points p)
@@ -63,18 +43,25 @@ module _ (h : History) (points : List Point) (o : IsPointOrder h points) (ss : L
   told : All (IsTold Tells) ss
   told k d lt =
       let s = get_or ss k d in
-      let own : Contains (owners ss) s.txn = subst (Contains (owners ss)) (get_or-map (λ s. s.txn) ss k d 0 lt) (Contains-get_or (owners ss) k 0 (subst (λ n. k < n) (sym (length-map ss (λ s. s.txn))) lt)) in
-      let c : IsCommitted h s.txn = committed_in h (owners ss) once s.txn (contained (owners ss) s.txn own) in
+      let c : IsCommitted h s.txn = committed_in h (owners ss) once s.txn (at_times (owners ss) k s.txn (owner_at ss k s (slice_get-get_or ss k d lt))) in
       ((c, (placed k d lt).0), (c, (placed k d lt).1))
 
-  distinct : (x : ℕ) → count_by (λ p. p == x) (all_places ss) ≤ 1
+  -- so no place is of two points
+  pub distinct : (x : ℕ) → count_by (λ p. p == x) (all_places ss) ≤ 1
   distinct x = subst (λ k. k ≤ 1) (times_count x (all_places ss)) (apart Tells one ss told (at_most h (owners ss) once) x)
 
-  place_of : (p : Point) → IsOfCommitted h p → place_of_point ss p ≡ place_in points p
-  place_of (Start n) c = (places_are points ss placed n (omega (arith, committed_once h (owners ss) once n c))).0
-  place_of (Commit n) c = (places_are points ss placed n (omega (arith, committed_once h (owners ss) once n c))).1
+  span_of : (n : ℕ) → IsCommitted h n → (s : Span) × IsPlaced points s × (s.txn ≡ n) × (start_of ss s.txn ≡ s.start) × (commit_of ss s.txn ≡ s.commit)
+  span_of n c =
+      let s = find_span ss n (omega (arith, committed_once h (owners ss) once n c)) in
+      let are = places_of ss s.0 s.1 s.2 (at_most h (owners ss) once s.1.txn) in
+      (s.1, along.placed s.1 (member_at ss s.0 s.1 s.2), s.3, are.0, are.1)
 
-  forward : IsForwardPlacing h ss
+  place_of : (p : Point) → IsOfCommitted h p → place_of_point ss p ≡ place_in points p
+  place_of (Start n) c = let s = span_of n c in sym (ap (start_of ss) s.2) ∙ s.3 ∙ s.1.0 ∙ ap (λ k. place_in points (Start k)) s.2
+  place_of (Commit n) c = let s = span_of n c in sym (ap (commit_of ss) s.2) ∙ s.4 ∙ s.1.1 ∙ ap (λ k. place_in points (Commit k)) s.2
+
+  -- and every arrow points forward
+  pub forward : IsForwardPlacing h ss
   forward p q arrow =
       let both : IsOfCommitted h p × IsOfCommitted h q = ends h p q arrow in
       let from = place_of p both.0 in
@@ -82,48 +69,39 @@ module _ (h : History) (points : List Point) (o : IsPointOrder h points) (ss : L
       let less = o.forward p q arrow in
       omega (arith, from, to, less)
 
-module _ (h : History) (ns : List ℕ) (up : IsStrictlyIncreasing ns) (once : HoldsEachOnce h ns) (es : List Edge) (exact : (e : Edge) → Contains es e ↔ IsEdge h e)
-    (graph : Arrows) (g : IsGraph graph) (is : IsPlaceGraph ns es graph) (nodes : List ℕ) (l : IsLeast (order.IsOrder graph) nodes)
-    (places : List ℕ) (are : (node : ℕ) → Contains nodes node → slice_index places node ≡ position nodes node) (made : List Span) (same : made ≡ map (span_in ns places) ns) where
+module _ {h : History} {net : KindsBetween} (of : IsNetOf h is_any net) (graph : Arrows) (g : IsGraph graph) (is : IsPlaceGraph net graph) (nodes : List ℕ) (l : IsLeast (order.IsOrder graph) nodes)
+    (places : List ℕ) (are : (node : ℕ) → Contains nodes node → slice_index places node ≡ position nodes node) (made : List Span) (same : made ≡ map (span_in net.numbers places) net.numbers) where
+  abbrev ns : List ℕ
+  ns = net.numbers
+
   abbrev points : List Point
   points = map (point_at ns) nodes
 
   -- a point's node has the point's place
   own_place : (p : Point) → IsOfCommitted h p → slice_index places (node_of ns p) ≡ place_in points p
   own_place p c =
-      let lt : node_of ns p < nodes_of graph = subst (λ k. node_of ns p < k) (sym is.size) (node_within h ns once p c) in
-      are (node_of ns p) (in_order graph nodes l.is_one.each_once (node_of ns p) lt) ∙ sym (place_is h ns up once es exact graph g is nodes l.is_one p c)
+      let lt : node_of ns p < nodes_of graph = subst (λ k. node_of ns p < k) (sym is.size) (node_within h ns of.committed.each_once p c) in
+      are (node_of ns p) (in_order graph nodes l.is_one.each_once (node_of ns p) lt) ∙ sym (place_is of graph g is nodes l.is_one p c)
 
-  placed : All (IsPlaced points) made
-  placed = subst (All (IsPlaced points)) (sym same) (All-map (IsPlaced points) (span_in ns places) ns (λ k d lt. one (get_or ns k d) (Contains-get_or ns k d lt)))
+  made_placed : All (IsPlaced points) made
+  made_placed = subst (All (IsPlaced points)) (sym same) (All-map (IsPlaced points) (span_in ns places) ns (λ k d lt. one_of (get_or ns k d) (Contains-get_or ns k d lt)))
     where
-      one : (n : ℕ) → Contains ns n → IsPlaced points (span_in ns places n)
-      one n there = let c = committed_in h ns once n (contained ns n there) in (own_place (Start n) c, own_place (Commit n) c)
+      one_of : (n : ℕ) → Contains ns n → IsPlaced points (span_in ns places n)
+      one_of n there = let c = committed_in h ns of.committed.each_once n (contained ns n there) in (own_place (Start n) c, own_place (Commit n) c)
 
   numbers : owners made ≡ ns
   numbers = ap owners same ∙ numbers_are ns places ns
 
-  each_once : HoldsEachOnce h (owners made)
-  each_once = subst (HoldsEachOnce h) (sym numbers) once
-
-  ordered : IsPointOrder h points
-  ordered = is_order h ns up once es exact graph g is nodes l.is_one
-
-  -- the spans at these places rest on their law
-  pub rests : IsSound h → IsSound h × HoldsEachOnce h (map (λ s. s.txn) made) × ((x : ℕ) → count_by (λ p. p == x) (all_places made) ≤ 1) × IsForwardPlacing h made
-  rests sound = (sound, each_once, distinct h points ordered made each_once placed, forward h points ordered made each_once placed)
-
-  -- are a snapshot run
-  pub runs : IsSound h → IsSnapshotRun h made
-  runs sound = is_snapshot h sound made each_once (distinct h points ordered made each_once placed) (forward h points ordered made each_once placed)
-
-  -- and are those of the least order of points
-  pub least_placing : (points : List Point) × IsLeastPointOrder h points × ArePlacedAlong points made
-  least_placing = (
-    points,
-    is_least h ns up once es exact graph g is nodes l,
-    record {
-      rising = subst IsStrictlyIncreasing (sym numbers) up;
-      placed = λ s there. All-contains (IsPlaced points) made s placed there;
-    },
+  -- the spans at these places are those of the least order of points
+  pub due_places : HoldsEachOnce h (owners made) × ((points : List Point) × IsLeastPointOrder h points × ArePlacedAlong points made)
+  due_places = (
+    subst (HoldsEachOnce h) (sym numbers) of.committed.each_once,
+    (
+      points,
+      is_least of graph g is nodes l,
+      record {
+        rising = subst IsStrictlyIncreasing (sym numbers) of.committed.rising;
+        placed = λ s there. All-contains (IsPlaced points) made s made_placed there;
+      },
+    ),
   )

@@ -8,102 +8,81 @@ use Rattle.lab_engine.{specs.{declared.event.Level.{Level}, Log.{Past, Txn, comm
 use Rattle.lab_deps.specs.{Edges.{IsEdge, Depends, changes, SeesPlace, InstallsAt, Lists}, declared.edge.{Edge.{Edge}, Kind.{Kind, TheVariants.{Write, ItemRead, PredicateRead, ItemAnti, PredicateAnti}}}}
 use Rattle.lab_order.specs.Order.{position}
 use Rattle.lab_judge.specs.{LogOrders.{commit_order}, Places.{is_anti, IsForwardOrder}, Phenomena.{IsClosedWalk, NoWalk}, Runs.{IsSerialRun}, Stable.{StaysTrue, ReadsStable}}
-use Rattle.lab_judge.proofs.Suffixes.{suffix_of_suffix, same_suffix, head_same}
-use Rattle.lab_judge.proofs.Ranks.{rank-first, Installs}
-use Rattle.lab_judge.proofs.RecordedVersions.{installer_at, state_at-is}
-use Rattle.lab_judge.proofs.ViewedVersions.{SeenVersion, seen_by}
-use Rattle.lab_judge.proofs.CommittedSuffixes.{suffix_after, stand}
-use Rattle.lab_judge.proofs.SeenRanks.{place_of_seen, sees_rank, unseen, lists_match}
-use Rattle.lab_judge.proofs.AntiDependencies.{Follows, differ_none}
-use Rattle.lab_judge.proofs.CommitPositions.{position_is, each_once}
-use Rattle.lab_judge.proofs.CommitOrder.{flow_ahead}
-use Rattle.lab_judge.proofs.SoundRecordings.{is_sound}
-use Rattle.lab_judge.proofs.Orders.{is_serial}
-use Rattle.lab_judge.proofs.Excludes.{no_closed_walk}
+use Rattle.lab_judge.proofs.{Suffixes.{suffix_of_suffix, same_suffix, head_same}, Ranks.{rank-first, Installs}, RecordedVersions.{installer_at, state_at-is}, ViewedVersions.{SeenVersion, seen_by}, CommittedSuffixes.{suffix_after}, SeenRanks.{sees_rank, unseen, lists_match}}
+use Rattle.lab_judge.proofs.{AntiDependencies.{Follows, differ_none}, CommitPositions.{position_is, each_once}, CommitOrder.{flow_ahead}, SoundRecordings.{is_sound}, Orders.{is_serial}, Excludes.{no_closed_walk}}
 
 module _ {level : Level} {setup : Table} {past : Past} {h : History} (recorded : IsLegalRecording level setup past h) (row : Row) (op : Op) (v p from to k : ℕ)
-    (s : SeenVersion level setup past h from k op row) (stable : StaysTrue setup op.statement s.earlier s.base) (y : Installs row (commits past) p to) (other : from ≢ to)
-    (after : length s.base ≤ length y.earlier) where
+    (s : SeenVersion level setup past h from k op row) (stable : StaysTrue setup op.statement s.at.earlier s.base) (y : Installs row (commits past) p to) (other : from ≢ to)
+    (after : length s.base ≤ length y.at.earlier) where
   -- the writer, if it committed after what the operation saw and before the reader
   pub record Between : Type 0 where
     pub front : List Txn
     pub rest : List Txn
-    pub since_is : stable.since ≡ front ++ y.txn ∷ rest
-    pub earlier_is : y.earlier ≡ rest ++ s.base
+    pub since_is : stable.since ≡ front ++ y.at.txn ∷ rest
+    pub earlier_is : y.at.earlier ≡ rest ++ s.base
 
-  both : s.later ++ s.txn ∷ s.earlier ≡ y.later ++ y.txn ∷ y.earlier
-  both = sym s.txns_are ∙ y.txns_are
+  both : s.at.later ++ s.at.txn ∷ s.at.earlier ≡ y.at.later ++ y.at.txn ∷ y.at.earlier
+  both = sym s.at.txns_are ∙ y.at.txns_are
 
-  same_place : length y.earlier ≡ length s.earlier → ⊥
+  same_place : length y.at.earlier ≡ length s.at.earlier → ⊥
   same_place long =
-      let ends : s.txn ∷ s.earlier ≡ y.txn ∷ y.earlier = same_suffix s.later (s.txn ∷ s.earlier) y.later (y.txn ∷ y.earlier) both (ap suc (sym long)) in
-      other (sym s.number_is ∙ (ap (λ (t : Txn). t.no) (head_same s.txn y.txn s.earlier y.earlier ends) ∙ y.number_is))
+      let ends : s.at.txn ∷ s.at.earlier ≡ y.at.txn ∷ y.at.earlier = same_suffix s.at.later (s.at.txn ∷ s.at.earlier) y.at.later (y.at.txn ∷ y.at.earlier) both (ap suc (sym long)) in
+      other (sym s.at.number_is ∙ (ap (λ (t : Txn). t.no) (head_same s.at.txn y.at.txn s.at.earlier y.at.earlier ends) ∙ y.at.number_is))
 
-  between : length y.earlier < length s.earlier → Between
+  between : length y.at.earlier < length s.at.earlier → Between
   between short =
-      let reader : commits past ≡ (s.later ++ s.txn ∷ []) ++ s.earlier = (suffix_after (commits past) s.later s.txn s.earlier s.txns_are).1 in
-      let x = suffix_of_suffix y.later (y.txn ∷ y.earlier) (s.later ++ s.txn ∷ []) s.earlier (sym y.txns_are ∙ reader) (omega (arith, short)) in
-      let parts : stable.since ++ s.base ≡ (x.0 ++ y.txn ∷ []) ++ y.earlier = sym stable.since_is ∙ (x.1 ∙ sym (append_assoc x.0 (y.txn ∷ []) y.earlier)) in
-      let z = suffix_of_suffix stable.since s.base (x.0 ++ y.txn ∷ []) y.earlier parts (omega (arith, after)) in
-      record { front = x.0; rest = z.0; since_is = z.2 ∙ append_assoc x.0 (y.txn ∷ []) z.0; earlier_is = z.1 }
+      let reader : commits past ≡ (s.at.later ++ s.at.txn ∷ []) ++ s.at.earlier = (suffix_after (commits past) s.at.later s.at.txn s.at.earlier s.at.txns_are).1 in
+      let x = suffix_of_suffix y.at.later (y.at.txn ∷ y.at.earlier) (s.at.later ++ s.at.txn ∷ []) s.at.earlier (sym y.at.txns_are ∙ reader) (omega (arith, short)) in
+      let parts : stable.since ++ s.base ≡ (x.0 ++ y.at.txn ∷ []) ++ y.at.earlier = sym stable.since_is ∙ (x.1 ∙ sym (append_assoc x.0 (y.at.txn ∷ []) y.at.earlier)) in
+      let z = suffix_of_suffix stable.since s.base (x.0 ++ y.at.txn ∷ []) y.at.earlier parts (omega (arith, after)) in
+      record { front = x.0; rest = z.0; since_is = z.2 ∙ append_assoc x.0 (y.at.txn ∷ []) z.0; earlier_is = z.1 }
 
   -- then it changed nothing that the operation's statement matches
   unmatched : Between → (matches op.statement row (history.state_at h row p) ≡ false) × (matches op.statement row (history.state_at h row (suc p)) ≡ false)
   unmatched b =
-      let wrote = some_of (version_by y.txn row) y.wrote_it in
-      let clear = untouched_by setup op.statement b.front y.txn b.rest s.base row wrote.0
+      let wrote = some_of (version_by y.at.txn row) y.wrote_it in
+      let clear = untouched_by setup op.statement b.front y.at.txn b.rest s.base row wrote.0
       (subst (λ x. Untouched setup op.statement x s.base) b.since_is stable.untouched) wrote.1 in
       let old : history.state_at h row p ≡ (unwrap_or (last_installed (b.rest ++ s.base) row) (initial_version setup row)).state =
       ap (history.state_at h row) (sym y.place_is)
-      ∙ (state_at-is recorded row (y.later ++ y.txn ∷ []) y.earlier (suffix_after (commits past) y.later y.txn y.earlier y.txns_are).1
+      ∙ (state_at-is recorded row (y.at.later ++ y.at.txn ∷ []) y.at.earlier (suffix_after (commits past) y.at.later y.at.txn y.at.earlier y.at.txns_are).1
       ∙ ap (λ x. (unwrap_or (last_installed x row) (initial_version setup row)).state) b.earlier_is) in
       let new : history.state_at h row (suc p) ≡ wrote.0.state =
-      ap (history.state_at h row) (ap suc (sym y.place_is) ∙ sym (rank-first row y.txn y.earlier y.wrote_it))
-      ∙ (state_at-is recorded row y.later (y.txn ∷ y.earlier) y.txns_are
-      ∙ ap (λ x. (unwrap_or (option_or x (last_installed y.earlier row)) (initial_version setup row)).state) wrote.1) in
+      ap (history.state_at h row) (ap suc (sym y.place_is) ∙ sym (rank-first row y.at.txn y.at.earlier y.wrote_it))
+      ∙ (state_at-is recorded row y.at.later (y.at.txn ∷ y.at.earlier) y.at.txns_are
+      ∙ ap (λ x. (unwrap_or (option_or x (last_installed y.at.earlier row)) (initial_version setup row)).state) wrote.1) in
       (ap (matches op.statement row) old ∙ clear.0, ap (matches op.statement row) new ∙ clear.1)
 
-  comes_later : (Between → ⊥) → length s.earlier < length y.earlier
-  comes_later never = elim (cases_order (length s.earlier) (length y.earlier)) [
+  comes_later : (Between → ⊥) → length s.at.earlier < length y.at.earlier
+  comes_later never = elim (cases_order (length s.at.earlier) (length y.at.earlier)) [
     | inl e ↦ absurd (same_place (sym e))
-    | inr o ↦ elim o [
-      | inl below ↦ below
-      | inr above ↦ absurd (never (between above))
-    ]
+    | inr (inl below) ↦ below
+    | inr (inr above) ↦ absurd (never (between above))
   ]
 
 module _ {level : Level} {setup : Table} {past : Past} {h : History} (recorded : IsLegalRecording level setup past h) (stable : ReadsStable level setup past) where
-  stays : (n k : ℕ) (op : Op) (row : Row) (s : SeenVersion level setup past h n k op row) → StaysTrue setup op.statement s.earlier s.base
-  stays n k op row s = subst (λ b. StaysTrue setup op.statement s.earlier b) (sym s.base_is) (stable s.later s.txn s.earlier s.txns_are s.front op s.ops s.ops_are s.ran)
+  stays : (n k : ℕ) (op : Op) (row : Row) (s : SeenVersion level setup past h n k op row) → StaysTrue setup op.statement s.at.earlier s.base
+  stays n k op row s = subst (λ b. StaysTrue setup op.statement s.at.earlier b) (sym s.base_is) (stable s.at.later s.at.txn s.at.earlier s.at.txns_are s.among.front op s.among.earlier s.among.ops_are s.ran)
 
-  item_follows : (row : Row) (op : Op) (v from to : ℕ) → history.IsCommitted h from → from ≢ to → SeesPlace h from op row v → Lists op row → InstallsAt h row v to → Follows past from to
-  item_follows row op v from to committed other ((k, is_op), place) lists at =
-      let s : SeenVersion level setup past h from k op row = seen_by recorded from k op row (committed, is_op) in
-      let r = sees_rank recorded from k op row v s place in
-      let y : Installs row (commits past) v to = installer_at recorded row v to at in
-      let after = unseen recorded row op v v from to k s y r.place_is (omega arith) in
-      let kept : StaysTrue setup op.statement s.earlier s.base = stays from k op row s in
-      record {
-        a = place_of_seen recorded from k op row s;
-        b = stand row (commits past) v to y;
-        ahead = comes_later recorded row op v v from to k s kept y other after (λ b. lists_match recorded from k op row s lists
-            (ap (matches op.statement row) r.state_is ∙ (unmatched recorded row op v v from to k s kept y other after b).0));
-      }
-
-  predicate_follows : (row : Row) (op : Op) (v p from to : ℕ) → history.IsCommitted h from → from ≢ to → SeesPlace h from op row v → v ≤ p → InstallsAt h row p to
-      → changes h op.statement row p ≡ true → Follows past from to
-  predicate_follows row op v p from to committed other ((k, is_op), place) above at differs =
+  -- the writer of a version at or after the seen one commits after the reader, if a matched state before or behind it can't be
+  follows : (row : Row) (op : Op) (v p from to : ℕ) → history.IsCommitted h from → from ≢ to → SeesPlace h from op row v → v ≤ p → InstallsAt h row p to
+      → ((k : ℕ) (s : SeenVersion level setup past h from k op row) → s.version.state ≡ history.state_at h row v
+      → (matches op.statement row (history.state_at h row p) ≡ false) × (matches op.statement row (history.state_at h row (suc p)) ≡ false) → ⊥) → Follows past from to
+  follows row op v p from to committed other ((k, is_op), place) above at never =
       let s : SeenVersion level setup past h from k op row = seen_by recorded from k op row (committed, is_op) in
       let r = sees_rank recorded from k op row v s place in
       let y : Installs row (commits past) p to = installer_at recorded row p to at in
       let after = unseen recorded row op v p from to k s y r.place_is above in
-      let kept : StaysTrue setup op.statement s.earlier s.base = stays from k op row s in
-      record {
-        a = place_of_seen recorded from k op row s;
-        b = stand row (commits past) p to y;
-        ahead = comes_later recorded row op v p from to k s kept y other after
-            (λ b. let none = unmatched recorded row op v p from to k s kept y other after b in differ_none _ _ none.0 none.1 differs);
-      }
+      let kept : StaysTrue setup op.statement s.at.earlier s.base = stays from k op row s in
+      record { a = s.at; b = y.at; ahead = comes_later recorded row op v p from to k s kept y other after (λ b. never k s r.state_is (unmatched recorded row op v p from to k s kept y other after b)) }
+
+  item_follows : (row : Row) (op : Op) (v from to : ℕ) → history.IsCommitted h from → from ≢ to → SeesPlace h from op row v → Lists op row → InstallsAt h row v to → Follows past from to
+  item_follows row op v from to committed other sees lists at = follows row op v v from to committed other sees (omega arith) at
+      (λ k s state_is none. lists_match recorded from k op row s lists (ap (matches op.statement row) state_is ∙ none.0))
+
+  predicate_follows : (row : Row) (op : Op) (v p from to : ℕ) → history.IsCommitted h from → from ≢ to → SeesPlace h from op row v → v ≤ p → InstallsAt h row p to
+      → changes h op.statement row p ≡ true → Follows past from to
+  predicate_follows row op v p from to committed other sees above at differs = follows row op v p from to committed other sees above at (λ k s state_is none. differ_none _ _ none.0 none.1 differs)
 
   follows_ahead : (from to : ℕ) → Follows past from to → position (commit_order past) from < position (commit_order past) to
   follows_ahead from to f = omega (arith, f.ahead, position_is recorded from f.a, position_is recorded to f.b)

@@ -1,74 +1,61 @@
 -- Which cycles are which phenomenon.
-use Rattle.std.{proofs.{Common.{◌≡◌, ℕ, ◌+◌, ◌≤◌, Bool, true, cond, List, [], ◌∷◌, refl, sym, ap, ◌∙◌, subst, arith}, lemmas.Bool.{false≢true}, Math.Bool.{not-not}}, specs.Prelude.{Contains, ◌↔◌, not}}
+use Rattle.std.{proofs.{Common.{◌≡◌, ◌≤◌, Bool, true, List, refl, sym, ap, ◌∙◌, subst, arith}, lemmas.Bool.{false≢true}, Math.Bool.{not-not}}, specs.Prelude.{◌↔◌, not}}
 use Rattle.lab_history.specs.History.{History}
-use Rattle.lab_deps.specs.{Edges.{IsEdge}, KindSets.{is_any, is_write, is_flow, is_anti, is_item_anti}, declared.edge.{Edge.{Edge}, Kind.{Kind, TheVariants.{Write, ItemRead, PredicateRead, ItemAnti, PredicateAnti}}}}
-use Rattle.lab_judge.specs.{Graphs.{count_others}, Judgement.{FindsWalk}, Openings.{HasEdgesOf, IsClosedOf, IsOpenedWalk}, Phenomena.{count_kind, IsG0, IsG1c, IsGSingle, IsG2Item, IsG2}, declared.report.Finding.{Finding, TheVariants.{Absent, Walk, At, NotJudged}}}
-use Rattle.lab_judge.proofs.{ClosedWalks.{times, times_are}, OpenedWalks.{none_other}}
+use Rattle.lab_deps.specs.{KindSets.{is_any, is_write, is_flow, is_anti}, declared.edge.{Edge.{Edge}, Kind.{Kind, TheVariants.{Write, ItemRead, PredicateRead, ItemAnti, PredicateAnti}}}}
+use Rattle.lab_judge.specs.{Due.{FindsOne}, Judgement.{FindsWalk}, LeastWalks.{IsBackWalk, IsOpenedRound, FindsDue}, Openings.{count_others, IsClosedOf, IsOpenedWalk}, Phenomena.{IsClosedWalk, count_kind, IsG1c, IsGSingle}, declared.report.Finding.{Finding, TheVariants.{Absent, Walk, At, NotJudged}}}
+use Rattle.lab_judge.proofs.{ClosedWalks.{times_are, through_none, each_through}, LeastWalks.{back_closed, opened_walk}}
 
--- what is found of one kind of walk is found of another, where they are the same walks
-finds_same : (P Q : List Edge → Type 0) → ((es : List Edge) → P es → Q es) → ((es : List Edge) → Q es → P es) → (finding : Finding) → FindsWalk P finding → FindsWalk Q finding
-finds_same P Q there back Absent none = λ es q. none es (back es q)
-finds_same P Q there back (Walk walk) found = there walk found
-finds_same P Q there back (At n k row) found = found
-finds_same P Q there back NotJudged found = found
+-- where the due walks are such, and such are walks of another kind and those are such, what is found of the one is found of the other
+pub found : (P Q D : List Edge → Type 0) → ((es : List Edge) → D es → P es) → ((es : List Edge) → P es ↔ Q es) → (finding : Finding) → FindsOne P D finding → FindsWalk Q finding × FindsDue D finding
+found P Q D is_one same Absent none = ((λ es q. none es ((same es).1 q)), tt)
+found P Q D is_one same (Walk walk) due = ((same walk).0 (is_one walk due), due)
+found P Q D is_one same (At n k row) one = absurd one
+found P Q D is_one same NotJudged one = absurd one
 
 -- edges that aren't flow are anti-dependencies
-others_are_anti : (es : List Edge) → times (λ k. not (is_flow k)) es ≡ times is_anti es
-others_are_anti [] = refl
-others_are_anti (e ∷ es) =
-    ap (λ b. cond b (1 + times (λ k. not (is_flow k)) es) (times (λ k. not (is_flow k)) es)) (not-not (is_anti e.kind))
-    ∙ ap (λ n. cond (is_anti e.kind) (1 + n) n) (others_are_anti es)
-
 count_anti : (es : List Edge) → count_others is_flow es ≡ count_kind is_anti es
-count_anti es = sym (times_are (λ k. not (is_flow k)) es) ∙ others_are_anti es ∙ times_are is_anti es
+count_anti es = ap (λ test. count_kind test es) (λ i k. not-not (is_anti k) i)
 
 count_none : (es : List Edge) → count_others is_any es ≡ 0
-count_none es = sym (times_are (λ k. not (is_any k)) es) ∙ none_other is_any (λ _. refl) es
+count_none es = sym (times_are (λ k. not (is_any k)) es) ∙ through_none is_any es (each_through is_any (λ _. refl) es)
 
 -- a write after a write is of that kind
-only_write : (k : Kind) → is_write k ≡ true → k ≡ Write
+pub only_write : (k : Kind) → is_write k ≡ true → k ≡ Write
 only_write Write is = refl
 only_write ItemRead is = absurd (false≢true is)
 only_write PredicateRead is = absurd (false≢true is)
 only_write ItemAnti is = absurd (false≢true is)
 only_write PredicateAnti is = absurd (false≢true is)
 
--- what is so of two sets is so of those that they are
-pub both_named : (P : (Kind → Bool) → (Kind → Bool) → Type 0) {opening first allowed named : Kind → Bool} → opening ≡ first → allowed ≡ named → P opening allowed → P first named
-both_named P {opening} {first} {allowed} {named} begins goes = λ so. subst (P first) goes (subst (λ kinds. P kinds allowed) begins so)
-
 module _ (h : History) where
-  pub finds_g0 : (finding : Finding) → FindsWalk (IsClosedOf h is_write) finding → FindsWalk (IsG0 h) finding
-  finds_g0 = finds_same (IsClosedOf h is_write) (IsG0 h) (λ es w. w) (λ es w. w)
+  -- what is found by cycles of allowed kinds
+  pub found_circle : (a : Kind → Bool) (Q : List Edge → Type 0) → ((es : List Edge) → IsClosedOf h a es ↔ Q es) → (finding : Finding) → FindsOne (IsClosedOf h a) (IsBackWalk h a) finding
+      → FindsWalk Q finding × FindsDue (IsBackWalk h a) finding
+  found_circle a Q = found (IsClosedOf h a) Q (IsBackWalk h a) (back_closed h a)
 
-  pub finds_g1c : (finding : Finding) → FindsWalk (IsClosedOf h is_flow) finding → FindsWalk (IsG1c h) finding
-  finds_g1c = finds_same (IsClosedOf h is_flow) (IsG1c h) (λ es w. (w.0, sym (count_anti es) ∙ w.1)) (λ es w. (w.0, count_anti es ∙ w.1))
+  -- and by cycles that an edge opens
+  pub found_opened : (opening a : Kind → Bool) (Q : List Edge → Type 0) → ((es : List Edge) → IsOpenedWalk h opening a es ↔ Q es) → (finding : Finding)
+      → FindsOne (IsOpenedWalk h opening a) (IsOpenedRound h opening a) finding → FindsWalk Q finding × FindsDue (IsOpenedRound h opening a) finding
+  found_opened opening a Q = found (IsOpenedWalk h opening a) Q (IsOpenedRound h opening a) (opened_walk h a opening)
 
-  pub finds_g_single : (finding : Finding) → FindsWalk (IsOpenedWalk h is_anti is_flow) finding → FindsWalk (IsGSingle h) finding
-  finds_g_single =
-      finds_same (IsOpenedWalk h is_anti is_flow) (IsGSingle h)
-      (λ es w. (w.0, one (count_kind is_anti es) w.1 (subst (λ n. n ≤ 1) (count_anti es) w.2)))
-      (λ es w. (w.0, subst (λ n. 1 ≤ n) (sym w.1) (at_least 1), subst (λ n. n ≤ 1) (sym (count_anti es ∙ w.1)) (at_least 1)))
-    where
-      at_least : (n : ℕ) → n ≤ n
-      at_least n = omega arith
+  -- and of sets by name
+  pub named_circle : {a named : Kind → Bool} → a ≡ named → (finding : Finding) → FindsOne (IsClosedOf h a) (IsBackWalk h a) finding → FindsOne (IsClosedOf h named) (IsBackWalk h named) finding
+  named_circle is finding = subst (λ a. FindsOne (IsClosedOf h a) (IsBackWalk h a) finding) is
 
-      one : (n : ℕ) → 1 ≤ n → n ≤ 1 → n ≡ 1
-      one n a b = omega arith
+  pub named_opened : {opening first a named : Kind → Bool} → opening ≡ first → a ≡ named → (finding : Finding) → FindsOne (IsOpenedWalk h opening a) (IsOpenedRound h opening a) finding
+      → FindsOne (IsOpenedWalk h first named) (IsOpenedRound h first named) finding
+  named_opened {first = first} {a = a} opens is finding found =
+      subst (λ a. FindsOne (IsOpenedWalk h first a) (IsOpenedRound h first a) finding) is (subst (λ opening. FindsOne (IsOpenedWalk h opening a) (IsOpenedRound h opening a) finding) opens found)
 
-  few : (es : List Edge) → count_others is_any es ≤ 1
-  few es = omega (arith, count_none es)
+  pub flow_is_g1c : (es : List Edge) → IsClosedOf h is_flow es ↔ IsG1c h es
+  flow_is_g1c es = (λ w. (w.0, sym (count_anti es) ∙ w.1), λ w. (w.0, count_anti es ∙ w.1))
 
-  pub finds_g2_item : (finding : Finding) → FindsWalk (IsOpenedWalk h is_item_anti is_any) finding → FindsWalk (IsG2Item h) finding
-  finds_g2_item = finds_same (IsOpenedWalk h is_item_anti is_any) (IsG2Item h) (λ es w. (w.0, w.1)) (λ es w. (w.0, w.1, few es))
+  pub one_is_single : (es : List Edge) → IsOpenedWalk h is_anti is_flow es ↔ IsGSingle h es
+  one_is_single es = (
+    λ w. (w.0, omega (arith, w.1, w.2, count_anti es)),
+    λ w. (w.0, omega (arith, w.1), omega (arith, w.1, count_anti es)),
+  )
 
-  pub finds_g2 : (finding : Finding) → FindsWalk (IsOpenedWalk h is_anti is_any) finding → FindsWalk (IsG2 h) finding
-  finds_g2 = finds_same (IsOpenedWalk h is_anti is_any) (IsG2 h) (λ es w. (w.0, w.1)) (λ es w. (w.0, w.1, few es))
-
-  -- all edges of a history hold those of each kind
-  pub has_all : (es : List Edge) → ((e : Edge) → Contains es e ↔ IsEdge h e) → (a : Kind → Bool) → HasEdgesOf h a es
-  has_all es exact a = record { edges = λ e. (exact e).0; all = λ e edge kind. (exact e).1 edge }
-
-  -- the write-dependencies of a history hold those of that kind
-  pub has_writes : (es : List Edge) → ((e : Edge) → Contains es e ↔ (IsEdge h e × (e.kind ≡ Write))) → HasEdgesOf h is_write es
-  has_writes es exact = record { edges = λ e there. ((exact e).0 there).0; all = λ e edge kind. (exact e).1 (edge, only_write e.kind kind) }
+  -- where each kind is allowed, an edge that opens a cycle is all that it takes
+  pub any_is_opened : (opening : Kind → Bool) (es : List Edge) → IsOpenedWalk h opening is_any es ↔ (IsClosedWalk h es × (1 ≤ count_kind opening es))
+  any_is_opened opening es = (λ w. (w.0, w.1), λ w. (w.0, w.1, omega (arith, count_none es)))

@@ -1,20 +1,18 @@
--- The arrows that are added for dependencies.
-use Rattle.std.specs.Prelude.{ℕ, zero, suc, ◌*◌, ◌≤◌, ◌==◌, ◌&&◌, ◌||◌, Bool, false, List, length}
-use Rattle.std.specs.List.{All, list_any}
-use Rattle.std.specs.List.Sorted.{IsStrictlyIncreasing}
-use Rattle.lab_order.specs.Order.{position}
-use Rattle.lab_deps.specs.declared.edge.Edge.{Edge}
+-- The arrows that are added to a graph for dependencies.
+use Rattle.std.specs.Prelude.{◌≡◌, ◌⊎◌, ℕ, ◌+◌, ◌*◌, Bool}
+use Rattle.lab_order.specs.Arrows.{Arrows, nodes_of, IsArrow}
+use Rattle.lab_deps.specs.KindsBetween.{KindsBetween}
 use Rattle.lab_deps.specs.declared.edge.Kind.{Kind}
-use Rattle.lab_judge.specs.Graphs.{HasEnds, ties}
-use Rattle.lab_judge.specs.PlaceGraphs.{start_node, commit_node}
+use Rattle.lab_judge.specs.Graphs.{Tie}
 use Rattle.lab_judge.specs.declared.joining.Joining.{Joining}
 use Rattle.lab_judge.specs.declared.joining.Joining.TheVariants.{Transactions, StartToCommit, CommitToStart}
 
--- transactions of rising number, no more than a history has, and dependencies between them
-pub record IsJoinable (nodes : List ℕ) (es : List Edge) : Type 0 where
-  pub rising : IsStrictlyIncreasing nodes
-  pub few : length nodes ≤ 1000001
-  pub ends : All (HasEnds nodes) es
+-- the p-th transaction from 0 starts at the node 2p and commits at the node 2p + 1
+abbrev pub start_node : ℕ → ℕ
+start_node p = 2 * p
+
+abbrev pub commit_node : ℕ → ℕ
+commit_node p = 2 * p + 1
 
 -- the node from which the arrow leads, where the first transaction is at this place
 abbrev pub tail : Joining → ℕ → ℕ
@@ -34,15 +32,17 @@ nodes_for Transactions count = count
 nodes_for StartToCommit count = 2 * count
 nodes_for CommitToStart count = 2 * count
 
--- whether a dependency is of one of some kinds, and its arrow leads from one node to the other
-abbrev pub lands : (Kind → Bool) → Joining → List ℕ → ℕ → ℕ → Edge → Bool
-lands test joining nodes a b e = test e.kind && (tail joining (position nodes e.from) == a && head joining (position nodes e.to) == b)
+-- the arrow of a dependency of such a kind leads from one node to another
+pub record Lands (test : Kind → Bool) (joining : Joining) (net : KindsBetween) (a b : ℕ) : Type 0 where
+  pub from : ℕ
+  pub to : ℕ
+  pub tie : Tie test net from to
+  pub tail_is : tail joining from ≡ a
+  pub head_is : head joining to ≡ b
 
--- the same of the dependencies between the transactions at two places
-abbrev pub landing : (Kind → Bool) → Joining → List ℕ → List Edge → ℕ → ℕ → ℕ → ℕ → Bool
-landing test joining nodes es a b p q = list_any (ties test nodes p q) es && (tail joining p == a && head joining q == b)
-
--- whether a number below this one passes a test
-abbrev pub any_below : (ℕ → Bool) → ℕ → Bool
-any_below test zero = false
-any_below test (suc n) = test n || any_below test n
+-- a graph grew by such arrows alone, and by those of all such dependencies between two transactions that are looked at
+pub record Grows (test : Kind → Bool) (joining : Joining) (net : KindsBetween) (Looked : ℕ → ℕ → Type 0) (old new : Arrows) : Type 0 where
+  pub size : nodes_of new ≡ nodes_of old
+  pub kept : (a b : ℕ) → IsArrow old a b → IsArrow new a b
+  pub real : (a b : ℕ) → IsArrow new a b → IsArrow old a b ⊎ Lands test joining net a b
+  pub all : (p q : ℕ) → Looked p q → Tie test net p q → IsArrow new (tail joining p) (head joining q)

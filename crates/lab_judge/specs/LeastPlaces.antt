@@ -1,5 +1,5 @@
 -- Of several right placings, the one that a snapshot yes has.
-use Rattle.std.specs.Prelude.{◌≡◌, ℕ, suc, ◌<◌, ◌≤◌, ◌==◌, Bool, false, cond, List, [], ◌∷◌, map, count_by, Contains, ⊤}
+use Rattle.std.specs.Prelude.{◌≡◌, ℕ, suc, ◌+◌, ◌*◌, ◌<◌, ◌==◌, Bool, cond, List, [], ◌∷◌, map, count_by, Contains, ⊤}
 use Rattle.std.specs.List.Sorted.{IsStrictlyIncreasing}
 use Rattle.lab_order.specs.Least.{IsLeastBy}
 use Rattle.lab_history.specs.History.{History}
@@ -17,19 +17,18 @@ abbrev pub txn_of : Point → ℕ
 txn_of (Start n) = n
 txn_of (Commit n) = n
 
+-- points by number: those of a lower transaction come first, and a start before its commit
+abbrev pub label : Point → ℕ
+label (Start n) = 2 * n
+label (Commit n) = 2 * n + 1
+
 -- whether two points are one
 abbrev pub is_point : Point → Point → Bool
-is_point (Start m) (Start n) = m == n
-is_point (Start m) (Commit n) = false
-is_point (Commit m) (Start n) = false
-is_point (Commit m) (Commit n) = m == n
+is_point p q = label p == label q
 
--- a point is lower than another: that of a transaction with a lower number, or the start of one whose commit is the other
+-- a point is lower than another
 abbrev pub IsLower : Point → Point → Type 0
-IsLower (Start m) (Start n) = m < n
-IsLower (Start m) (Commit n) = m ≤ n
-IsLower (Commit m) (Start n) = m < n
-IsLower (Commit m) (Commit n) = m < n
+IsLower p q = label p < label q
 
 -- the place of a point in an order, counted from 0
 abbrev pub place_in : List Point → Point → ℕ

@@ -1,19 +1,17 @@
 -- Cycles of dependencies of some kinds, and the dependencies that open one.
-use Rattle.std.specs.Prelude.{◌≡◌, ◌≤◌, ◌⊎◌, ℕ, Bool, true, false, List, Contains}
+use Rattle.std.specs.Prelude.{◌≡◌, ◌≤◌, ◌⊎◌, ℕ, Bool, true, false, not, List}
+use Rattle.std.specs.List.{count_by}
 use Rattle.lab_order.specs.Arrows.{Arrows}
 use Rattle.lab_order.specs.Path.{Reaches}
 use Rattle.lab_order.specs.Order.{position}
 use Rattle.lab_history.specs.History.{History}
-use Rattle.lab_deps.specs.Edges.{IsEdge}
 use Rattle.lab_deps.specs.declared.edge.Edge.{Edge}
 use Rattle.lab_deps.specs.declared.edge.Kind.{Kind}
-use Rattle.lab_judge.specs.Graphs.{count_others}
 use Rattle.lab_judge.specs.Phenomena.{IsClosedWalk, count_kind}
 
--- these are edges of the history, and all of its edges of allowed kinds are among them
-pub record HasEdgesOf (h : History) (allowed : Kind → Bool) (es : List Edge) : Type 0 where
-  pub edges : (e : Edge) → Contains es e → IsEdge h e
-  pub all : (e : Edge) → IsEdge h e → allowed e.kind ≡ true → Contains es e
+-- how many dependencies have a kind that isn't allowed
+abbrev pub count_others : (Kind → Bool) → List Edge → ℕ
+count_others allowed es = count_by (λ e. not (allowed e.kind)) es
 
 -- a cycle of edges of allowed kinds
 abbrev pub IsClosedOf : History → (Kind → Bool) → List Edge → Type 0

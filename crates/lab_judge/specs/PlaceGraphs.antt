@@ -1,36 +1,28 @@
--- The graph of starts and commits: the p-th transaction from 0 starts at the node 2p and commits at the node 2p + 1.
-use Rattle.std.specs.Prelude.{◌≡◌, ℕ, zero, suc, ◌+◌, ◌*◌, ◌/◌, ◌%◌, ◌==◌, ◌&&◌, ◌||◌, Bool, false, cond, List, length, slice_index}
-use Rattle.std.specs.List.{list_any}
-use Rattle.lab_order.specs.Arrows.{Arrows, nodes_of, has_arrow}
+-- The graph of starts and commits.
+use Rattle.std.specs.Prelude.{◌≡◌, ◌⊎◌, ◌↔◌, ℕ, zero, suc, ◌*◌, ◌/◌, ◌%◌, ◌<◌, ◌==◌, ◌&&◌, ◌||◌, Bool, false, cond, List, length, slice_index}
+use Rattle.lab_order.specs.Arrows.{Arrows, nodes_of, IsArrow}
 use Rattle.lab_order.specs.Order.{position}
-use Rattle.lab_deps.specs.declared.edge.Edge.{Edge}
+use Rattle.lab_deps.specs.KindsBetween.{KindsBetween}
 use Rattle.lab_judge.specs.Runs.{Span}
-use Rattle.lab_judge.specs.Places.{is_anti}
+use Rattle.lab_judge.specs.Joining.{start_node, commit_node, Lands}
+use Rattle.lab_judge.specs.Places.{is_anti, is_flow}
+use Rattle.lab_judge.specs.declared.joining.Joining.TheVariants.{StartToCommit, CommitToStart}
 use Rattle.lab_judge.specs.declared.places.Point.{Point}
 use Rattle.lab_judge.specs.declared.places.Point.TheVariants.{Start, Commit}
-
--- the nodes of the start and the commit of the transaction at a place
-abbrev pub start_node : ℕ → ℕ
-start_node p = 2 * p
-
-abbrev pub commit_node : ℕ → ℕ
-commit_node p = 2 * p + 1
 
 -- whether the two nodes are the start and the commit of one of so many transactions
 abbrev pub spans : ℕ → ℕ → ℕ → Bool
 spans zero a b = false
 spans (suc p) a b = (start_node p == a && commit_node p == b) || spans p a b
 
--- whether a dependency leads from one node to the other: an anti-dependency from a start to a commit, and any other from a commit to a start
-abbrev pub leads : List ℕ → ℕ → ℕ → Edge → Bool
-leads nodes a b e = cond (is_anti e.kind)
-    (start_node (position nodes e.from) == a && commit_node (position nodes e.to) == b)
-    (commit_node (position nodes e.from) == a && start_node (position nodes e.to) == b)
+-- they are
+abbrev pub AreSpan : ℕ → ℕ → ℕ → Type 0
+AreSpan count a b = (p : ℕ) × (p < count) × ((start_node p ≡ a) × (commit_node p ≡ b))
 
--- the graph has an arrow exactly from the start to the commit of each, and where a dependency leads
-pub record IsPlaceGraph (nodes : List ℕ) (es : List Edge) (graph : Arrows) : Type 0 where
-  pub size : nodes_of graph ≡ 2 * length nodes
-  pub arrows : (a b : ℕ) → has_arrow graph a b ≡ (spans (length nodes) a b || list_any (leads nodes a b) es)
+-- the graph has an arrow exactly from the start to the commit of each, from a commit to a start where a dependency is no anti-dependency, and from a start to a commit where it is one
+pub record IsPlaceGraph (net : KindsBetween) (graph : Arrows) : Type 0 where
+  pub size : nodes_of graph ≡ 2 * length net.numbers
+  pub arrows : (a b : ℕ) → IsArrow graph a b ↔ (AreSpan (length net.numbers) a b ⊎ (Lands is_flow CommitToStart net a b ⊎ Lands is_anti StartToCommit net a b))
 
 -- the start or the commit at a node
 abbrev pub point_at : List ℕ → ℕ → Point

@@ -1,18 +1,18 @@
 //! Which phenomena a history has, and the level that it meets.
 
-ghost use Rattle.std.specs.Prelude.{◌≡◌, ◌↔◌, Contains, IfOk};
+ghost use Rattle.std.specs.Prelude.{IfOk};
 ghost use Rattle.lab_history.specs.History.{History as Recorded};
 ghost use Rattle.lab_deps.specs.Soundness.{Stands, IsSound};
-ghost use Rattle.lab_deps.specs.Edges.{IsEdge};
-ghost use Rattle.lab_deps.specs.KindSets.{among, is_write};
+ghost use Rattle.lab_deps.specs.KindSets.{among, is_any, is_write};
 ghost use Rattle.lab_deps.specs.Refusal.{IsAnswer};
-ghost use Rattle.lab_deps.specs.declared.edge.Edge.{Edge as Spelled};
 ghost use Rattle.lab_deps.specs.declared.fault.LocalFault.TheVariants as fault;
 ghost use Rattle.lab_table.specs.Row.{Row};
-ghost use Rattle.lab_judge.specs.Graphs.{IsGraphOf, IsTableOf, IsHistoryGraph};
-ghost use Rattle.lab_judge.specs.LeastWalks.{AreCommitted, IsBackWalk, FindsDue, FindsDueWalks};
-ghost use Rattle.lab_judge.specs.Phenomena.{NoWalk, IsClosedWalk, IsG0, MeetsPl2};
-ghost use Rattle.lab_judge.specs.Judgement.{FindsWalk, JudgesAll, JudgesReads, JudgesNothing, JudgesAtFault};
+ghost use Rattle.lab_judge.specs.Due.{FindsOne, JudgesDue};
+ghost use Rattle.lab_judge.specs.Graphs.{IsGraphOf, IsNetOf};
+ghost use Rattle.lab_judge.specs.LeastWalks.{IsBackWalk, FindsDueWalks};
+ghost use Rattle.lab_judge.specs.Openings.{IsClosedOf};
+ghost use Rattle.lab_judge.specs.Phenomena.{NoWalk, IsClosedWalk, MeetsPl2};
+ghost use Rattle.lab_judge.specs.Judgement.{JudgesReads, JudgesNothing, JudgesAtFault};
 
 mod closed_walk;
 mod grade;
@@ -20,11 +20,12 @@ mod opening;
 mod reads;
 
 use crate::graphs::{graph_among, graph_of};
+use crate::net::Net;
 use crate::nodes::Nodes;
 use crate::report::{Finding, Grade};
 use closed_walk::{find_circle, find_opened};
 use grade::{grade_of, low_grade_of};
-use lab_deps::{Dependencies, KindTable, Kinds, LocalFault};
+use lab_deps::{Dependencies, Kinds, LocalFault};
 use lab_history::History;
 use lab_order::{Graph, NoMemory, Ways};
 use reads::{find_aborted_read, find_intermediate_read};
@@ -38,11 +39,8 @@ pub(crate) struct Findings {
 }
 
 /// What is found in a sound history whose dependencies lead nowhere back: no phenomenon.
-pub(crate) fn find_none(_history: &History) -> Findings
-    requires sound { IsSound _history.now }
-    requires forward { NoWalk (IsClosedWalk _history.now) }
-    ensures found { JudgesAll _history.now result.phenomena result.level }
-    ensures walks { FindsDueWalks _history.now result.phenomena }
+pub(crate) fn find_none() -> Findings
+    ensures { (h : Recorded) → IsSound h → NoWalk (IsClosedWalk h) → JudgesDue h result.phenomena result.level }
 {
     Findings {
         phenomena: [
@@ -58,75 +56,25 @@ pub(crate) fn find_none(_history: &History) -> Findings
     }
 }
 
-/// What is found in a sound history with these committed transactions, these dependencies and the graph of them all.
-/// NoMemory where an allocation was refused.
-pub(crate) fn find_in_sound(
+/// What is found in any sound history that has these committed transactions and dependencies, of which this is the
+/// graph. NoMemory where an allocation was refused.
+pub(crate) fn find_walks(
     alloc: Global,
-    _history: &History,
-    nodes: &Nodes,
-    edges: &Dependencies<'_>,
-    table: &KindTable<'_, '_>,
+    net: &Net<'_, '_>,
     all: &Graph,
 ) -> Result<Findings, NoMemory>
-    requires sound { IsSound _history.now }
-    requires given { IsHistoryGraph _history.now nodes.now edges.now all.now }
-    requires numbers { table.now.numbers ≡ nodes.now }
-    requires table { table.now.edges ≡ edges.now }
-    ensures found { IfOk result (λ found. JudgesAll _history.now found.phenomena found.level) }
-    ensures walks { IfOk result (λ found. FindsDueWalks _history.now found.phenomena) }
+    requires { IsGraphOf (among Kinds.ALL) net.now all.now }
+    ensures { IfOk result (λ found. (h : Recorded) → IsSound h → IsNetOf h is_any net.now → JudgesDue h found.phenomena found.level) }
 {
-    find_walks(alloc, nodes, edges, table, all)
-}
-
-/// What is found in any sound history that has these dependencies. NoMemory where an allocation was refused.
-fn find_walks(
-    alloc: Global,
-    nodes: &Nodes,
-    edges: &Dependencies<'_>,
-    table: &KindTable<'_, '_>,
-    all: &Graph,
-) -> Result<Findings, NoMemory>
-    requires table { IsTableOf nodes.now edges.now table.now.numbers table.now.edges }
-    requires all { IsGraphOf (among Kinds.ALL) nodes.now edges.now all.now }
-    ensures found { IfOk result (λ found. (h : Recorded) → IsSound h → ((e : Spelled) → Contains edges.now e ↔ IsEdge h e) → JudgesAll h found.phenomena found.level) }
-    ensures walks { IfOk result (λ found. (h : Recorded) → AreCommitted h nodes.now → ((e : Spelled) → Contains edges.now e ↔ IsEdge h e) → FindsDueWalks h found.phenomena) }
-{
-    let writes = graph_among(alloc, nodes, table, all, Kinds::WRITES)?;
-    let flow = graph_among(alloc, nodes, table, all, Kinds::FLOW)?;
-    let g0 = find_circle(alloc, nodes, edges, Kinds::WRITES, &writes)?;
-    let g1c = find_circle(alloc, nodes, edges, Kinds::FLOW, &flow)?;
+    let writes = graph_among(alloc, net, all, Kinds::WRITES)?;
+    let flow = graph_among(alloc, net, all, Kinds::FLOW)?;
+    let g0 = find_circle(alloc, net, Kinds::WRITES, &writes)?;
+    let g1c = find_circle(alloc, net, Kinds::FLOW, &flow)?;
     let flow_ways = Ways::of(alloc, &flow)?;
-    let g_single = find_opened(
-        alloc,
-        nodes,
-        edges,
-        table,
-        Kinds::FLOW,
-        &flow,
-        &flow_ways,
-        Kinds::ANTI,
-    )?;
+    let g_single = find_opened(alloc, net, Kinds::FLOW, &flow, &flow_ways, Kinds::ANTI)?;
     let all_ways = Ways::of(alloc, all)?;
-    let g2_item = find_opened(
-        alloc,
-        nodes,
-        edges,
-        table,
-        Kinds::ALL,
-        all,
-        &all_ways,
-        Kinds::ITEM_ANTI,
-    )?;
-    let g2 = find_opened(
-        alloc,
-        nodes,
-        edges,
-        table,
-        Kinds::ALL,
-        all,
-        &all_ways,
-        Kinds::ANTI,
-    )?;
+    let g2_item = find_opened(alloc, net, Kinds::ALL, all, &all_ways, Kinds::ITEM_ANTI)?;
+    let g2 = find_opened(alloc, net, Kinds::ALL, all, &all_ways, Kinds::ANTI)?;
     let level = grade_of(&g0, &g1c, &g2_item, &g2);
     Ok(Findings {
         phenomena: [
@@ -191,14 +139,13 @@ fn find_at_read(alloc: Global, history: &History) -> Result<Findings, NoMemory>
 /// The cycle of write-dependencies, by the rows' lists of installers alone. NoMemory where an allocation was refused.
 fn find_listed_circle(alloc: Global, history: &History) -> Result<Finding, NoMemory>
     requires { (row : Row) → ¬ Stands history.now (fault.InstallOrder row) }
-    ensures found { IfOk result (FindsWalk (IsG0 history.now)) }
-    ensures due { IfOk result (FindsDue (IsBackWalk history.now is_write)) }
+    ensures { IfOk result (FindsOne (IsClosedOf history.now is_write) (IsBackWalk history.now is_write)) }
 {
     let nodes = Nodes::of(alloc, history)?;
     let edges = Dependencies::of_writes(alloc, history)?;
-    let table = edges.table(alloc, nodes.numbers())?;
-    let writes = graph_of(alloc, &nodes, &table, Kinds::WRITES)?;
-    find_circle(alloc, &nodes, &edges, Kinds::WRITES, &writes)
+    let net = Net::of(alloc, &nodes, &edges)?;
+    let writes = graph_of(alloc, &net, Kinds::WRITES)?;
+    find_circle(alloc, &net, Kinds::WRITES, &writes)
 }
 
 /// What is found where nothing is judged.

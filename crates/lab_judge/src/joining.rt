@@ -1,13 +1,13 @@
 //! Arrows of a graph for dependencies.
 
-ghost use Rattle.std.specs.Prelude.{◌≡◌, ◌<◌, ◌≤◌, ◌||◌, ℕ, Bool, length, IfOk};
-ghost use Rattle.std.specs.List.{list_any};
-ghost use Rattle.lab_order.specs.Arrows.{nodes_of, has_arrow};
+ghost use Rattle.std.specs.Prelude.{◌≡◌, ◌<◌, ◌≤◌, length, IfOk, ⊤};
+ghost use Rattle.lab_order.specs.Arrows.{nodes_of};
 ghost use Rattle.lab_deps.specs.KindSets.{among};
 ghost use Rattle.lab_judge.specs.Graphs.{IsGraphOf};
-ghost use Rattle.lab_judge.specs.Joining.{IsJoinable, tail, head, nodes_for, lands, landing, any_below};
+ghost use Rattle.lab_judge.specs.Joining.{Grows, tail, head, nodes_for};
 
-use lab_deps::{KindTable, Kinds};
+use crate::net::Net;
+use lab_deps::Kinds;
 use lab_order::{Graph, NoMemory};
 use std::alloc::Global;
 
@@ -53,18 +53,15 @@ impl Joining {
 pub(crate) fn add_arrows(
     alloc: Global,
     graph: &mut Graph,
-    table: &KindTable<'_, '_>,
+    net: &Net<'_, '_>,
     kinds: Kinds,
     joining: Joining,
 ) -> Result<(), NoMemory>
-    requires table { IsJoinable table.now.numbers table.now.edges }
-    requires size { nodes_of graph.old ≡ nodes_for joining (length table.now.numbers) }
-    ensures nodes { nodes_of graph.new ≡ nodes_of graph.old }
-    ensures arrows { IfOk result (λ _. (a b : ℕ) → has_arrow graph.new a b
-        ≡ (list_any (lands (among kinds) joining table.now.numbers a b) table.now.edges || has_arrow graph.old a b)) }
+    requires { nodes_of graph.old ≡ nodes_for joining (length net.now.numbers) }
+    ensures { IfOk result (λ _. Grows (among kinds) joining net.now (λ p q. ⊤) graph.old graph.new) }
 {
-    for from in 0..table.len() as u32 {
-        add_arrows_from(alloc, graph, table, kinds, joining, from)?;
+    for from in 0..net.len() {
+        add_arrows_from(alloc, graph, net, kinds, joining, from)?;
     }
     Ok(())
 }
@@ -73,19 +70,16 @@ pub(crate) fn add_arrows(
 fn add_arrows_from(
     alloc: Global,
     graph: &mut Graph,
-    table: &KindTable<'_, '_>,
+    net: &Net<'_, '_>,
     kinds: Kinds,
     joining: Joining,
     from: u32,
 ) -> Result<(), NoMemory>
-    requires table { IsJoinable table.now.numbers table.now.edges }
-    requires size { nodes_of graph.old ≡ nodes_for joining (length table.now.numbers) }
-    requires from { from < length table.now.numbers }
-    ensures nodes { nodes_of graph.new ≡ nodes_of graph.old }
-    ensures arrows { IfOk result (λ _. (a b : ℕ) → has_arrow graph.new a b
-        ≡ (any_below (landing (among kinds) joining table.now.numbers table.now.edges a b from) (length table.now.numbers) || has_arrow graph.old a b)) }
+    requires size { nodes_of graph.old ≡ nodes_for joining (length net.now.numbers) }
+    requires from { from < length net.now.numbers }
+    ensures { IfOk result (λ _. Grows (among kinds) joining net.now (λ p q. p ≡ from) graph.old graph.new) }
 {
-    let count = table.len();
+    let count = net.len() as usize;
     let mut first = 0;
     for _ in 0..count / 64 + 1 {
         let beyond = if count - first < 64 {
@@ -93,7 +87,7 @@ fn add_arrows_from(
         } else {
             first + 64
         };
-        add_arrows_between(alloc, graph, table, kinds, joining, from, first, beyond)?;
+        add_arrows_between(alloc, graph, net, kinds, joining, from, first, beyond)?;
         first = beyond;
     }
     Ok(())
@@ -104,24 +98,20 @@ fn add_arrows_from(
 fn add_arrows_between(
     alloc: Global,
     graph: &mut Graph,
-    table: &KindTable<'_, '_>,
+    net: &Net<'_, '_>,
     kinds: Kinds,
     joining: Joining,
     from: u32,
     first: usize,
     beyond: usize,
 ) -> Result<(), NoMemory>
-    requires table { IsJoinable table.now.numbers table.now.edges }
-    requires size { nodes_of graph.old ≡ nodes_for joining (length table.now.numbers) }
-    requires from { from < length table.now.numbers }
+    requires size { nodes_of graph.old ≡ nodes_for joining (length net.now.numbers) }
+    requires from { from < length net.now.numbers }
     requires order { first ≤ beyond }
-    requires beyond { beyond ≤ length table.now.numbers }
-    ensures nodes { nodes_of graph.new ≡ nodes_of graph.old }
-    ensures arrows { IfOk result (λ _. (a b : ℕ) (rest : Bool)
-        → has_arrow graph.old a b ≡ (any_below (landing (among kinds) joining table.now.numbers table.now.edges a b from) first || rest)
-        → has_arrow graph.new a b ≡ (any_below (landing (among kinds) joining table.now.numbers table.now.edges a b from) beyond || rest)) }
+    requires beyond { beyond ≤ length net.now.numbers }
+    ensures { IfOk result (λ _. Grows (among kinds) joining net.now (λ p q. (p ≡ from) × (first ≤ q) × (q < beyond)) graph.old graph.new) }
 {
-    let row = table.row(from);
+    let row = net.row(from);
     if row.is_bare(first, beyond) {
         return Ok(());
     }
@@ -138,20 +128,17 @@ fn add_arrows_between(
 pub(crate) fn add_arrows_among(
     alloc: Global,
     graph: &mut Graph,
-    table: &KindTable<'_, '_>,
+    net: &Net<'_, '_>,
     all: &Graph,
     kinds: Kinds,
     joining: Joining,
 ) -> Result<(), NoMemory>
-    requires table { IsJoinable table.now.numbers table.now.edges }
-    requires all { IsGraphOf (among Kinds.ALL) table.now.numbers table.now.edges all.now }
-    requires size { nodes_of graph.old ≡ nodes_for joining (length table.now.numbers) }
-    ensures nodes { nodes_of graph.new ≡ nodes_of graph.old }
-    ensures arrows { IfOk result (λ _. (a b : ℕ) → has_arrow graph.new a b
-        ≡ (list_any (lands (among kinds) joining table.now.numbers a b) table.now.edges || has_arrow graph.old a b)) }
+    requires size { nodes_of graph.old ≡ nodes_for joining (length net.now.numbers) }
+    requires all { IsGraphOf (among Kinds.ALL) net.now all.now }
+    ensures { IfOk result (λ _. Grows (among kinds) joining net.now (λ p q. ⊤) graph.old graph.new) }
 {
-    for to in 0..table.len() as u32 {
-        add_arrows_to(alloc, graph, table, all, kinds, joining, to)?;
+    for to in 0..net.len() {
+        add_arrows_to(alloc, graph, net, all, kinds, joining, to)?;
     }
     Ok(())
 }
@@ -160,22 +147,19 @@ pub(crate) fn add_arrows_among(
 fn add_arrows_to(
     alloc: Global,
     graph: &mut Graph,
-    table: &KindTable<'_, '_>,
+    net: &Net<'_, '_>,
     all: &Graph,
     kinds: Kinds,
     joining: Joining,
     to: u32,
 ) -> Result<(), NoMemory>
-    requires table { IsJoinable table.now.numbers table.now.edges }
-    requires all { IsGraphOf (among Kinds.ALL) table.now.numbers table.now.edges all.now }
-    requires size { nodes_of graph.old ≡ nodes_for joining (length table.now.numbers) }
-    requires to { to < length table.now.numbers }
-    ensures nodes { nodes_of graph.new ≡ nodes_of graph.old }
-    ensures arrows { IfOk result (λ _. (a b : ℕ) → has_arrow graph.new a b
-        ≡ (any_below (λ from. landing (among kinds) joining table.now.numbers table.now.edges a b from to) (length table.now.numbers) || has_arrow graph.old a b)) }
+    requires size { nodes_of graph.old ≡ nodes_for joining (length net.now.numbers) }
+    requires all { IsGraphOf (among Kinds.ALL) net.now all.now }
+    requires to { to < length net.now.numbers }
+    ensures { IfOk result (λ _. Grows (among kinds) joining net.now (λ p q. q ≡ to) graph.old graph.new) }
 {
     for from in all.before(to) {
-        add_arrow(alloc, graph, table, kinds, joining, *from, to)?;
+        add_arrow(alloc, graph, net, kinds, joining, *from, to)?;
     }
     Ok(())
 }
@@ -185,21 +169,18 @@ fn add_arrows_to(
 fn add_arrow(
     alloc: Global,
     graph: &mut Graph,
-    table: &KindTable<'_, '_>,
+    net: &Net<'_, '_>,
     kinds: Kinds,
     joining: Joining,
     from: u32,
     to: u32,
 ) -> Result<(), NoMemory>
-    requires table { IsJoinable table.now.numbers table.now.edges }
-    requires size { nodes_of graph.old ≡ nodes_for joining (length table.now.numbers) }
-    requires from { from < length table.now.numbers }
-    requires to { to < length table.now.numbers }
-    ensures nodes { nodes_of graph.new ≡ nodes_of graph.old }
-    ensures arrows { IfOk result (λ _. (a b : ℕ) → has_arrow graph.new a b
-        ≡ (landing (among kinds) joining table.now.numbers table.now.edges a b from to || has_arrow graph.old a b)) }
+    requires size { nodes_of graph.old ≡ nodes_for joining (length net.now.numbers) }
+    requires from { from < length net.now.numbers }
+    requires to { to < length net.now.numbers }
+    ensures { IfOk result (λ _. Grows (among kinds) joining net.now (λ p q. (p ≡ from) × (q ≡ to)) graph.old graph.new) }
 {
-    let row = table.row(from);
+    let row = net.row(from);
     let between = row.kinds(to as usize);
     if between.meets(kinds) {
         graph.add(alloc, joining.tail(from), joining.head(to))?;

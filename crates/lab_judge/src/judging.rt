@@ -8,25 +8,28 @@ ghost use Rattle.lab_history.specs.declared.fault.Limit.TheVariants.{Bytes};
 ghost use Rattle.lab_deps.specs.FaultOrder.{IsFirst};
 ghost use Rattle.lab_deps.specs.Refusal.{IsAnswer};
 ghost use Rattle.lab_deps.specs.Soundness.{IsSound};
-ghost use Rattle.lab_judge.specs.Graphs.{IsHistoryGraph};
+ghost use Rattle.lab_deps.specs.KindSets.{among, is_any};
+ghost use Rattle.lab_judge.specs.Due.{IsDueSerial, JudgesDue};
+ghost use Rattle.lab_judge.specs.Graphs.{IsGraphOf, IsNetOf};
 ghost use Rattle.lab_judge.specs.LeastWalks.{HasDueWalk, FindsDueWalks};
 ghost use Rattle.lab_judge.specs.Phenomena.{IsClosedWalk, NoWalk};
 ghost use Rattle.lab_judge.specs.BackPoints.{HasBackCircle};
 ghost use Rattle.lab_judge.specs.LeastPlaces.{IsLeastPlacing};
 ghost use Rattle.lab_judge.specs.Verdicts.{IsLeastOrder, IsYes, IsPlaced, NoCircle};
-ghost use Rattle.lab_judge.specs.Judgement.{IsExactJudgement, IsSerialVerdict, IsSnapshotVerdict, SameFault, Judges, JudgesAll, RestsOnOrder};
+ghost use Rattle.lab_judge.specs.Judgement.{IsExactJudgement, IsSerialVerdict, IsSnapshotVerdict, SameFault, Judges};
 ghost use Rattle.lab_judge.specs.FileJudgement.{IsFileJudgement};
 ghost use Rattle.lab_judge.specs.Promises.{IsPromised};
 
-use crate::findings::{Findings, find_at_fault, find_in_sound, find_none};
+use crate::findings::{Findings, find_at_fault, find_none, find_walks};
 use crate::graphs::graph_of;
+use crate::net::Net;
 use crate::nodes::Nodes;
 use crate::places::Places;
 use crate::placing::snapshot_verdict;
 use crate::report::Report;
 use crate::serial::Serial;
 use crate::serializing::serial_verdict;
-use lab_deps::{Dependencies, KindTable, Kinds, LocalFault, Sound, Unsound, check_local};
+use lab_deps::{Dependencies, Kinds, LocalFault, Sound, Unsound, check_local};
 use lab_engine::Recording;
 use lab_history::{FileFault, History};
 use lab_history_file::read_history;
@@ -99,11 +102,11 @@ fn judge_sound(alloc: Global, history: &History, sound: &Sound) -> Result<Report
 {
     let nodes = Nodes::of(alloc, history)?;
     let edges = Dependencies::of(alloc, history, sound)?;
-    let table = edges.table(alloc, nodes.numbers())?;
-    let all = graph_of(alloc, &nodes, &table, Kinds::ALL)?;
-    let serial = serial_verdict(alloc, history, &nodes, &edges, &all)?;
-    let snapshot = snapshot_verdict(alloc, history, &nodes, &table, &all)?;
-    let found = find_beside(alloc, history, &nodes, &edges, &table, &all, &serial)?;
+    let net = Net::of(alloc, &nodes, &edges)?;
+    let all = graph_of(alloc, &net, Kinds::ALL)?;
+    let serial = serial_verdict(alloc, &net, &all)?;
+    let snapshot = snapshot_verdict(alloc, &net, &all)?;
+    let found = find_beside(alloc, &net, &all, &serial)?;
     Ok(Report {
         serial,
         snapshot,
@@ -116,24 +119,16 @@ fn judge_sound(alloc: Global, history: &History, sound: &Sound) -> Result<Report
 /// was refused.
 fn find_beside(
     alloc: Global,
-    history: &History,
-    nodes: &Nodes,
-    edges: &Dependencies<'_>,
-    table: &KindTable<'_, '_>,
+    net: &Net<'_, '_>,
     all: &Graph,
     serial: &Serial,
 ) -> Result<Findings, NoMemory>
-    requires sound { IsSound history.now }
-    requires given { IsHistoryGraph history.now nodes.now edges.now all.now }
-    requires numbers { table.now.numbers ≡ nodes.now }
-    requires table { table.now.edges ≡ edges.now }
-    requires rests { RestsOnOrder history.now serial.now }
-    ensures walks { IfOk result (λ found. FindsDueWalks history.now found.phenomena) }
-    ensures found { IfOk result (λ found. JudgesAll history.now found.phenomena found.level) }
+    requires { IsGraphOf (among Kinds.ALL) net.now all.now }
+    ensures { IfOk result (λ found. (h : Spells) → IsSound h → IsNetOf h is_any net.now → IsDueSerial h serial.now → JudgesDue h found.phenomena found.level) }
 {
     match serial {
-        Serial::Yes(_) => Ok(find_none(history)),
-        _ => find_in_sound(alloc, history, nodes, edges, table, all),
+        Serial::Yes(_) => Ok(find_none()),
+        _ => find_walks(alloc, net, all),
     }
 }
 

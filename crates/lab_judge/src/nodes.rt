@@ -1,10 +1,10 @@
 //! Committed transactions as the nodes of a graph.
 
-ghost use Rattle.std.specs.Prelude.{◌≡◌, ◌<◌, ◌≤◌, ℕ, None, length, map, filter, slice_get, slice_index, Contains, IfOk, IfSome};
+ghost use Rattle.std.specs.Prelude.{◌≡◌, ◌<◌, ◌≤◌, length, map, filter, slice_get, slice_index, IfOk};
 ghost use Rattle.std.specs.List.Sorted.{IsStrictlyIncreasing};
 ghost use Rattle.lab_history.specs.Version.{outcome_of};
-ghost use Rattle.lab_deps.specs.Soundness.{has_committed};
 ghost use Rattle.lab_order.specs.Order.{position};
+ghost use Rattle.lab_deps.specs.Soundness.{has_committed};
 ghost use Rattle.lab_judge.specs.Runs.{HoldsEachOnce};
 
 use lab_history::{History, Outcome};
@@ -55,35 +55,10 @@ impl Nodes {
 
     /// The numbers of the transactions, node by node.
     pub(crate) fn numbers(&self) -> &[TxnNo]
-        ensures { result.now ≡ self.now }
+        ensures numbers { result.now ≡ self.now }
+        ensures few { length self.now ≤ 1000001 }
     {
         &self.numbers
-    }
-
-    /// The node of a transaction, or None where it isn't among them.
-    pub(crate) fn node(&self, number: TxnNo) -> Option<u32>
-        ensures found { IfSome result (λ node. slice_get self.now node ≡ Some number) }
-        ensures place { IfSome result (λ node. node ≡ position self.now number) }
-        ensures few { IfSome result (λ node. node ≤ 1000000) }
-        ensures none { result ≡ None → ¬ Contains self.now number }
-    {
-        match self.numbers.binary_search(&number) {
-            Ok(place) => Some(place as u32),
-            Err(_) => None,
-        }
-    }
-
-    /// The node of a transaction that is among them.
-    pub(crate) fn place(&self, number: TxnNo) -> u32
-        requires { Contains self.now number }
-        ensures place { result ≡ position self.now number }
-        ensures within { result < length self.now }
-        ensures few { result ≤ 1000000 }
-    {
-        let Some(node) = self.node(number) else {
-            unreachable!()
-        };
-        node
     }
 
     /// The transaction of a node.

@@ -5,38 +5,28 @@
 //! write starts before that one commits.
 
 ghost use Rattle.std.specs.Prelude.{◌≡◌, ◌≤◌, ◌*◌, ℕ, IfOk};
-ghost use Rattle.std.specs.List.{All};
-ghost use Rattle.std.specs.List.Sorted.{IsStrictlyIncreasing};
 ghost use Rattle.lab_order.specs.Arrows.{nodes_of, has_arrow};
 ghost use Rattle.lab_deps.specs.KindSets.{among};
-ghost use Rattle.lab_judge.specs.Graphs.{HasEnds, IsGraphOf};
+ghost use Rattle.lab_judge.specs.Graphs.{IsGraphOf};
 ghost use Rattle.lab_judge.specs.PlaceGraphs.{spans, IsPlaceGraph};
 
 use crate::joining::{Joining, add_arrows_among};
-use crate::nodes::Nodes;
-use lab_deps::{KindTable, Kinds};
+use crate::net::Net;
+use lab_deps::Kinds;
 use lab_order::{Graph, NoMemory};
 use std::alloc::Global;
 
 /// The graph of the starts and commits of these transactions, by the graph of all dependencies. NoMemory where an
 /// allocation was refused.
-pub(crate) fn place_graph(
-    alloc: Global,
-    nodes: &Nodes,
-    table: &KindTable<'_, '_>,
-    all: &Graph,
-) -> Result<Graph, NoMemory>
-    requires numbers { table.now.numbers ≡ nodes.now }
-    requires rising { IsStrictlyIncreasing nodes.now }
-    requires ends { All (HasEnds nodes.now) table.now.edges }
-    requires all { IsGraphOf (among Kinds.ALL) nodes.now table.now.edges all.now }
-    ensures { IfOk result (IsPlaceGraph nodes.now table.now.edges) }
+pub(crate) fn place_graph(alloc: Global, net: &Net<'_, '_>, all: &Graph) -> Result<Graph, NoMemory>
+    requires { IsGraphOf (among Kinds.ALL) net.now all.now }
+    ensures { IfOk result (IsPlaceGraph net.now) }
 {
     let flow = Kinds::FLOW;
     let anti = Kinds::ANTI;
-    let mut graph = spans_graph(alloc, nodes.len())?;
-    add_arrows_among(alloc, &mut graph, table, all, flow, Joining::CommitToStart)?;
-    add_arrows_among(alloc, &mut graph, table, all, anti, Joining::StartToCommit)?;
+    let mut graph = spans_graph(alloc, net.len())?;
+    add_arrows_among(alloc, &mut graph, net, all, flow, Joining::CommitToStart)?;
+    add_arrows_among(alloc, &mut graph, net, all, anti, Joining::StartToCommit)?;
     Ok(graph)
 }
 

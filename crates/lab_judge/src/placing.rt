@@ -3,19 +3,17 @@
 ghost use Rattle.std.specs.Prelude.{◌≡◌, ◌<◌, ◌≤◌, ◌*◌, ◌^◌, ◌==◌, ℕ, length, map, slice_index, Contains, IfOk};
 ghost use Rattle.std.specs.List.{All, count_by};
 ghost use Rattle.lab_order.specs.Order.{position};
-ghost use Rattle.lab_deps.specs.Soundness.{IsSound};
-ghost use Rattle.lab_judge.specs.Graphs.{IsHistoryGraph};
+ghost use Rattle.lab_history.specs.History.{History};
+ghost use Rattle.lab_deps.specs.KindSets.{among, is_any};
+ghost use Rattle.lab_deps.specs.declared.kinds.TheConstants.Kinds.{ALL};
+ghost use Rattle.lab_judge.specs.Due.{IsDuePlaces};
+ghost use Rattle.lab_judge.specs.Graphs.{IsGraphOf, IsNetOf};
 ghost use Rattle.lab_judge.specs.Runs.{spans_of};
-ghost use Rattle.lab_judge.specs.Judgement.{IsSnapshotVerdict, RestsOnPlaces};
-ghost use Rattle.lab_judge.specs.BackPoints.{HasBackCircle};
-ghost use Rattle.lab_judge.specs.LeastPlaces.{IsLeastPlacing};
 ghost use Rattle.lab_judge.specs.PlaceGraphs.{point_at, span_in};
 
-use crate::nodes::Nodes;
+use crate::net::Net;
 use crate::place_graph::place_graph;
 use crate::places::{Circle, Places, Point, Spans};
-use lab_deps::KindTable;
-use lab_history::History;
 use lab_order::{Graph, NoMemory, Ordered, order};
 use lab_table::TxnNo;
 use std::alloc::Global;
@@ -26,28 +24,21 @@ use std::alloc::Global;
 /// was refused.
 pub(crate) fn snapshot_verdict(
     alloc: Global,
-    _history: &History,
-    nodes: &Nodes,
-    table: &KindTable<'_, '_>,
+    net: &Net<'_, '_>,
     all: &Graph,
 ) -> Result<Places, NoMemory>
-    requires sound { IsSound _history.now }
-    requires given { IsHistoryGraph _history.now nodes.now table.now.edges all.now }
-    requires numbers { table.now.numbers ≡ nodes.now }
-    ensures verdict { IfOk result (IsSnapshotVerdict _history.now) }
-    ensures rests { IfOk result (RestsOnPlaces _history.now) }
-    ensures places { IfOk result (IsLeastPlacing _history.now) }
-    ensures circle { IfOk result (HasBackCircle _history.now) }
+    requires { IsGraphOf (among ALL) net.now all.now }
+    ensures { IfOk result (λ places. (h : History) → IsNetOf h is_any net.now → IsDuePlaces h places) }
 {
-    let graph = place_graph(alloc, nodes, table, all)?;
+    let graph = place_graph(alloc, net, all)?;
     match order(alloc, &graph)? {
         Ordered::Order(order) => {
-            let places = places_in(alloc, 2 * nodes.len(), &order)?;
-            let spans = spans_in(alloc, nodes, &places)?;
+            let places = places_in(alloc, 2 * net.len(), &order)?;
+            let spans = spans_in(alloc, net, &places)?;
             Ok(Places::Yes(Spans::new(spans)))
         }
         Ordered::Circle(circle) => {
-            let points = points_of(alloc, nodes, &circle)?;
+            let points = points_of(alloc, net, &circle)?;
             Ok(Places::NoCycle(Circle::new(points)))
         }
     }
@@ -73,38 +64,38 @@ fn places_in(alloc: Global, count: u32, order: &[u32]) -> Result<Vec<u32>, NoMem
 /// was refused.
 fn spans_in(
     alloc: Global,
-    nodes: &Nodes,
+    net: &Net<'_, '_>,
     places: &[u32],
 ) -> Result<Vec<(TxnNo, u32, u32)>, NoMemory>
-    requires { length places.now ≡ 2 * length nodes.now }
-    ensures { IfOk result (λ spans. spans_of spans.items ≡ map (span_in nodes.now places.now) nodes.now) }
+    requires { length places.now ≡ 2 * length net.now.numbers }
+    ensures { IfOk result (λ spans. spans_of spans.items ≡ map (span_in net.now.numbers places.now) net.now.numbers) }
 {
-    let mut spans = Vec::with_capacity(alloc, nodes.len() as usize)?;
-    for place in 0..nodes.len() {
+    let mut spans = Vec::with_capacity(alloc, net.len() as usize)?;
+    for place in 0..net.len() {
         let start = 2 * place as usize;
-        spans.push((nodes.number(place), places[start], places[start + 1]))?;
+        spans.push((net.number(place), places[start], places[start + 1]))?;
     }
     Ok(spans)
 }
 
 /// The starts and commits at these nodes, in the same order. NoMemory where an allocation was refused.
-fn points_of(alloc: Global, nodes: &Nodes, circle: &[u32]) -> Result<Vec<Point>, NoMemory>
-    requires { All (λ node. node < 2 * length nodes.now) circle.now }
-    ensures { IfOk result (λ points. points.items ≡ map (point_at nodes.now) circle.now) }
+fn points_of(alloc: Global, net: &Net<'_, '_>, circle: &[u32]) -> Result<Vec<Point>, NoMemory>
+    requires { All (λ node. node < 2 * length net.now.numbers) circle.now }
+    ensures { IfOk result (λ points. points.items ≡ map (point_at net.now.numbers) circle.now) }
 {
     let mut points = Vec::with_capacity(alloc, circle.len())?;
     for node in circle {
-        points.push(point_of(nodes, *node))?;
+        points.push(point_of(net, *node))?;
     }
     Ok(points)
 }
 
 /// The start or the commit at a node.
-fn point_of(nodes: &Nodes, node: u32) -> Point
-    requires { node < 2 * length nodes.now }
-    ensures { result ≡ point_at nodes.now node }
+fn point_of(net: &Net<'_, '_>, node: u32) -> Point
+    requires { node < 2 * length net.now.numbers }
+    ensures { result ≡ point_at net.now.numbers node }
 {
-    let number = nodes.number(node / 2);
+    let number = net.number(node / 2);
     if node % 2 == 0 {
         Point::Start(number)
     } else {

@@ -1,23 +1,24 @@
 //! Cycles of dependencies.
 
-ghost use Rattle.std.specs.Prelude.{◌≡◌, ◌<◌, ◌↔◌, ◌∷◌, List, Contains, IfOk, length};
-ghost use Rattle.std.specs.List.{All, IsFirstBest};
+ghost use Rattle.std.specs.Prelude.{◌<◌, ◌≡◌, IfOk, length};
+ghost use Rattle.std.specs.List.{IsFirstBest};
 ghost use Rattle.std.specs.Ordering.{is_lt, nat_cmp};
+ghost use Rattle.lab_order.specs.Order.{position};
+ghost use Rattle.lab_order.specs.Path.{Reaches};
 ghost use Rattle.lab_history.specs.History.{History};
-ghost use Rattle.lab_deps.specs.Edges.{IsEdge};
-ghost use Rattle.lab_deps.specs.KindSets.{among};
+ghost use Rattle.lab_deps.specs.KindSets.{among, is_any};
 ghost use Rattle.lab_deps.specs.declared.edge.Edge.{Edge as Spelled};
-ghost use Rattle.lab_judge.specs.Graphs.{HasEnds, IsGraphOf, IsTableOf};
-ghost use Rattle.lab_judge.specs.Judgement.{FindsWalk};
-ghost use Rattle.lab_judge.specs.LeastWalks.{AreCommitted, IsBackWalk, IsWayBack, IsTurnToLeast, IsOpenedRound, FindsDue};
-ghost use Rattle.lab_judge.specs.Openings.{AllowsAllOrNone, HasEdgesOf, IsClosedOf, IsOpenedWalk, LeadsBack};
+ghost use Rattle.lab_judge.specs.Due.{FindsOne};
+ghost use Rattle.lab_judge.specs.Graphs.{IsGraphOf, IsNetOf};
+ghost use Rattle.lab_judge.specs.LeastWalks.{IsBackWalk, IsWayBack, IsTurnToLeast, IsOpenedRound};
+ghost use Rattle.lab_judge.specs.Openings.{AllowsAllOrNone, IsClosedOf, IsOpenedWalk};
 
 use crate::findings::opening::first_opening;
-use crate::nodes::Nodes;
+use crate::net::Net;
 use crate::report::Finding;
 use crate::serial::Walk;
 use crate::walks::{walk_along, walk_round};
-use lab_deps::{Dependencies, Edge, KindTable, Kinds};
+use lab_deps::{Edge, Kinds};
 use lab_order::{Graph, NoMemory, Ordered, Ways, order, path};
 use std::alloc::Global;
 
@@ -25,20 +26,17 @@ use std::alloc::Global;
 /// refused.
 pub(crate) fn find_circle(
     alloc: Global,
-    nodes: &Nodes,
-    edges: &Dependencies<'_>,
+    net: &Net<'_, '_>,
     allowed: Kinds,
     graph: &Graph,
 ) -> Result<Finding, NoMemory>
-    requires ends { All (HasEnds nodes.now) edges.now }
-    requires graph { IsGraphOf (among allowed) nodes.now edges.now graph.now }
-    ensures found { IfOk result (λ finding. (h : History) → HasEdgesOf h (among allowed) edges.now → FindsWalk (IsClosedOf h (among allowed)) finding) }
-    ensures due { IfOk result (λ finding. (h : History) → AreCommitted h nodes.now → HasEdgesOf h (among allowed) edges.now → FindsDue (IsBackWalk h (among allowed)) finding) }
+    requires { IsGraphOf (among allowed) net.now graph.now }
+    ensures { IfOk result (λ finding. (h : History) → IsNetOf h (among allowed) net.now → FindsOne (IsClosedOf h (among allowed)) (IsBackWalk h (among allowed)) finding) }
 {
     match order(alloc, graph)? {
         Ordered::Order(_) => Ok(Finding::Absent),
         Ordered::Circle(circle) => {
-            let walk = walk_round(alloc, nodes, edges, allowed, circle)?;
+            let walk = walk_round(alloc, net, allowed, circle)?;
             Ok(Finding::Walk(walk))
         }
     }
@@ -49,74 +47,51 @@ pub(crate) fn find_circle(
 /// refused.
 pub(crate) fn find_opened(
     alloc: Global,
-    nodes: &Nodes,
-    edges: &Dependencies<'_>,
-    table: &KindTable<'_, '_>,
+    net: &Net<'_, '_>,
     allowed: Kinds,
     graph: &Graph,
     ways: &Ways<'_>,
     opening: Kinds,
 ) -> Result<Finding, NoMemory>
-    requires table { IsTableOf nodes.now edges.now table.now.numbers table.now.edges }
-    requires graph { IsGraphOf (among allowed) nodes.now edges.now graph.now }
+    requires graph { IsGraphOf (among allowed) net.now graph.now }
     requires ways { ways.now ≡ graph.now }
     requires allowed { AllowsAllOrNone (among opening) (among allowed) }
-    ensures found { IfOk result (λ finding. (h : History) → ((e : Spelled) → Contains edges.now e ↔ IsEdge h e) → FindsWalk (IsOpenedWalk h (among opening) (among allowed)) finding) }
-    ensures due { IfOk result (λ finding. (h : History) → AreCommitted h nodes.now → ((e : Spelled) → Contains edges.now e ↔ IsEdge h e) → FindsDue (IsOpenedRound h (among opening) (among allowed)) finding) }
+    ensures { IfOk result (λ finding. (h : History) → IsNetOf h is_any net.now → FindsOne (IsOpenedWalk h (among opening) (among allowed)) (IsOpenedRound h (among opening) (among allowed)) finding) }
 {
-    match first_opening(ways, nodes, edges, table, opening)? {
-        None => Ok(Finding::Absent),
-        Some(edge) => {
-            let walk = closed_by(alloc, nodes, edges, allowed, graph, &edge)?;
-            Ok(Finding::Walk(Walk::new(walk)))
-        }
-    }
+    let Some(ends) = first_opening(net, ways, opening) else {
+        return Ok(Finding::Absent);
+    };
+    let Some(edge) = net.least(ends.from, ends.to, opening)? else {
+        unreachable!()
+    };
+    let mut walk = way_back(alloc, net, allowed, graph, ends.to, ends.from)?;
+    walk.insert(0, edge)?;
+    Ok(Finding::Walk(Walk::new(with_least_first(walk))))
 }
 
-/// The cycle of an edge and of the least of the shortest paths that lead back from it. NoMemory where an allocation was
-/// refused.
-fn closed_by(
-    alloc: Global,
-    nodes: &Nodes,
-    edges: &Dependencies<'_>,
-    allowed: Kinds,
-    graph: &Graph,
-    edge: &Edge,
-) -> Result<Vec<Edge>, NoMemory>
-    requires ends { All (HasEnds nodes.now) edges.now }
-    requires graph { IsGraphOf (among allowed) nodes.now edges.now graph.now }
-    requires edge { Contains edges.now edge.now }
-    requires back { LeadsBack graph.now nodes.now edge.now }
-    ensures { IfOk result (λ walk. (h : History) → HasEdgesOf h (among allowed) edges.now
-        → (back : List Spelled) × IsWayBack h (among allowed) graph.now nodes.now edge.now back × IsTurnToLeast (edge.now ∷ back) walk.items) }
-{
-    let mut walk = way_back(alloc, nodes, edges, allowed, graph, edge)?;
-    walk.insert(0, *edge)?;
-    Ok(with_least_first(walk))
-}
-
-/// The least of the shortest paths from where an edge ends to where it begins, with the least edges between neighbours.
-/// NoMemory where an allocation was refused.
+/// The least of the shortest paths from one node to another, with the least edges between neighbours. NoMemory where an
+/// allocation was refused.
 fn way_back(
     alloc: Global,
-    nodes: &Nodes,
-    edges: &Dependencies<'_>,
+    net: &Net<'_, '_>,
     allowed: Kinds,
     graph: &Graph,
-    edge: &Edge,
+    from: u32,
+    to: u32,
 ) -> Result<Vec<Edge>, NoMemory>
-    requires ends { All (HasEnds nodes.now) edges.now }
-    requires graph { IsGraphOf (among allowed) nodes.now edges.now graph.now }
-    requires edge { HasEnds nodes.now edge.now }
-    requires back { LeadsBack graph.now nodes.now edge.now }
-    ensures { IfOk result (λ walk. (h : History) → HasEdgesOf h (among allowed) edges.now → IsWayBack h (among allowed) graph.now nodes.now edge.now walk.items) }
+    requires graph { IsGraphOf (among allowed) net.now graph.now }
+    requires from { from < length net.now.numbers }
+    requires to { to < length net.now.numbers }
+    requires back { Reaches graph.now from to }
+    ensures { IfOk result (λ walk. (h : History) (e : Spelled) → IsNetOf h (among allowed) net.now → position net.now.numbers e.to ≡ from → position net.now.numbers e.from ≡ to
+        → IsWayBack h (among allowed) graph.now net.now.numbers e walk.items) }
 {
-    let Some(nodes_back) = path(alloc, graph, nodes.place(edge.to), nodes.place(edge.from))? else {
+    let Some(nodes_back) = path(alloc, graph, from, to)? else {
         unreachable!()
     };
     match nodes_back.split_first() {
         None => unreachable!(),
-        Some((first, way)) => walk_along(alloc, nodes, edges, allowed, *first, way),
+        Some((first, way)) => walk_along(alloc, net, allowed, *first, way),
     }
 }
 

@@ -1,15 +1,14 @@
-use Rattle.std.proofs.Common.{◌≡◌, ◌||◌, length, ap, ◌∙◌, arith}
-use Rattle.lab_order.specs.Arrows.{has_arrow}
-use Rattle.lab_deps.specs.KindSets.{among}
-use Rattle.lab_judge.{specs.Joining.{landing, any_below}, proofs.Landings.{landed}}
+use Rattle.std.proofs.{Common.{arith, inl, inr}, lemmas.{Bool.{cases_lt}, Option.{slice_get_within}}}
+use Rattle.lab_judge.proofs.Growing.{unchanged, grown, wider}
 use Rattle.lab_judge.proofs.joining.add_arrows.Goals as goal
 
-pub returns-clause-arrows : goal.returns-clause-arrows
-returns-clause-arrows c = λ a b.
-    let test = among c.args.kinds in
-    let nodes = c.args.table.now.numbers in
-    let edges = c.args.table.now.edges in
-    let all : c.loop-from.from ≡ length nodes = omega (arith, c.len-from-end.ensures, c.requires.table.few) in
-    c.loop-from.invariant.arrows a b
-    ∙ (ap (λ k. any_below (λ p. any_below (landing test c.args.joining nodes edges a b p) (length nodes)) k || has_arrow c.args.graph.now a b) all
-    ∙ ap (λ t. t || has_arrow c.args.graph.now a b) (landed test c.args.joining nodes edges c.requires.table.ends a b))
+pub loop-from-init : goal.loop-from-init
+loop-from-init c = unchanged (λ p q less t. omega (arith, less))
+
+pub loop-from-preserved : goal.loop-from-preserved
+loop-from-preserved c =
+    grown c.loop-from.invariant c.in_ok-add_arrows_from.ensures
+    (λ p q less. elim (cases_lt p c.loop-from.from) [ inl before ↦ inl before | inr past ↦ inr (omega (arith, less, past)) ])
+
+pub returns : goal.returns
+returns c = wider c.loop-from.invariant (λ p q any t. let within = slice_get_within _ p _ t.from in omega (arith, within, c.loop-from-test.false, c.len-from-end.ensures.count))

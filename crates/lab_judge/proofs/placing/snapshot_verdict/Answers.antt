@@ -1,12 +1,9 @@
 use Rattle.std.{proofs.Common.{◌≡◌, ◌∙◌, ◌<◌, ◌≤◌, ◌*◌, sym, ap, map, subst, length, arith}, specs.{List.{All, count_by}, Prelude.{◌==◌, ℕ, Contains, slice_index}}}
-use Rattle.lab_judge.specs.{PlaceGraphs.{point_at, span_in}, LeastPlaces.{IsLower}, Places.{IsArrow, IsCircle}}
 use Rattle.lab_order.specs.{Knots.{IsBackCircle}, Order.{IsOrdered, IsAnswered, position}}
-use Rattle.lab_judge.proofs.{GraphNodes.{within, circle_within, once_in}, NodePlaces.{no_more}, PointNodes.{circle_is, back_circle}, SerialVerdicts.{all_have_ends}, SnapshotVerdicts.{rests, runs, least_placing}}
-use Rattle.lab_judge.proofs.placing.snapshot_verdict.Goals as goal
 use Rattle.lab_deps.proofs.Places.{times_count}
-
-pub place_graph-requires-clause-ends : goal.place_graph-requires-clause-ends
-place_graph-requires-clause-ends c = all_have_ends c.args._history.now c.args.nodes.now c.requires.given.once c.args.table.now.edges (λ e there. (c.requires.given.exact e).0 there)
+use Rattle.lab_judge.specs.{PlaceGraphs.{point_at, span_in}, LeastPlaces.{IsLower}, Places.{IsArrow}}
+use Rattle.lab_judge.proofs.{GraphNodes.{within, circle_within, once_in}, NodePlaces.{no_more}, PointNodes.{back_circle}, SnapshotVerdicts.{due_places}}
+use Rattle.lab_judge.proofs.placing.snapshot_verdict.Goals as goal
 
 pub places_in-requires-clause-within : goal.places_in-requires-clause-within
 places_in-requires-clause-within c =
@@ -28,48 +25,20 @@ places_in-requires-clause-few c =
     let size = ap length c.deref.ensures.value in
     omega (arith, most, size, c.in_ok-graph.ensures.size, c.len.ensures.count, c.len.ensures.few)
 
-pub returns-in-Order-clause-verdict : goal.returns-in-Order-clause-verdict
-returns-in-Order-clause-verdict c =
-    let answered = subst (IsAnswered c.in_ok-graph.graph) c.in-Order.is c.in_ok-order.ensures.least in
+pub returns-in-Order : goal.returns-in-Order
+returns-in-Order c = λ h of.
     let are = subst (λ l. (node : ℕ) → Contains l node → slice_index c.in_ok-places-in-Order.places.items node ≡ position l node) c.deref.ensures.value c.in_ok-places-in-Order.ensures.places in
-    runs c.args._history.now c.args.nodes.now c.requires.given.rising c.requires.given.once c.args.table.now.edges c.requires.given.exact c.in_ok-graph.graph c.in_ok-order.ensures.graph c.in_ok-graph.ensures
-    c.in-Order.order.items answered c.in_ok-places-in-Order.places.items are c.new.result
-    (c.new.ensures ∙ c.in_ok-spans-in-Order.ensures ∙ ap (λ l. map (span_in c.args.nodes.now l) c.args.nodes.now) c.deref-in-Order.ensures.value) c.requires.sound
-
-pub returns-in-Order-clause-rests : goal.returns-in-Order-clause-rests
-returns-in-Order-clause-rests c =
-    let answered = subst (IsAnswered c.in_ok-graph.graph) c.in-Order.is c.in_ok-order.ensures.least in
-    let are = subst (λ l. (node : ℕ) → Contains l node → slice_index c.in_ok-places-in-Order.places.items node ≡ position l node) c.deref.ensures.value c.in_ok-places-in-Order.ensures.places in
-    rests c.args._history.now c.args.nodes.now c.requires.given.rising c.requires.given.once c.args.table.now.edges c.requires.given.exact c.in_ok-graph.graph c.in_ok-order.ensures.graph c.in_ok-graph.ensures
-    c.in-Order.order.items answered c.in_ok-places-in-Order.places.items are c.new.result
-    (c.new.ensures ∙ c.in_ok-spans-in-Order.ensures ∙ ap (λ l. map (span_in c.args.nodes.now l) c.args.nodes.now) c.deref-in-Order.ensures.value) c.requires.sound
-
-pub returns-in-Order-clause-places : goal.returns-in-Order-clause-places
-returns-in-Order-clause-places c =
-    let answered = subst (IsAnswered c.in_ok-graph.graph) c.in-Order.is c.in_ok-order.ensures.least in
-    let are = subst (λ l. (node : ℕ) → Contains l node → slice_index c.in_ok-places-in-Order.places.items node ≡ position l node) c.deref.ensures.value c.in_ok-places-in-Order.ensures.places in
-    least_placing c.args._history.now c.args.nodes.now c.requires.given.rising c.requires.given.once c.args.table.now.edges c.requires.given.exact c.in_ok-graph.graph c.in_ok-order.ensures.graph c.in_ok-graph.ensures
-    c.in-Order.order.items answered c.in_ok-places-in-Order.places.items are c.new.result
-    (c.new.ensures ∙ c.in_ok-spans-in-Order.ensures ∙ ap (λ l. map (span_in c.args.nodes.now l) c.args.nodes.now) c.deref-in-Order.ensures.value)
+    due_places of c.in_ok-graph.graph c.in_ok-order.ensures.graph c.in_ok-graph.ensures c.in-Order.order.items (subst (IsAnswered c.in_ok-graph.graph) c.in-Order.is c.in_ok-order.ensures.least)
+    c.in_ok-places-in-Order.places.items are c.new.result
+    (c.new.ensures ∙ c.in_ok-spans-in-Order.ensures ∙ ap (λ l. map (span_in c.args.net.now.numbers l) c.args.net.now.numbers) c.deref-in-Order.ensures.value)
 
 pub points_of-requires : goal.points_of-requires
 points_of-requires c =
     let circle = subst (IsOrdered c.in_ok-graph.graph) c.in-Circle.is c.in_ok-order.ensures.ordered in
-    subst (All (λ n. n < 2 * length c.args.nodes.now)) (sym c.deref-in-Circle.ensures.value)
+    subst (All (λ n. n < 2 * length c.args.net.now.numbers)) (sym c.deref-in-Circle.ensures.value)
     (subst (λ k. All (λ n. n < k) c.in-Circle.circle.items) c.in_ok-graph.ensures.size (circle_within c.in_ok-graph.graph c.in_ok-order.ensures.graph c.in-Circle.circle.items circle))
 
-pub returns-clause-verdict : goal.returns-clause-verdict
-returns-clause-verdict c =
-    let circle = subst (IsOrdered c.in_ok-graph.graph) c.in-Circle.is c.in_ok-order.ensures.ordered in
-    let made = c.new-in-Circle.ensures ∙ c.in_ok-points-in-Circle.ensures ∙ ap (map (point_at c.args.nodes.now)) c.deref-in-Circle.ensures.value in (
-      c.requires.sound,
-      subst (IsCircle c.args._history.now) (sym made) (circle_is c.args._history.now c.args.nodes.now c.requires.given.rising c.requires.given.once c.args.table.now.edges c.requires.given.exact c.in_ok-graph.graph
-          c.in_ok-order.ensures.graph c.in_ok-graph.ensures c.in-Circle.circle.items circle),
-    )
-
-pub returns-clause-circle : goal.returns-clause-circle
-returns-clause-circle c =
-    let answered = subst (IsAnswered c.in_ok-graph.graph) c.in-Circle.is c.in_ok-order.ensures.least in
-    let made = c.new-in-Circle.ensures ∙ c.in_ok-points-in-Circle.ensures ∙ ap (map (point_at c.args.nodes.now)) c.deref-in-Circle.ensures.value in
-    subst (IsBackCircle IsLower (IsArrow c.args._history.now)) (sym made) (back_circle c.args._history.now c.args.nodes.now c.requires.given.rising c.requires.given.once c.args.table.now.edges c.requires.given.exact
-    c.in_ok-graph.graph c.in_ok-order.ensures.graph c.in_ok-graph.ensures c.in-Circle.circle.items answered)
+pub returns : goal.returns
+returns c = λ h of.
+    subst (IsBackCircle IsLower (IsArrow h)) (sym (c.new-in-Circle.ensures ∙ c.in_ok-points-in-Circle.ensures ∙ ap (map (point_at c.args.net.now.numbers)) c.deref-in-Circle.ensures.value))
+    (back_circle of c.in_ok-graph.graph c.in_ok-order.ensures.graph c.in_ok-graph.ensures c.in-Circle.circle.items (subst (IsAnswered c.in_ok-graph.graph) c.in-Circle.is c.in_ok-order.ensures.least))

@@ -1,24 +1,19 @@
 use Rattle.std.proofs.Common.{subst}
-use Rattle.lab_order.specs.Order.{IsOrdered, IsAnswered}
+use Rattle.lab_order.{specs.{Arrows.{IsArrow}, Order.{IsOrdered, IsAnswered}}, proofs.Trails.{ring_of}}
 use Rattle.lab_deps.specs.KindSets.{among}
-use Rattle.lab_judge.proofs.{GraphWalks.{order_excludes}, LeastWalks.{edge_graph, round_closed}}
+use Rattle.lab_judge.{specs.Graphs.{Tie}, proofs.{GraphWalks.{order_excludes}, LeastWalks.{is_back}}}
 use Rattle.lab_judge.proofs.findings.closed_walk.find_circle.Goals as goal
 
-pub returns-in-Order-clause-found : goal.returns-in-Order-clause-found
-returns-in-Order-clause-found c = λ h has es closed.
-    order_excludes (among c.args.allowed) c.args.nodes.now c.args.edges.now c.args.graph.now c.requires.graph c.in-Order.field-0.items
-    (subst (IsOrdered c.args.graph.now) c.in-Order.is c.in_ok-order.ensures.ordered) h has es closed
+pub returns-in-Order : goal.returns-in-Order
+returns-in-Order c = λ h of es closed.
+    order_excludes of c.args.graph.now c.requires c.in-Order.field-0.items (subst (IsOrdered c.args.graph.now) c.in-Order.is c.in_ok-order.ensures.ordered) es closed
 
-pub returns-clause-found : goal.returns-clause-found
-returns-clause-found c = λ h has. round_closed h (among c.args.allowed) c.args.nodes.now c.in-Circle.circle.items c.in_ok-walk-in-Circle.walk (c.in_ok-walk-in-Circle.ensures h has)
+pub walk_round-requires : goal.walk_round-requires
+walk_round-requires c =
+    ring_of (IsArrow c.args.graph.now) (Tie (among c.args.allowed) c.args.net.now) (λ a b. (c.requires.arrows a b).0) c.in-Circle.circle.items
+    (subst (IsOrdered c.args.graph.now) c.in-Circle.is c.in_ok-order.ensures.ordered)
 
-pub returns-clause-due : goal.returns-clause-due
-returns-clause-due c = λ h committed has. record {
-  txns = c.args.nodes.now;
-  committed = committed;
-  graph = c.args.graph.now;
-  edges = edge_graph h (among c.args.allowed) c.args.edges.now has c.args.nodes.now c.args.graph.now c.requires.graph;
-  circle = c.in-Circle.circle.items;
-  back = subst (IsAnswered c.args.graph.now) c.in-Circle.is c.in_ok-order.ensures.least;
-  round = c.in_ok-walk-in-Circle.ensures h has;
-}
+pub returns : goal.returns
+returns c = λ h of.
+    is_back of c.args.graph.now c.requires c.in-Circle.circle.items (subst (IsAnswered c.args.graph.now) c.in-Circle.is c.in_ok-order.ensures.least) c.in_ok-walk-in-Circle.walk
+    (c.in_ok-walk-in-Circle.ensures h of)

@@ -1,44 +1,50 @@
-use Rattle.std.{proofs.{Common.{◌≡◌, ◌∷◌, false, sym, subst}, lemmas.List.Elements.{All-contains}}, specs.{List.{All}, Ordering.{is_lt}, Prelude.{Contains, IfSome}}}
-use Rattle.lab_judge.{specs.{Graphs.{HasEnds}, Openings.{IsOpenedWalk, IsOpening}, LeastWalks.{IsTurnToLeast}}, proofs.{LeastWalks.{edge_graph, opened_round}, OpenedWalks.{none_opened}, WalkKinds.{has_all}}}
-use Rattle.lab_deps.specs.{EdgeOrder.{edge_cmp}, KindSets.{among}, declared.edge.Edge.{Edge}}
+use Rattle.std.{proofs.{Common.{◌∷◌, ◌<◌, ℕ, sym, subst}, lemmas.Option.{slice_get_within}}, specs.Prelude.{IfSome}}
+use Rattle.lab_order.specs.Path.{Reaches}
+use Rattle.lab_deps.specs.KindSets.{among}
+use Rattle.lab_judge.{specs.{Graphs.{Tie, IsLeastTie}, LeastWalks.{IsFirstOpening, IsTurnToLeast}}, proofs.{FirstOpenings.{is_first}, Nets.{edge_graph, net_for}, Numbers.{at_its_place}, OpenedWalks.{none_opened}}}
 use Rattle.lab_judge.proofs.findings.closed_walk.find_opened.Goals as goal
 
-pub returns-in-None-clause-found : goal.returns-in-None-clause-found
-returns-in-None-clause-found c = λ h exact.
-    none_opened (among c.args.allowed) c.args.nodes.now c.args.edges.now c.args.graph.now c.requires.graph (among c.args.opening) c.requires.allowed h exact
-    (subst (λ g. All (λ e. IsOpening (among c.args.opening) g c.args.nodes.now e → ⊥) c.args.edges.now) c.requires.ways (c.in_ok-first_opening.ensures.none c.in-None.is))
+pub returns-in_default : goal.returns-in_default
+returns-in_default c = λ h of.
+    none_opened of (among c.args.allowed) (among c.args.opening) c.args.graph.now c.requires.graph c.requires.allowed
+    (λ p q back. c.first_opening.ensures.none c.in_default.is p q (subst (λ g. Reaches g q p) (sym c.requires.ways) back))
 
-pub returns-in_ok-walk-in-Some-clause-found : goal.returns-in_ok-walk-in-Some-clause-found
-returns-in_ok-walk-in-Some-clause-found c = λ h exact.
-    let found : Contains c.args.edges.now c.in-Some.edge × IsOpening (among c.args.opening) c.args.graph.now c.args.nodes.now c.in-Some.edge
-    = subst (λ g. Contains c.args.edges.now c.in-Some.edge × IsOpening (among c.args.opening) g c.args.nodes.now c.in-Some.edge) c.requires.ways
-    (subst (λ o. IfSome o (λ e. Contains c.args.edges.now e × IsOpening (among c.args.opening) c.args.ways.now c.args.nodes.now e)) c.in-Some.is c.in_ok-first_opening.ensures.found) in
-    let round = c.in_ok-walk-in-Some.ensures h (has_all h c.args.edges.now exact (among c.args.allowed)) in
-    subst (IsOpenedWalk h (among c.args.opening) (among c.args.allowed)) (sym c.new.ensures)
-    (opened_round h (among c.args.allowed) (among c.args.opening) c.args.graph.now c.args.nodes.now c.in-Some.edge
-    (All-contains (HasEnds c.args.nodes.now) c.args.edges.now c.in-Some.edge c.requires.table.ends found.0) ((exact c.in-Some.edge).0 found.0) found.1.0 round.0 round.1 c.in_ok-walk-in-Some.walk.items round.2)
+pub least-requires : goal.least-requires
+least-requires c =
+    let tie = (subst (λ o. IfSome o (λ ends. Tie (among c.args.opening) c.args.net.now ends.from ends.to × Reaches c.args.ways.now ends.to ends.from)) c.in-Some.is c.first_opening.ensures.found).0 in
+    record { from = slice_get_within _ _ _ tie.from; to = slice_get_within _ _ _ tie.to }
 
-pub returns-in_ok-walk-in-Some-clause-due : goal.returns-in_ok-walk-in-Some-clause-due
-returns-in_ok-walk-in-Some-clause-due c = λ h committed exact.
-    let graph = c.args.graph.now in
-    let nodes = c.args.nodes.now in
-    let edges = c.args.edges.now in
-    let has = has_all h edges exact (among c.args.allowed) in
-    let found : Contains edges c.in-Some.edge × IsOpening (among c.args.opening) graph nodes c.in-Some.edge
-    = subst (λ g. Contains edges c.in-Some.edge × IsOpening (among c.args.opening) g nodes c.in-Some.edge) c.requires.ways
-    (subst (λ o. IfSome o (λ e. Contains edges e × IsOpening (among c.args.opening) c.args.ways.now nodes e)) c.in-Some.is c.in_ok-first_opening.ensures.found) in
-    let first : (f : Edge) → Contains edges f → IsOpening (among c.args.opening) graph nodes f → is_lt (edge_cmp f c.in-Some.edge) ≡ false
-    = subst (λ g. (f : Edge) → Contains edges f → IsOpening (among c.args.opening) g nodes f → is_lt (edge_cmp f c.in-Some.edge) ≡ false) c.requires.ways
-    (subst (λ o. IfSome o (λ e. (f : Edge) → Contains edges f → IsOpening (among c.args.opening) c.args.ways.now nodes f → is_lt (edge_cmp f e) ≡ false)) c.in-Some.is c.in_ok-first_opening.ensures.first) in
-    let round = c.in_ok-walk-in-Some.ensures h has in
+pub unreachable-requires : goal.unreachable-requires
+unreachable-requires c =
+    c.in_ok-edge.ensures.none c.in_default-2.is
+    (subst (λ o. IfSome o (λ ends. Tie (among c.args.opening) c.args.net.now ends.from ends.to × Reaches c.args.ways.now ends.to ends.from)) c.in-Some.is c.first_opening.ensures.found).0
+
+pub way_back-requires-clause-back : goal.way_back-requires-clause-back
+way_back-requires-clause-back c =
+    subst (λ g. Reaches g c.in-Some.ends.to c.in-Some.ends.from) c.requires.ways
+    (subst (λ o. IfSome o (λ ends. Tie (among c.args.opening) c.args.net.now ends.from ends.to × Reaches c.args.ways.now ends.to ends.from)) c.in-Some.is c.first_opening.ensures.found).1
+
+pub returns : goal.returns
+returns c = λ h of.
+    let opening = among c.args.opening in
+    let net = c.args.net.now in
+    let ways = c.args.ways.now in
+    let edge = c.in-Some-2.edge in
+    let found : Tie opening net c.in-Some.ends.from c.in-Some.ends.to × Reaches ways c.in-Some.ends.to c.in-Some.ends.from
+    = subst (λ o. IfSome o (λ ends. Tie opening net ends.from ends.to × Reaches ways ends.to ends.from)) c.in-Some.is c.first_opening.ensures.found in
+    let first = subst (λ o. IfSome o (λ ends. (p q : ℕ) → p < ends.from → Reaches ways q p → ¬ Tie opening net p q)) c.in-Some.is c.first_opening.ensures.first in
+    let next = subst (λ o. IfSome o (λ ends. (q : ℕ) → q < ends.to → Reaches ways q ends.from → ¬ Tie opening net ends.from q)) c.in-Some.is c.first_opening.ensures.next in
+    let least : IsLeastTie opening net c.in-Some.ends.from c.in-Some.ends.to edge = subst (λ o. IfSome o (IsLeastTie opening net c.in-Some.ends.from c.in-Some.ends.to)) c.in-Some-2.is c.in_ok-edge.ensures.found in
     record {
-      txns = nodes;
-      committed = committed;
-      graph = graph;
-      edges = edge_graph h (among c.args.allowed) edges has nodes graph c.requires.graph;
-      edge = c.in-Some.edge;
-      first = record { edge = (exact c.in-Some.edge).0 found.0; opens = found.1; first = λ f edge opened. first f ((exact f).1 edge) opened };
-      back = round.0;
-      way = round.1;
-      turned = subst (IsTurnToLeast (c.in-Some.edge ∷ round.0)) (sym c.new.ensures) round.2;
+      txns = net.numbers;
+      committed = of.committed;
+      graph = c.args.graph.now;
+      edges = edge_graph (net_for (among c.args.allowed) of) c.args.graph.now c.requires.graph;
+      edge = edge;
+      first = subst (λ g. IsFirstOpening h opening g net.numbers edge) c.requires.ways (is_first of opening ways c.in-Some.ends.from c.in-Some.ends.to first next found.1 edge least);
+      back = c.in_ok-walk.walk.items;
+      way = c.in_ok-walk.ensures h edge (net_for (among c.args.allowed) of) (at_its_place net.numbers of.committed.rising c.in-Some.ends.to edge.to least.to)
+          (at_its_place net.numbers of.committed.rising c.in-Some.ends.from edge.from least.from);
+      turned = subst (IsTurnToLeast (edge ∷ c.in_ok-walk.walk.items)) (sym c.new.ensures)
+          (subst (λ l. IsTurnToLeast l c.with_least_first.result.items) c.in_ok-insert.ensures.items c.with_least_first.ensures);
     }

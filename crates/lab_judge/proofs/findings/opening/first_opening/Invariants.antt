@@ -1,9 +1,9 @@
-use Rattle.std.{proofs.Common.{◌<◌}, specs.Prelude.{Contains}}
-use Rattle.lab_order.specs.Order.{position}
-use Rattle.lab_deps.specs.{KindSets.{among}, declared.edge.Edge.{Edge}}
-use Rattle.lab_judge.specs.Openings.{IsOpening}
+use Rattle.std.proofs.Common.{◌<◌, ℕ}
+use Rattle.lab_order.specs.Path.{Reaches}
+use Rattle.lab_deps.specs.KindSets.{among}
+use Rattle.lab_judge.specs.Graphs.{Tie}
 use Rattle.lab_judge.proofs.findings.opening.first_opening.Given as goal
 
 -- none from the transactions so far opens a walk that leads back
 abbrev pub invariant-loop-from : goal.invariant-loop-from
-invariant-loop-from l = (e : Edge) → Contains l.edges e → position l.nodes e.from < l.from → IsOpening (among l.opening) l.ways l.nodes e → ⊥
+invariant-loop-from l = (p q : ℕ) → p < l.from → Reaches l.ways q p → ¬ Tie (among l.opening) l.net p q
