@@ -79,9 +79,9 @@ class Cluster:
         self.started.append(Process(self.room, what, words, processors))
         return self.started[-1]
 
-    def add(self, count=1):
-        """Starts some workers, and waits until the scheduler has them."""
-        words = [self.address, "--nthreads", "1", "--local-directory", self.room]
+    def add(self, count=1, *more):
+        """Starts some workers, with more words, and waits until the scheduler has them."""
+        words = [self.address, "--nthreads", "1", "--local-directory", self.room, *more]
         added = [self.start("worker", words) for _ in range(count)]
         for worker in added:
             worker.wait_for("Registered to:")
