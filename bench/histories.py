@@ -209,12 +209,37 @@ def lists(part, is_no):
     return it
 
 
+def selects(part, is_no):
+    """9,200 selects by a range of values over 1,000 rows, each of which lists twenty, an update of two rows, and what reads
+    these. In the no that sees one of the two as it was at first."""
+    count, every = 920 // part, range(1, IDS + 1)
+    initial = table_of({row: row * 7_919 % IDS for row in every})
+    it, pick = Recorder(initial, seen_at_first(is_no, count + 2, named([2]))), numbers()
+    for _ in range(count):
+        it.begin()
+        for _ in range(10):
+            least = next(pick) % (IDS - 20)
+            it.run(f"select * from test where value >= {least} and value < {least + 20}", every,
+                   lambda row, value, least=least: least <= value < least + 20, None)
+        it.end()
+    it.begin()
+    update_row(it, 1)
+    update_row(it, 2)
+    it.end()
+    it.begin()
+    select_row(it, 1)
+    select_row(it, 2)
+    it.end()
+    return it
+
+
 IN_VERSION_1 = chain, points, wide, reborn, worst, lists, flips, bounds, shuffled, unlike, hostile
 SHAPES = {shape.__name__: (shape, 1) for shape in IN_VERSION_1} | {
     "points_2": (points, 2),
     "wide_2": (wide, 2),
     "tables": (tables, 2),
     "ranges": (ranges, 2),
+    "selects": (selects, 2),
     "ring": (ring, 2),
     "rounds_66": (partial(rounds, 66, 1_000), 2),
     "rounds_330": (partial(rounds, 330, 200), 2),
