@@ -6,8 +6,8 @@ ghost use Rattle.lab_script.specs.Printed.{printed_script};
 ghost use Rattle.lab_matrix.specs.Listings.{case_script};
 
 use lab_matrix::{CaseName, cases_print};
+use lab_printing::PrintFault;
 use lab_script::print_script;
-use lab_statement::PrintFault;
 use lab_streams::{Ending, RunFault, write_text};
 use lab_table::NoMemory;
 use std::alloc::{AllocError, Global};

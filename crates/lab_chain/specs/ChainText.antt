@@ -1,7 +1,7 @@
 -- The text about a run in parts: how many it has, and ten lines.
 use Rattle.std.specs.Prelude.{ℕ, ◌++◌, List, codes}
 use Rattle.std.specs.Fmt.{decimal}
-use Rattle.lab_statement.specs.Printed.{newline}
+use Rattle.lab_printing.specs.Printed.{newline}
 use Rattle.lab_judge.specs.ReportText.{line_text}
 use Rattle.lab_chain.specs.Levels.{level_name}
 use Rattle.lab_chain.specs.declared.line.Line.{Line}

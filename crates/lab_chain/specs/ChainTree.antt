@@ -3,7 +3,7 @@ use Rattle.std.specs.Prelude.{◌≡◌, ℕ, ◌++◌, cond, ◌⊎◌, Option,
 use Rattle.std.specs.Str.{is_utf8}
 use Rattle.serde_json.specs.Data.{Data, null, string}
 use Rattle.lab_table.specs.Table.{Table}
-use Rattle.lab_statement.specs.Printed.{newline}
+use Rattle.lab_printing.specs.Printed.{newline}
 use Rattle.lab_history_file.specs.Tree.{natural_tree, value_tree, map_tree}
 use Rattle.lab_reports.specs.Tree.{object_of, verdict, line_of}
 use Rattle.lab_chain.specs.Levels.{level_name}

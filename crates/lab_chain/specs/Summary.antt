@@ -2,7 +2,7 @@
 use Rattle.std.specs.Prelude.{ℕ, ◌+◌, ◌-◌, ◌^◌, min, ◌++◌, Option, Some, None, List, [], codes}
 use Rattle.lab_table.specs.Row.{Row}
 use Rattle.lab_table.specs.Table.{Table}
-use Rattle.lab_statement.specs.Printed.{printed_row_name}
+use Rattle.lab_printing.specs.Printed.{printed_row_name}
 use Rattle.lab_chain.specs.Difference.{first_difference}
 use Rattle.lab_chain.specs.Levels.{worse}
 use Rattle.lab_chain.specs.Lines.{line_joined}

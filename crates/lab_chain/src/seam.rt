@@ -7,7 +7,7 @@ ghost use Rattle.lab_chain.specs.Summary as spec;
 use crate::level::Level;
 use crate::line::{Line, Text};
 use crate::summary::{Ends, Lines};
-use lab_statement::put_row_name;
+use lab_printing::put_row_name;
 use lab_table::{NoMemory, RowName, Table, Value};
 use std::alloc::Global;
 

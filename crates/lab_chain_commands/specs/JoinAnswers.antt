@@ -3,7 +3,7 @@ use Rattle.std.specs.Prelude.{◌≡◌, ℕ, max, Option, Some, None, List, [],
 use Rattle.std.specs.List.{All, flat_map}
 use Rattle.serde_json.specs.Data.{Data, string}
 use Rattle.lab_commands.specs.Batching.{name_line, unreadable_text}
-use Rattle.lab_statement.specs.Printed.{newline}
+use Rattle.lab_printing.specs.Printed.{newline}
 use Rattle.lab_reports.specs.Tree.{line_of, object_of, about}
 use Rattle.lab_streams.specs.declared.reporting.Format.{Format}
 use Rattle.lab_streams.specs.declared.reporting.Format.TheVariants.{Lines, Json}

@@ -1,7 +1,7 @@
 -- What `batch` says of files.
 use Rattle.std.specs.Prelude.{◌≡◌, ◌≤◌, ◌⊎◌, ℕ, ◌++◌, List, [], map, Bool, true, false, Option, Some, None, Result, Ok, Err, codes}
 use Rattle.std.specs.List.{All, Contains, flat_map}
-use Rattle.lab_statement.specs.Printed.{newline}
+use Rattle.lab_printing.specs.Printed.{newline}
 use Rattle.lab_history.specs.declared.fault.FileFault.{FileFault}
 use Rattle.lab_judge.specs.declared.report.Report.{Report}
 use Rattle.lab_judge.specs.FileJudgement.{IsFileAnswer}

@@ -3,7 +3,7 @@ use Rattle.std.specs.Prelude.{ℕ, ◌-◌, cond, Option, Some, None, unwrap_or,
 use Rattle.lab_table.specs.Table.{Table}
 use Rattle.lab_table.specs.Sessions.{of_session}
 use Rattle.lab_script.specs.Printed.{printed_table}
-use Rattle.lab_statement.specs.Printed.{newline}
+use Rattle.lab_printing.specs.Printed.{newline}
 use Rattle.lab_history.specs.History.{History}
 use Rattle.lab_engine.specs.EventQuery.{is_over}
 use Rattle.lab_engine.specs.RecordedLog.{RecordedLog}

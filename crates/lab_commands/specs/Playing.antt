@@ -2,9 +2,9 @@
 use Rattle.std.specs.Prelude.{◌≡◌, ◌≢◌, ℕ, ◌<◌, ◌≤◌, ◌⊎◌, Ok, Option, Some, None, List, [], ◌++◌, length, Bool, true, false}
 use Rattle.serde_json.specs.Written.{compact_text}
 use Rattle.lab_script.specs.declared.script.Script.{Script}
-use Rattle.lab_statement.specs.Printed.{newline}
+use Rattle.lab_printing.specs.Printed.{newline}
 use Rattle.lab_script.specs.Script.{Spells}
-use Rattle.lab_statement.specs.Limits.{IsDeep, IsLong}
+use Rattle.lab_printing.specs.Limits.{IsDeep, IsLong}
 use Rattle.lab_history.specs.History.{History}
 use Rattle.lab_history.specs.FirstPartsFault.{checked}
 use Rattle.lab_history_file.specs.Tree.{tree_of}

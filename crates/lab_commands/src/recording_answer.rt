@@ -1,7 +1,7 @@
 //! What a recording tells.
 
 ghost use Rattle.std.specs.Prelude.{◌≢◌, ◌≡◌, Err, IfOk, IfErr};
-ghost use Rattle.lab_statement.specs.Limits.{IsDeep, IsLong};
+ghost use Rattle.lab_printing.specs.Limits.{IsDeep, IsLong};
 ghost use Rattle.lab_session.specs.LogText.{SomeEvent};
 ghost use Rattle.lab_commands.specs.Playing.{log_said, Ends, IsLogAnswer, IsHistoryAnswer, IsRecordingAnswer, IsUntold};
 
@@ -11,9 +11,9 @@ use lab_engine::Recording;
 use lab_history::{FileFault, Limit};
 use lab_history_file::{WriteFault, write_history};
 use lab_judge::{judge_recording, print_file_fault};
+use lab_printing::PrintFault;
 use lab_reports::Requirement;
 use lab_session::{PlayFault, print_log};
-use lab_statement::PrintFault;
 use lab_streams::{Answer, Ending, Format, Wanted, ending_of, print_said, shortfall_line};
 use lab_table::NoMemory;
 use std::alloc::{AllocError, Global};

@@ -1,7 +1,7 @@
 //! A log with the committed rows behind each event that ends a transaction.
 
 ghost use Rattle.std.specs.Prelude.{◌≢◌, ◌≡◌, ◌++◌, Err, IfOk, OnOk};
-ghost use Rattle.lab_statement.specs.Limits.{IsDeep, IsLong};
+ghost use Rattle.lab_printing.specs.Limits.{IsDeep, IsLong};
 ghost use Rattle.lab_session.specs.LogText.{SomeEvent};
 ghost use Rattle.lab_commands.specs.CommittedRows.{remarked_log, remarked_recording, remarked_text, rows_remark};
 
@@ -9,8 +9,8 @@ use crate::rows_text::put_rows;
 use crate::standing::{Standing, is_over};
 use lab_engine::{LogEvent, Outcome, Recording};
 use lab_history::History;
+use lab_printing::PrintFault;
 use lab_session::put_event;
-use lab_statement::PrintFault;
 use lab_table::{ByRow, NoMemory, Value};
 use std::alloc::Global;
 

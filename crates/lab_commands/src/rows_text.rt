@@ -3,7 +3,7 @@
 ghost use Rattle.std.specs.Prelude.{◌≡◌, ◌++◌, codes, OnOk};
 ghost use Rattle.lab_script.specs.Printed.{named_rows_or};
 
-use lab_statement::{append_result, spell_all};
+use lab_printing::{append_result, spell_all};
 use lab_table::{NoMemory, RowName, Value};
 
 /// Appends rows with their values, as `(1, 10), stock (1, 5)`; `none` where there is none. After NoMemory, part of that may

@@ -5,7 +5,7 @@ use Rattle.std.specs.List.{list_all}
 use Rattle.std.specs.Ordering.{int_eq}
 use Rattle.std.specs.Str.{bytes_eq}
 use Rattle.lab_table.specs.Row.{Row, row_test}
-use Rattle.lab_statement.specs.Printed.{newline}
+use Rattle.lab_printing.specs.Printed.{newline}
 use Rattle.lab_script.specs.Printed.{named_rows_or}
 use Rattle.lab_levels.specs.LevelName.{level_name}
 use Rattle.lab_matrix.specs.MatrixText.{spaces}

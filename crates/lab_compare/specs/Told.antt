@@ -1,7 +1,7 @@
 -- Texts of events of a log.
 use Rattle.std.specs.Prelude.{ℕ, List, ◌++◌, codes}
 use Rattle.lab_table.specs.declared.statement.Command.{Command}
-use Rattle.lab_statement.specs.Printed.{printed_command}
+use Rattle.lab_printing.specs.Printed.{printed_command}
 use Rattle.lab_engine.specs.declared.event.LogEvent.{LogEvent}
 use Rattle.lab_session.specs.LogText.{session_text}
 

@@ -5,8 +5,8 @@ ghost use Rattle.lab_engine.specs.Recording.{is_answer};
 ghost use Rattle.lab_compare.specs.Told.{asked_text, behind_text};
 
 use lab_engine::{LogEvent, Outcome};
+use lab_printing::{append_result, spell_command};
 use lab_session::put_session;
-use lab_statement::{append_result, spell_command};
 use lab_table::{Command, NoMemory, Session};
 
 /// Appends a session's command, as `T1 commit`.

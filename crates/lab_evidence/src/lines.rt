@@ -12,7 +12,7 @@ use crate::scope::Scope;
 use crate::tags::{cell_open, line_close, listed_open, name_open, saw_open, wrote_open};
 use lab_history::{History, Op};
 use lab_picture::put_escaped;
-use lab_statement::put_statement;
+use lab_printing::put_statement;
 use lab_table::{NoMemory, RowName, TxnNo};
 use std::alloc::Global;
 

@@ -8,7 +8,7 @@ use crate::scope::{Scope, has_line};
 use lab_explain::put_txn;
 use lab_history::History;
 use lab_picture::{put_escaped, put_number};
-use lab_statement::put_row_name;
+use lab_printing::put_row_name;
 use lab_table::{NoMemory, RowName, TxnNo};
 use std::alloc::Global;
 

@@ -3,7 +3,7 @@ use Rattle.std.specs.Prelude.{ℕ, Option, Some, None, List, [], ◌++◌, codes
 use Rattle.std.specs.Fmt.{decimal, signed_decimal}
 use Rattle.lab_table.specs.Row.{Row}
 use Rattle.lab_table.specs.Table.{State}
-use Rattle.lab_statement.specs.Printed.{printed_row_name, printed_statement}
+use Rattle.lab_printing.specs.Printed.{printed_row_name, printed_statement}
 use Rattle.lab_history.specs.History.{History}
 use Rattle.lab_history.specs.Version.{ops_of, op_at, viewed, state_of}
 use Rattle.lab_history.specs.declared.operation.Op.{Op}

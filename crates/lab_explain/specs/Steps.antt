@@ -1,7 +1,7 @@
 -- The sentences of a walk: one for each of its dependencies, in order.
 use Rattle.std.specs.Prelude.{ℕ, Option, Some, None, List, [], ◌++◌, map, codes}
 use Rattle.lab_table.specs.Row.{Row}
-use Rattle.lab_statement.specs.Printed.{printed_row_name}
+use Rattle.lab_printing.specs.Printed.{printed_row_name}
 use Rattle.lab_history.specs.History.{History}
 use Rattle.lab_deps.specs.declared.edge.Edge.{Edge}
 use Rattle.lab_deps.specs.declared.edge.Kind.{Kind}

@@ -13,7 +13,7 @@ use itoa::Buffer;
 use lab_deps::{state_of, viewed};
 use lab_history::{History, Op, VersionName};
 use lab_picture::ops_of;
-use lab_statement::{put_row_name, put_statement};
+use lab_printing::{put_row_name, put_statement};
 use lab_table::{NoMemory, RowName, TxnNo, Value};
 
 /// The operation with this number, if there is one.

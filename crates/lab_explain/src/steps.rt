@@ -11,7 +11,7 @@ use lab_deps::{Edge, Kind};
 use lab_history::History;
 use lab_judge::kind_name;
 use lab_picture::{Arrow, Spot, arrow_of};
-use lab_statement::put_row_name;
+use lab_printing::put_row_name;
 use lab_table::{NoMemory, RowName};
 use std::alloc::Global;
 

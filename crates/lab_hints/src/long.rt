@@ -3,8 +3,9 @@
 use crate::said::Said;
 use crate::text::Part;
 use crate::token::tokens_of;
+use lab_printing::MAX_LINE_BYTES;
 use lab_script::{MAX_COMMANDS, MAX_LINES, parse_script};
-use lab_statement::{MAX_LINE_BYTES, ScriptFault, ScriptFaultKind, blanks_len, parse_statement};
+use lab_statement::{ScriptFault, ScriptFaultKind, blanks_len, parse_statement};
 use lab_table::NoMemory;
 use std::alloc::{AllocError, Global};
 

@@ -5,7 +5,7 @@ use crate::session::{SESSION_RULE, session_in};
 use crate::text::{Part, put};
 use crate::walk::{Stop, Walk, Wrong};
 use crate::wanted::put_wanted;
-use lab_statement::put_row_name;
+use lab_printing::put_row_name;
 use lab_table::{NoMemory, TableName};
 
 /// What every name of a table is like.

@@ -2,7 +2,7 @@
 use Rattle.std.{proofs.{Common.{◌≡◌, ℕ, ◌+◌, Bool, true, false, not, List, [], ◌∷◌, length, map, Result, Ok, Err, refl, ap, ◌∙◌}, lemmas.Bool.{leb-true, le-leb, and_parts, not-false, and_from, not_from_true}}, specs.{Prelude.{⊤, nat_le}, List.{list_all}}}
 use Rattle.std.specs.FinMap as finite
 use Rattle.lab_table.specs.{Row.{Row}, declared.statement.Statement.{Statement}}
-use Rattle.lab_statement.specs.{Depth.{statement_depth}, Printed.{printed_statement}, Limits.{StatementPrints}}
+use Rattle.lab_printing.specs.{Depth.{statement_depth}, Printed.{printed_statement}, Limits.{StatementPrints}}
 use Rattle.lab_history.specs.{Faults.{◌>>=◌, refused_if}, HistoryRules.{is_listed, OpKeeps, OpsKeep}, FirstPartsFault.{statement_prints, listed_from, op_checked, ops_checked}, declared.{fault.FileFault.{FileFault}, operation.{Op.{Op}, VersionName.{VersionName}}, path.ListPlace.{ListPlace}}}
 use Rattle.lab_history.specs.declared.fault.FileFault.TheVariants as fault
 use Rattle.lab_history.specs.declared.path.ListPlace.TheVariants as list

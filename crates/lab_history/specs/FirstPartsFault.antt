@@ -4,9 +4,9 @@ use Rattle.std.specs.List.{list_any}
 use Rattle.std.specs.FinMap as finite
 use Rattle.lab_table.specs.Row.{Row}
 use Rattle.lab_table.specs.declared.statement.Statement.{Statement}
-use Rattle.lab_statement.specs.Depth.{statement_depth}
-use Rattle.lab_statement.specs.Limits.{max_depth, max_statement_bytes}
-use Rattle.lab_statement.specs.Printed.{printed_statement}
+use Rattle.lab_printing.specs.Depth.{statement_depth}
+use Rattle.lab_printing.specs.Limits.{max_depth, max_statement_bytes}
+use Rattle.lab_printing.specs.Printed.{printed_statement}
 use Rattle.lab_history.specs.Faults.{◌>>=◌, refused_if}
 use Rattle.lab_history.specs.History.{History}
 use Rattle.lab_history.specs.HistoryRules.{operations, is_listed, has_installer}

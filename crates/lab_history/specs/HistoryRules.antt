@@ -4,7 +4,7 @@ use Rattle.std.specs.List.{list_any, list_all}
 use Rattle.std.specs.FinMap as finite
 use Rattle.lab_table.specs.Row.{Row, row_eq}
 use Rattle.lab_table.specs.TableName.{table_name_eq}
-use Rattle.lab_statement.specs.Limits.{StatementPrints}
+use Rattle.lab_printing.specs.Limits.{StatementPrints}
 use Rattle.lab_history.specs.History.{History}
 use Rattle.lab_history.specs.Limits.{max_transactions, max_operations, max_tables, max_ids, max_entries}
 use Rattle.lab_history.specs.declared.transaction.Txn.{Txn}

@@ -2,7 +2,7 @@
 use Rattle.std.specs.Prelude.{◌≡◌, ℕ, ◌+◌, ◌<◌, false, [], length, map, sum, Some, slice_get}
 use Rattle.std.specs.FinMap as finite
 use Rattle.lab_table.specs.Row.{Row}
-use Rattle.lab_statement.specs.Limits.{StatementPrints}
+use Rattle.lab_printing.specs.Limits.{StatementPrints}
 use Rattle.lab_history.specs.History.{History}
 use Rattle.lab_history.specs.Limits.{max_transactions, max_operations, max_tables, max_ids, max_entries}
 use Rattle.lab_history.specs.HistoryRules.{operations, named_tables, distinct_tables, named_rows, distinct_rows, op_entries, is_listed}

@@ -18,7 +18,7 @@ use crate::operation::{Op, VersionName};
 use crate::parts::Parts;
 use crate::path::{ListPlace, Path};
 use crate::transaction::{Installers, Txn};
-use lab_statement::check_statement;
+use lab_printing::check_statement;
 use lab_table::{RowName, Statement, TxnNo};
 use std::alloc::Global;
 use std::collections::BTreeSet;

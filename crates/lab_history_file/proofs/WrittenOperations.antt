@@ -2,7 +2,7 @@
 use Rattle.std.{proofs.Common.{◌≡◌, List, refl, subst}, specs.Prelude.{ℤ}}
 use Rattle.std.specs.FinMap as finite
 use Rattle.lab_table.specs.Row.{Row}
-use Rattle.lab_statement.specs.Printed.{printed_statement}
+use Rattle.lab_printing.specs.Printed.{printed_statement}
 use Rattle.lab_history_file.specs.{FileOf.{IsListOf, IsMapOf, IsPair, IsValue, IsState, IsVersion, SpellsIn, IsOperation}, Tree.{value_tree, written_tree, pair_tree, list_tree, map_tree, view_tree, op_tree}, declared.file_version.FileVersion.TheVariants.{Two}}
 use Rattle.lab_history.specs.declared.operation.Op.{Op}
 

@@ -6,7 +6,7 @@ use Rattle.serde_json.specs.Data.{Data, null, number, unsigned, string, array, I
 use Rattle.serde_json.specs.Find.{of_integer}
 use Rattle.serde_json.specs.View.{items_of}
 use Rattle.lab_table.specs.Row.{Row, row_cmp}
-use Rattle.lab_statement.specs.Printed.{printed_statement}
+use Rattle.lab_printing.specs.Printed.{printed_statement}
 use Rattle.lab_history_file.specs.Keys.{root_keys, txn_keys, op_keys, object_with}
 use Rattle.lab_history_file.specs.Member.{key_tree, with_key}
 use Rattle.lab_history_file.specs.FileOf.{outcome_text}

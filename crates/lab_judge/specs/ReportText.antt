@@ -2,7 +2,7 @@
 use Rattle.std.specs.Prelude.{ℕ, List, [], ◌∷◌, ◌++◌, flat_map, codes}
 use Rattle.std.specs.Fmt.{decimal}
 use Rattle.lab_table.specs.Row.{Row}
-use Rattle.lab_statement.specs.Printed.{printed_row_name, newline}
+use Rattle.lab_printing.specs.Printed.{printed_row_name, newline}
 use Rattle.lab_deps.specs.FaultKinds.{KindEntry, op_entry, row_entry, parts_of}
 use Rattle.lab_deps.specs.declared.fault.FaultParts.{FaultParts}
 use Rattle.lab_deps.specs.declared.fault.FaultParts.TheVariants as parts

@@ -9,7 +9,7 @@ ghost use Rattle.lab_judge.specs.ReportText.{circle_text, fault_text, kind_name,
 use crate::places::Point;
 use itoa::Buffer;
 use lab_deps::{Edge, FaultParts, Kind, LocalFault};
-use lab_statement::put_row_name;
+use lab_printing::put_row_name;
 use lab_table::{NoMemory, RowName, TxnNo};
 
 fn put_number(out: &mut Vec<u8>, number: u32) -> Result<(), NoMemory>

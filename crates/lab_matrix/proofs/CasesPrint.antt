@@ -6,7 +6,7 @@ use Rattle.lab_table.specs.Row.{Row, row_cmp, rows_total, in_test}
 use Rattle.lab_table.specs.TableName.{test_name}
 use Rattle.lab_table.specs.Predicate.{Compare, Remainder, OneOf}
 use Rattle.lab_table.specs.declared.{predicate.{Col.{Col, TheVariants.{Id, Value as Column}}, Cmp.TheVariants.{Eq}}, statement.{Expr.TheVariants.{Set}, Statement.{Statement}, StatementKind.{StatementKind, TheVariants.{Select, Update, Insert}}}}
-use Rattle.lab_statement.specs.Limits.{StatementPrints}
+use Rattle.lab_printing.specs.Limits.{StatementPrints}
 use Rattle.lab_script.specs.{Limits.{ScriptPrints, AllPrint}, Tables.{with_rows, with_lines, setup_tables}, declared.script.Line.{Line}, Printed.{printed_setup, named_rows_or}}
 use Rattle.lab_matrix.specs.{Listings.{usual_setup, case_script, g0_lines, g1a_lines, g1b_lines, g1c_lines, otv_lines, pmp_lines, p4_lines, g_single_lines, g2_item_lines, g2_lines}, declared.name.CaseName.{CaseName}}
 use Rattle.lab_matrix.specs.declared.name.CaseName.TheVariants as name

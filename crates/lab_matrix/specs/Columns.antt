@@ -1,6 +1,6 @@
 -- The cases at one level after another: their judgements, and their text.
 use Rattle.std.specs.Prelude.{◌≡◌, ◌⊎◌, ◌<◌, ◌-◌, ℕ, ⊤, List, [], ◌∷◌, ◌++◌, length, codes}
-use Rattle.lab_statement.specs.Printed.{newline}
+use Rattle.lab_printing.specs.Printed.{newline}
 use Rattle.lab_engine.specs.declared.event.Level.{Level}
 use Rattle.lab_levels.specs.LevelName.{level_name}
 use Rattle.lab_judge.specs.declared.report.Report.{Report}

@@ -2,7 +2,7 @@
 use Rattle.std.specs.Prelude.{ℕ, ◌-◌, List, [], ◌∷◌, ◌++◌, Option, length, replicate, codes}
 use Rattle.std.specs.List.{find}
 use Rattle.std.specs.Str.{bytes_eq}
-use Rattle.lab_statement.specs.Printed.{newline}
+use Rattle.lab_printing.specs.Printed.{newline}
 use Rattle.lab_judge.specs.ReportText.{grade_name}
 use Rattle.lab_judge.specs.declared.places.Places.{Places}
 use Rattle.lab_judge.specs.declared.places.Places.TheVariants as places

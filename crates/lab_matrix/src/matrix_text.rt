@@ -1,7 +1,7 @@
 //! The text of the matrix.
 
 ghost use Rattle.std.specs.Prelude.{◌≡◌, ◌-◌, ◌++◌, IfOk, OnOk};
-ghost use Rattle.lab_statement.specs.Printed.{newline};
+ghost use Rattle.lab_printing.specs.Printed.{newline};
 ghost use Rattle.lab_matrix.specs.MatrixText.{cell_text, heading, matrix_text, padded, promised_line, row_line, snapshot_mark, spaces};
 
 use crate::cells::{Column, Matrix, Row};

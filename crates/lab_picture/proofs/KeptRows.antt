@@ -5,7 +5,7 @@ use Rattle.std.specs.FinMap as finite
 use Rattle.std.proofs.lemmas.{Bool.{false≢true, eqb-true, eq-eqb, and_from, or_left, or_right}, List.{append-nil, length-append, nil_from_length, Elements.{Contains-append_cases}}}
 use Rattle.lab_table.{proofs.Members.{no_member, only_member}, specs.Row.{Row, row_test, rows_equiv}}
 use Rattle.lab_history.specs.{History.{History}, declared.operation.Op.{Op}}
-use Rattle.lab_statement.specs.Printed.{printed_statement}
+use Rattle.lab_printing.specs.Printed.{printed_statement}
 use Rattle.lab_picture.specs.Boxes.{fits, shown_effect, telling}
 use Rattle.lab_picture.specs.Effect.{behind, or_none, is_unlisted, listed_text, written_text, written_lead, effect_text}
 use Rattle.lab_picture.specs.Kept.{told_listed, told_written, listed_rows, written_rows, told_rows, tells_named, kept_row, kept_from, kept_lead, kept_text, before_row, before_dots, next_behind, behind_all}

@@ -2,7 +2,7 @@
 use Rattle.std.specs.Prelude.{ℕ, ◌+◌, ◌-◌, ◌*◌, ◌/◌, ◌==◌, min, Bool, true, false, not, cond, Option, Some, None, List, [], ◌∷◌, ◌++◌, codes}
 use Rattle.std.specs.Fmt.{decimal}
 use Rattle.std.specs.List.{list_any}
-use Rattle.lab_statement.specs.Printed.{printed_row_name}
+use Rattle.lab_printing.specs.Printed.{printed_row_name}
 use Rattle.lab_judge.specs.Places.{is_anti}
 use Rattle.lab_judge.specs.ReportText.{kind_name}
 use Rattle.lab_picture.specs.declared.drawing.Arrow.{Arrow}

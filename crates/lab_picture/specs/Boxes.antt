@@ -1,6 +1,6 @@
 -- The text of operations' boxes.
 use Rattle.std.specs.Prelude.{ℕ, ◌+◌, ◌*◌, ◌==◌, nat_le, Bool, not, ◌||◌, cond, List, [], ◌∷◌, ◌++◌, length, codes}
-use Rattle.lab_statement.specs.Printed.{printed_statement}
+use Rattle.lab_printing.specs.Printed.{printed_statement}
 use Rattle.lab_table.specs.Row.{Row}
 use Rattle.lab_history.specs.declared.operation.Op.{Op}
 use Rattle.lab_picture.specs.declared.drawing.Arrow.{Arrow}

@@ -4,7 +4,7 @@ use Rattle.std.specs.Fmt.{decimal, signed_decimal}
 use Rattle.std.specs.FinMap as finite
 use Rattle.lab_table.specs.Row.{Row}
 use Rattle.lab_table.specs.Table.{State, Rows, Writes}
-use Rattle.lab_statement.specs.Printed.{printed_row}
+use Rattle.lab_printing.specs.Printed.{printed_row}
 use Rattle.lab_history.specs.declared.operation.Op.{Op}
 
 -- a row's state

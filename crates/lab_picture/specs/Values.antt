@@ -3,7 +3,7 @@ use Rattle.std.specs.Prelude.{ℕ, ◌+◌, ◌-◌, nat_lt, min, Bool, cond, Li
 use Rattle.std.specs.Fmt.{decimal}
 use Rattle.std.specs.List.{list_any}
 use Rattle.std.specs.FinMap as finite
-use Rattle.lab_statement.specs.Printed.{printed_row_name}
+use Rattle.lab_printing.specs.Printed.{printed_row_name}
 use Rattle.lab_table.specs.Row.{Row, row_test}
 use Rattle.lab_table.specs.Table.{State}
 use Rattle.lab_history.specs.History.{History}

@@ -9,7 +9,7 @@ use crate::route::{put_round_path, put_straight_path, put_style};
 use crate::text::{in_four, put_four_lines, put_text};
 use lab_deps::Kind;
 use lab_judge::kind_name;
-use lab_statement::put_row_name;
+use lab_printing::put_row_name;
 use lab_table::{NoMemory, TxnNo};
 use std::alloc::Global;
 

@@ -1,7 +1,7 @@
 //! The box of an operation.
 
 ghost use Rattle.std.specs.Prelude.{◌≡◌, ◌++◌, ◌≤◌, IfOk, OnOk};
-ghost use Rattle.lab_statement.specs.Printed.{printed_statement};
+ghost use Rattle.lab_printing.specs.Printed.{printed_statement};
 ghost use Rattle.lab_picture.specs.Boxes.{fits, telling, lines_of, box_lines, whole_text, stroke_text, edge_style, edge_text, rest_lines, effect_lines, inner_text, box_text};
 
 use crate::effect::effect_text;
@@ -13,7 +13,7 @@ use crate::text::{
     in_four, in_three, put_escaped, put_one_line, put_place, put_three_lines, put_two_lines,
 };
 use lab_history::Op;
-use lab_statement::put_statement;
+use lab_printing::put_statement;
 use lab_table::{NoMemory, RowName};
 use std::alloc::Global;
 use std::marker::Model;

@@ -9,7 +9,7 @@ use crate::text::put_number;
 use itoa::Buffer;
 use lab_deps::value_of;
 use lab_history::{Op, Rows, State, Writes};
-use lab_statement::put_list;
+use lab_printing::put_list;
 use lab_table::{NoMemory, RowName, Value};
 use std::alloc::Global;
 

@@ -8,7 +8,7 @@ use crate::effect::put_state;
 use crate::text::{put_line, put_number, put_text};
 use lab_deps::Edge;
 use lab_history::History;
-use lab_statement::put_row_name;
+use lab_printing::put_row_name;
 use lab_table::{NoMemory, RowName, Value};
 use std::alloc::Global;
 

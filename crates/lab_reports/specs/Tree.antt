@@ -3,7 +3,7 @@ use Rattle.std.specs.Prelude.{ℕ, Option, Some, None, List, [], ◌∷◌, ◌+
 use Rattle.serde_json.specs.Data.{Data, string, object, Members, no_members, member, put}
 use Rattle.serde_json.specs.Written.{compact_text}
 use Rattle.lab_table.specs.Row.{Row}
-use Rattle.lab_statement.specs.Printed.{newline}
+use Rattle.lab_printing.specs.Printed.{newline}
 use Rattle.lab_history_file.specs.Tree.{natural_tree, list_tree}
 use Rattle.lab_deps.specs.FaultKinds.{op_entry, row_entry, parts_of}
 use Rattle.lab_deps.specs.declared.edge.Edge.{Edge}

@@ -1,7 +1,7 @@
 -- The limit that a transcript breaks is one that a statement of the script breaks.
 use Rattle.lab_script.proofs.Common.{◌≡◌, ℕ, zero, suc, ◌<◌, Bool, true, false, cond, ◌==◌, List, [], ◌∷◌, ◌++◌, length, get_or, Option, Some, None, refl, sym, ◌∙◌, ◌⊎◌, inl, inr, subst, arith, ◌&&◌, not, nat_lt, IfSome, Contains, ltb-true, none-some, Table, Statement, Command, Line, Script, PrintFault, statement_depth, printed_statement, CommandPrints, AllPrint, SomeLine, body_on, body_of, inside_after, is_begin, nobody, transaction_of, transactions, table_with, table_after, Breaks, shown_of, shown, limit_broken, first_broken, unprintable}
 use Rattle.lab_table.{specs.declared.statement.Command.TheVariants.{Begin, Commit, Abort, Run}, proofs.Members.{first_member, later_member}}
-use Rattle.lab_statement.specs.declared.print.PrintFault.TheVariants.{TooDeep, TooLong}
+use Rattle.lab_printing.specs.declared.print.PrintFault.TheVariants.{TooDeep, TooLong}
 
 -- a command that prints breaks no limit
 command_prints : (fault : PrintFault) (c : Command) → CommandPrints c → Breaks fault c → ⊥

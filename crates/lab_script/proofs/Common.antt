@@ -1,7 +1,8 @@
 -- The names that most proofs cite, passed on from one place.
+pub use Rattle.lab_printing.{specs.{Depth.{statement_depth}, Each.{Each}, Limits.{CommandPrints, max_line_bytes}, Printed.{joined, newline, printed_command, printed_named_row, printed_row, printed_row_name, printed_statement, rows_or}, Ranges.{EntryInRange}, declared.print.PrintFault.{PrintFault}}, proofs.PutTexts.{room_tells}}
 unfoldable pub use Rattle.lab_statement.{proofs.Common.{end_read}, specs.FirstFaults.{no_rows_at}}
-pub use Rattle.lab_statement.proofs.Common.{Bool, Each, Err, IsEnd, IsId, IsRow, IsStatement, List, None, Ok, Option, Reading, Reads, Result, Some, Statement, Stops, StopsAt, [], after, and_from, and_parts, ap, append-nil, append_assoc, arith, cases_Bool, cases_lt, code_of, codes, common_steps, cond, decimal, drop, drop_all, drop_more, eq-eqb, err_from_is_err_and, false, false≢true, fifth_table, get_or, if_found, if◌then◌else◌, inl, inr, is_ascii_digit, is_blank, is_code_byte, is_letter, is_some, joined, le-leb, leb-false, leb-true, length, length-append, length-drop, length-map, letters, list_all, map, mark, min, nat_le, nat_tests, nil_from_length, none-some, not, option_map, placed_kind, prefix_len, printed_row, printed_statement, refl, remark_of, row_read, rows_or, rules, same_Some, statement_depth, subst, suc, sym, take, take-append-drop, take_all, to_ascii_lowercase, tokens, tokens_from, true, whole, zero, ℕ, ℤ, ⊎_elim, ◌&&◌, ◌*◌, ◌++◌, ◌+◌, ◌-◌, ◌<◌, ◌==◌, ◌>>=◌, ◌↔◌, ◌∙◌, ◌∷◌, ◌≡◌, ◌≢◌, ◌≤◌, ◌⊎◌, eqb-true}
-pub use Rattle.lab_statement.specs.declared.{token.Token.{Token}, fault.{Refusal.{Refusal}, ScriptFaultKind.{ScriptFaultKind}, ScriptFault.{ScriptFault}}, print.PrintFault.{PrintFault}}
+pub use Rattle.lab_statement.proofs.Common.{Bool, Err, IsEnd, IsId, IsRow, IsStatement, List, None, Ok, Option, Reading, Reads, Result, Some, Statement, Stops, StopsAt, [], after, and_from, and_parts, ap, append-nil, append_assoc, arith, cases_Bool, cases_lt, code_of, codes, common_steps, cond, decimal, drop, drop_all, drop_more, eq-eqb, err_from_is_err_and, false, false≢true, fifth_table, get_or, if_found, if◌then◌else◌, inl, inr, is_ascii_digit, is_blank, is_code_byte, is_letter, is_some, le-leb, leb-false, leb-true, length, length-append, length-drop, length-map, letters, list_all, map, mark, min, nat_le, nat_tests, nil_from_length, none-some, not, option_map, placed_kind, prefix_len, refl, remark_of, row_read, rules, same_Some, subst, suc, sym, take, take-append-drop, take_all, to_ascii_lowercase, tokens, tokens_from, true, whole, zero, ℕ, ℤ, ⊎_elim, ◌&&◌, ◌*◌, ◌++◌, ◌+◌, ◌-◌, ◌<◌, ◌==◌, ◌>>=◌, ◌↔◌, ◌∙◌, ◌∷◌, ◌≡◌, ◌≢◌, ◌≤◌, ◌⊎◌, eqb-true}
+pub use Rattle.lab_statement.specs.declared.{token.Token.{Token}, fault.{Refusal.{Refusal}, ScriptFaultKind.{ScriptFaultKind}, ScriptFault.{ScriptFault}}}
 pub use Rattle.std.proofs.{Common.{T, flat_map, one-add}, Math.Dec.{eqb-suc-zero}, lemmas.{Bool.{le-ltb, lt-ltb, ltb-false, ltb-true, ne_eqb, or_parts, true≢false}, List.{length-take, take-append-le, take_at}, Option.{slice_get_within}, Result.{on_ok_weaker}}}
 pub use Rattle.std.specs.FinMap.{contains_key, empty, find, from_entries, from_entries_push, get-from_entries, insert}
 pub use Rattle.std.specs.List.{Contains, onto_first, slice_split}
@@ -15,7 +16,6 @@ pub use Rattle.lab_script.specs.Grammar.{AllDistinct, IsCommand, IsCommands, IsN
 pub use Rattle.lab_script.specs.Limits.{AllPrint, ScriptPrints, SomeLine, max_commands}
 pub use Rattle.lab_script.specs.PassedTables.{is_behind_set, setup_table, statement_table, statement_tables, token_table, with_named, with_setup_tokens, with_tokens}
 pub use Rattle.lab_script.specs.Printed.{named_rows_or, printed_line, printed_script, printed_setup}
-pub use Rattle.lab_statement.specs.Ranges.{EntryInRange}
 pub use Rattle.lab_script.specs.Ranges.{LineInRange, ScriptInRange, SessionInRange}
 pub use Rattle.lab_script.specs.Script.{BeginsLongSetup, IsFit, LineSpells, LinesSpell, Spells, TokensSpell, begins_setup, extended, is_ascii_code, is_passed, session_digit, session_of}
 pub use Rattle.lab_script.specs.Tables.{command_table, line_table, script_tables, setup_tables, tables_so_far, with_all, with_any, with_commands, with_lines, with_rows}
@@ -26,13 +26,10 @@ pub use Rattle.lab_statement.proofs.GrammarFaults.{are_four, fault_is, faultless
 pub use Rattle.lab_statement.proofs.PrintedNumbers.{comma_leads, decimal_plain}
 pub use Rattle.lab_statement.proofs.PrintedStatements.{row_fits, row_leads, row_tokens, statement_fits, statement_reads, statement_tokens}
 pub use Rattle.lab_statement.proofs.PrintedText.{Leads, all_plain, append_ascii, append_plain, cut_leads, leads_leads, leads_reads, literal, mark_leads, plain_code, reads_all, word_ends}
-pub use Rattle.lab_statement.proofs.PutTexts.{room_tells}
 pub use Rattle.lab_statement.proofs.Readings.{reads, reads_is, stops_as}
 pub use Rattle.lab_statement.proofs.StatementTaken.{end_gives, name_of_gives, nothing_gives, row_taken, statement_taken}
 pub use Rattle.lab_statement.proofs.Takes.{Any, Gives, Takes, each_gives, found, found_gives, further, gives, gives_of, if_gives, made, stop_of, stops, taken, then_gives, token_gives, tokens_give}
 pub use Rattle.lab_statement.specs.FirstFaults.{behind_tables, is_short}
-pub use Rattle.lab_statement.specs.Limits.{CommandPrints, max_line_bytes}
-pub use Rattle.lab_statement.specs.Printed.{newline, printed_command, printed_named_row, printed_row_name}
 pub use Rattle.lab_statement.specs.Token.{gap, is_word}
 pub use Rattle.lab_table.{proofs.Tests.{both, slice_get-middle}, specs.{Row.{Row, numbered, row_cmp, row_eq, rows_apart, rows_total}, Table.{Table}, TableName.{table_name_eq, test_name}, TableSet.{are_few, is_among, with_name}, declared.statement.Command.{Command}}}
 

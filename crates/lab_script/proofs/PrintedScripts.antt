@@ -2,7 +2,8 @@
 use Rattle.lab_script.proofs.Common.{◌≡◌, ℕ, zero, suc, ◌-◌, Bool, true, false, cond, List, [], ◌∷◌, ◌++◌, length, take, refl, ap, ◌∙◌, append_assoc, arith, ◌+◌, ◌≤◌, Some, None, sym, length-append, subst, decimal, map, flat_map, ◌==◌, slice_index, ◌&&◌, codes, nat_le, list_all, lines, strip_carriage_return, nat_tests, and_parts, le-leb, newline, printed_command, is_code_byte, code_of, remark_of, Command, Token, Line, Script, tokens, IsCommand, IsCommands, CommandPrints, session_digit, session_of, IsFit, LineSpells, extended, LinesSpell, Spells, SessionInRange, LineInRange, ScriptInRange, line_table, with_any, script_tables, with_lines, setup_tables, all_plain, append_plain, append_ascii, word_ends, statement_tokens, statement_reads, statement_fits, decimal_plain, append-nil, AllPrint, ScriptPrints, printed_setup, printed_line, printed_script, Each}
 use Rattle.lab_script.proofs.TextLines.{lines_behind, lines_are}
 use Rattle.std.proofs.lemmas.Fmt.{decimal_digit}
-use Rattle.lab_statement.{specs.Ranges.{CommandInRange}, proofs.PrintedText.{Reads}}
+use Rattle.lab_printing.specs.Ranges.{CommandInRange}
+use Rattle.lab_statement.proofs.PrintedText.{Reads}
 use Rattle.lab_script.specs.Printed.{numbered, renumbered}
 use Rattle.lab_script.proofs.FewTables.{all_longer, tables_extended}
 use Rattle.lab_script.proofs.PrintedSetups.{setup_leads, setup_spells}

@@ -14,7 +14,7 @@ use Rattle.lab_statement.specs.Text.{code_of, remark_of, HasWhere}
 use Rattle.lab_script.specs.Script.{session_of, is_ascii_code, is_passed, begins_setup, BeginsLongSetup, LineSpells, LinesSpell}
 use Rattle.lab_script.specs.Tables.{script_tables}
 use Rattle.lab_script.specs.Limits.{max_lines, max_commands}
-use Rattle.lab_statement.specs.Limits.{max_line_bytes}
+use Rattle.lab_printing.specs.Limits.{max_line_bytes}
 
 -- whether a line is longer than a line may be, or comes after the last that a text may have
 abbrev pub is_over : ℕ → List ℕ → Bool

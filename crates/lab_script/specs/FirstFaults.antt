@@ -13,7 +13,7 @@ use Rattle.std.specs.List.{prefix_len}
 use Rattle.lab_table.specs.Table.{Table}
 use Rattle.lab_table.specs.declared.statement.Command.{Command}
 use Rattle.lab_table.specs.declared.statement.Command.TheVariants as command
-use Rattle.lab_statement.specs.Limits.{max_line_bytes}
+use Rattle.lab_printing.specs.Limits.{max_line_bytes}
 use Rattle.lab_script.specs.Printed.{printed_setup}
 use Rattle.lab_statement.specs.Token.{is_word}
 use Rattle.lab_statement.specs.Stopping.{Reading, Reads, Stops, ◌>>=◌, if_found, token_read, tokens_read, row_read, name_of}

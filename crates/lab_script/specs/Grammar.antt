@@ -10,9 +10,9 @@ use Rattle.lab_table.specs.Table.{Table}
 use Rattle.lab_table.specs.declared.word.Word.TheVariants as word
 use Rattle.lab_statement.specs.declared.token.Token.{Token}
 use Rattle.lab_statement.specs.declared.token.Token.TheVariants as token
-use Rattle.lab_statement.specs.Printed.{printed_statement}
+use Rattle.lab_printing.specs.Printed.{printed_statement}
 use Rattle.lab_script.specs.Printed.{printed_setup}
-use Rattle.lab_statement.specs.Limits.{max_line_bytes, max_statement_bytes}
+use Rattle.lab_printing.specs.Limits.{max_line_bytes, max_statement_bytes}
 use Rattle.lab_statement.specs.Grammar.{IsEnd, IsRow, IsStatement}
 use Rattle.lab_statement.specs.Token.{is_word}
 

@@ -7,8 +7,8 @@ use Rattle.lab_script.specs.declared.script.Script.{Script}
 use Rattle.lab_script.specs.Printed.{printed_setup}
 use Rattle.lab_table.specs.TableSet.{max_tables}
 use Rattle.lab_script.specs.Tables.{script_tables}
-use Rattle.lab_statement.specs.Each.{Each}
-use Rattle.lab_statement.specs.Limits.{CommandPrints, IsDeep, IsLong, max_line_bytes}
+use Rattle.lab_printing.specs.Each.{Each}
+use Rattle.lab_printing.specs.Limits.{CommandPrints, IsDeep, IsLong, max_line_bytes}
 
 -- the most lines of a text
 abbrev pub max_lines : ℕ

@@ -3,8 +3,8 @@ use Rattle.std.specs.Prelude.{ℕ, ◌≤◌}
 use Rattle.std.specs.FinMap as finite
 use Rattle.lab_script.specs.declared.script.Line.{Line}
 use Rattle.lab_script.specs.declared.script.Script.{Script}
-use Rattle.lab_statement.specs.Each.{Each}
-use Rattle.lab_statement.specs.Ranges.{CommandInRange, EntryInRange}
+use Rattle.lab_printing.specs.Each.{Each}
+use Rattle.lab_printing.specs.Ranges.{CommandInRange, EntryInRange}
 
 -- from 1 to 9
 abbrev pub SessionInRange : ℕ → Type 0

@@ -18,7 +18,7 @@ use Rattle.lab_script.specs.Printed.{printed_setup}
 use Rattle.lab_table.specs.TableSet.{max_tables}
 use Rattle.lab_script.specs.Tables.{with_commands, setup_tables, script_tables}
 use Rattle.lab_script.specs.Limits.{max_lines, max_commands}
-use Rattle.lab_statement.specs.Limits.{max_line_bytes}
+use Rattle.lab_printing.specs.Limits.{max_line_bytes}
 use Rattle.lab_statement.specs.Text.{code_of, is_code_byte, remark_of}
 
 -- whether a word ends here

@@ -13,7 +13,7 @@ use Rattle.lab_table.specs.declared.statement.Command.{Command}
 use Rattle.lab_table.specs.declared.statement.Command.TheVariants as command
 use Rattle.lab_script.specs.declared.script.Line.{Line}
 use Rattle.lab_script.specs.declared.script.Script.{Script}
-use Rattle.lab_statement.specs.Printed.{printed_statement, printed_list, printed_row_name, newline}
+use Rattle.lab_printing.specs.Printed.{printed_statement, printed_list, printed_row_name, newline}
 use Rattle.lab_script.specs.Printed.{printed_table}
 
 -- a transaction: its session, its statements, and whether it ends in a commit

@@ -7,11 +7,11 @@ use Rattle.lab_table.specs.declared.table.TableFault.TheVariants as table_fault
 use Rattle.lab_table.specs.declared.statement.Statement.{Statement}
 use Rattle.lab_table.specs.declared.statement.Command.{Command}
 use Rattle.lab_script.specs.declared.script.Script.{Script}
-use Rattle.lab_statement.specs.declared.print.PrintFault.{PrintFault}
-use Rattle.lab_statement.specs.declared.print.PrintFault.TheVariants.{TooDeep, TooLong}
-use Rattle.lab_statement.specs.Depth.{statement_depth}
-use Rattle.lab_statement.specs.Limits.{max_depth, max_statement_bytes, IsDeep, IsLong}
-use Rattle.lab_statement.specs.Printed.{printed_statement, printed_row_name}
+use Rattle.lab_printing.specs.declared.print.PrintFault.{PrintFault}
+use Rattle.lab_printing.specs.declared.print.PrintFault.TheVariants.{TooDeep, TooLong}
+use Rattle.lab_printing.specs.Depth.{statement_depth}
+use Rattle.lab_printing.specs.Limits.{max_depth, max_statement_bytes, IsDeep, IsLong}
+use Rattle.lab_printing.specs.Printed.{printed_statement, printed_row_name}
 use Rattle.lab_script.specs.declared.script.Line.{Line}
 use Rattle.lab_script.specs.Transcript.{Transaction, body_of, body_text, committed, table_with, table_after, transactions, nobody}
 

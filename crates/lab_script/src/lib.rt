@@ -18,7 +18,7 @@
 //! and what is wrong there, a `ScriptFault` of `lab_statement`. [`print_script`] gives a script its text, a command on each
 //! line, and what it prints is read as that script again.
 //!
-//! A text keeps limits: [`MAX_LINES`] and [`MAX_COMMANDS`], and those of `lab_statement` for each line and statement. A
+//! A text keeps limits: [`MAX_LINES`] and [`MAX_COMMANDS`], and those of `lab_printing` for each line and statement. A
 //! script that is made by hand, by `Lines::new` or `Lines::push`, need not: printing then answers a `PrintFault`.
 //!
 //! [`run_serial`] runs a script's transactions whole, in the order of their begins, and [`print_transcript`] hands out

@@ -13,9 +13,9 @@ use crate::line::session_of;
 use crate::script::{Lines, Script};
 use crate::setup::read_setup;
 use bstr::ByteSlice;
+use lab_printing::MAX_LINE_BYTES;
 use lab_statement::{
-    MAX_LINE_BYTES, ScriptFault, ScriptFaultKind, Token, code_and_remark, is_ascii_code,
-    tokens_into,
+    ScriptFault, ScriptFaultKind, Token, code_and_remark, is_ascii_code, tokens_into,
 };
 use lab_table::{Command, TableSet, Word};
 use std::alloc::Global;

@@ -11,7 +11,7 @@ use crate::limits::MAX_COMMANDS;
 use crate::script::Script;
 use crate::spelling::{setup_fits, spell_script};
 use crate::tables::add_all;
-use lab_statement::{PrintFault, check_command};
+use lab_printing::{PrintFault, check_command};
 use lab_table::TableSet;
 use std::alloc::Global;
 

@@ -10,7 +10,7 @@ use crate::script::{Line, Script};
 use crate::transcript::{
     Transcript, spell_end, spell_fault, spell_heading, spell_rows, spell_table,
 };
-use lab_statement::append_result;
+use lab_printing::append_result;
 use lab_table::{Command, NoMemory, PerSession, Session, Statement, Table};
 use std::alloc::{AllocError, Global};
 

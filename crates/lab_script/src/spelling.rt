@@ -5,14 +5,14 @@ ghost use Rattle.std.specs.FinMap as finite;
 ghost use Rattle.std.specs.Fmt.{decimal};
 ghost use Rattle.lab_script.specs.Printed.{named_rows_or, printed_line, printed_script, printed_setup};
 ghost use Rattle.lab_script.specs.Ranges.{LineInRange, ScriptInRange};
-ghost use Rattle.lab_statement.specs.Each.{Each};
-ghost use Rattle.lab_statement.specs.Limits.{max_line_bytes};
-ghost use Rattle.lab_statement.specs.Ranges.{EntryInRange};
-ghost use Rattle.lab_statement.specs.Sink.{OnTaken, Puts};
+ghost use Rattle.lab_printing.specs.Each.{Each};
+ghost use Rattle.lab_printing.specs.Limits.{max_line_bytes};
+ghost use Rattle.lab_printing.specs.Ranges.{EntryInRange};
+ghost use Rattle.lab_printing.specs.Sink.{OnTaken, Puts};
 
 use crate::script::{Line, Script};
 use itoa::Buffer;
-use lab_statement::{MAX_LINE_BYTES, Room, Sink, spell_all, spell_command};
+use lab_printing::{MAX_LINE_BYTES, Room, Sink, spell_all, spell_command};
 use lab_table::{RowName, Table, Value};
 
 /// Spells rows of any table.

@@ -4,13 +4,13 @@
 ghost use Rattle.std.specs.Prelude.{◌≡◌, ◌++◌, [], None, codes, IfOk, IfErr, OnOk, ◌⊎◌, ◌≢◌, Some, Err};
 ghost use Rattle.std.specs.Option.{option_or};
 ghost use Rattle.lab_script.specs.Printed.{named_rows_or};
-ghost use Rattle.lab_statement.specs.Sink.{OnTaken};
-ghost use Rattle.lab_statement.specs.Printed.{newline, printed_row_name, printed_statement, rows_or};
+ghost use Rattle.lab_printing.specs.Sink.{OnTaken};
+ghost use Rattle.lab_printing.specs.Printed.{newline, printed_row_name, printed_statement, rows_or};
 ghost use Rattle.lab_script.specs.TranscriptView.{fault_text, limit_broken};
 ghost use Rattle.lab_script.specs.Transcript.{end_text, heading_text};
 
 use crate::spelling::{spell_named_rows, spell_number};
-use lab_statement::{
+use lab_printing::{
     PrintFault, Sink, check_statement, spell_list, spell_row_name, spell_statement,
 };
 use lab_table::{RowName, Session, Statement, TableFault, Value};
@@ -28,7 +28,7 @@ pub struct Transcript {
 impl Model for Transcript {
     ghost use Rattle.std.specs.Prelude.{◌≢◌, Some};
     ghost use Rattle.lab_script.specs.TranscriptView.{TranscriptView};
-    ghost use Rattle.lab_statement.specs.declared.print.PrintFault.TheVariants.{TooManyTables};
+    ghost use Rattle.lab_printing.specs.declared.print.PrintFault.TheVariants.{TooManyTables};
 
     ghost Value = { TranscriptView };
 

@@ -3,7 +3,7 @@ use Rattle.std.proofs.{Common.{◌≡◌, ◌≢◌, ◌⊎◌, ⊎_elim, inl, i
 use Rattle.std.specs.Prelude.{◌==◌, Option, Some, None, is_some, nat_lt, ◌||◌, Contains}
 use Rattle.lab_table.specs.{Table.{Table}, declared.statement.{Statement.{Statement}, Command.{Command, TheVariants.{Begin, Commit, Abort, Run}}}}
 use Rattle.lab_script.specs.{declared.script.{Line.{Line as ScriptLine}, Script.{Script}}, Limits.{ScriptPrints, AllPrint as LinesPrint}}
-use Rattle.lab_statement.specs.Limits.{CommandPrints, StatementPrints, IsDeep, IsLong}
+use Rattle.lab_printing.specs.Limits.{CommandPrints, StatementPrints, IsDeep, IsLong}
 use Rattle.lab_engine.specs.declared.event.{Level.{Level}, EngineFault.TheVariants.{DuplicateKey, OutOfRange, Deadlock, WriteConflict, NoTransaction, AlreadyBegun, Busy, ReadConflict}, Outcome.{Outcome, TheVariants.{Begun, Rows as Listed, Committed, Aborted, Waits, Refused}}, LogEvent.{LogEvent}}
 use Rattle.lab_engine.specs.Log.{Past, Txn, active, active_after, waiting, waiting_after}
 use Rattle.lab_engine.specs.Rules.{Asks, Permitted, IsLegal}

@@ -2,7 +2,7 @@
 use Rattle.std.{proofs.Common.{◌≡◌, ℕ, zero, suc, List, [], ◌∷◌, subst, arith}, specs.Prelude.{Contains}}
 use Rattle.lab_table.specs.declared.statement.Command.{Command, TheVariants.{Begin, Commit, Abort, Run}}
 use Rattle.lab_script.specs.{declared.script.{Line.{Line}, Script.{Script}}, Limits.{AllPrint, ScriptPrints, BreaksDepth, BreaksLength, BreaksTables, long_setup, many_lines, long_statement}}
-use Rattle.lab_statement.specs.Limits.{CommandPrints, IsDeep, IsLong}
+use Rattle.lab_printing.specs.Limits.{CommandPrints, IsDeep, IsLong}
 
 -- each line's command prints
 line_prints : (lines : List Line) → AllPrint lines → (line : Line) → Contains lines line → CommandPrints line.command

@@ -3,8 +3,8 @@ use Rattle.std.specs.Prelude.{ℕ, List, [], ◌∷◌, ◌++◌, map, flat_map,
 use Rattle.std.specs.List.{Contains}
 use Rattle.std.specs.Fmt.{decimal}
 use Rattle.lab_table.specs.declared.statement.Command.{Command}
-use Rattle.lab_statement.specs.Limits.{CommandPrints}
-use Rattle.lab_statement.specs.Printed.{joined, newline, printed_command, printed_row_name, printed_list}
+use Rattle.lab_printing.specs.Limits.{CommandPrints}
+use Rattle.lab_printing.specs.Printed.{joined, newline, printed_command, printed_row_name, printed_list}
 use Rattle.lab_engine.specs.declared.event.EngineFault.{EngineFault}
 use Rattle.lab_engine.specs.declared.event.EngineFault.TheVariants as fault
 use Rattle.lab_engine.specs.declared.event.Outcome.{Outcome}

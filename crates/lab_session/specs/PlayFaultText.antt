@@ -1,6 +1,6 @@
 -- The line that tells why a play has no recording.
 use Rattle.std.specs.Prelude.{ℕ, List, [], ◌++◌, codes}
-use Rattle.lab_statement.specs.Printed.{newline}
+use Rattle.lab_printing.specs.Printed.{newline}
 use Rattle.lab_history.specs.LimitName.{limit_name}
 use Rattle.lab_session.specs.declared.fault.PlayFault.{PlayFault}
 use Rattle.lab_session.specs.declared.fault.PlayFault.TheVariants as fault

@@ -2,13 +2,13 @@
 
 ghost use Rattle.std.specs.Prelude.{◌≢◌, ◌≡◌, ◌++◌, codes, flat_map, map, Err, IfOk, OnOk};
 ghost use Rattle.std.specs.Fmt.{decimal};
-ghost use Rattle.lab_statement.specs.Limits.{CommandPrints, IsDeep, IsLong};
-ghost use Rattle.lab_statement.specs.Printed.{joined, printed_row_name};
+ghost use Rattle.lab_printing.specs.Limits.{CommandPrints, IsDeep, IsLong};
+ghost use Rattle.lab_printing.specs.Printed.{joined, printed_row_name};
 ghost use Rattle.lab_session.specs.LogText.{AllPrint, SomeEvent, event_text, log_text, next_text, outcome_text, refusal_text, session_text};
 
 use itoa::Buffer;
 use lab_engine::{EngineFault, LogEvent, Outcome, Recording};
-use lab_statement::{PrintFault, put_list, put_printable, put_row_name};
+use lab_printing::{PrintFault, put_list, put_printable, put_row_name};
 use lab_table::{NoMemory, RowName, Session, TxnNo};
 use std::alloc::Global;
 

@@ -7,11 +7,9 @@ pub mod FirstTokens
 pub mod Takes
 pub mod StatementTaken
 pub mod ReadNumbers
-pub mod Joined
-pub mod Appended
-pub mod PutTexts
 pub mod ReadRows
 pub mod Numbers
+mod Bounds
 pub mod AtomParts
 pub mod ReadPredicates
 pub mod ReadStatements

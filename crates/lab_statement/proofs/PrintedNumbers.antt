@@ -1,5 +1,5 @@
 -- Printed numbers: their tokens, and that all of them is code.
-use Rattle.lab_statement.proofs.Common.{◌≡◌, ℕ, zero, suc, ◌/◌, ◌%◌, ◌≤◌, ◌<◌, Bool, true, false, cond, List, [], ◌∷◌, ◌++◌, length, refl, ap, ◌∙◌, arith, subst, ◌&&◌, ◌==◌, ℤ, pos, negsuc, ◌-ℤ◌, codes, list_all, digits, digits_onto, digit_glyph, decimal, signed_decimal, nat_tests, decimal_nonempty, Token, IsNumber, IsNumberList, joined, printed_numbers, Each, ValueInRange, ◌+◌, ◌-◌, ◌*◌, append_assoc, decimal_by_steps, length-decimal-le, is_ascii_digit, whole, is_letter, is_blank, with_digit, tokens, tokens_from}
+use Rattle.lab_statement.proofs.Common.{◌≡◌, ℕ, zero, suc, ◌/◌, ◌%◌, ◌≤◌, ◌<◌, Bool, true, false, cond, List, [], ◌∷◌, ◌++◌, length, refl, ap, ◌∙◌, arith, subst, ◌&&◌, ◌==◌, ℤ, pos, negsuc, ◌-ℤ◌, codes, list_all, digits, digits_onto, digit_glyph, decimal, signed_decimal, nat_tests, decimal_nonempty, Token, IsNumber, IsNumberList, joined, printed_numbers, Each, ValueInRange, ◌+◌, ◌-◌, ◌*◌, append_assoc, decimal_by_steps, is_ascii_digit, whole, is_letter, is_blank, with_digit, tokens, tokens_from}
 use Rattle.std.proofs.lemmas.Int.{ints}
 use Rattle.lab_statement.specs.declared.token.Token.TheVariants as token
 use Rattle.lab_statement.specs.Grammar as grammar
@@ -31,10 +31,6 @@ decimal_are n bs le = decimal_by_steps (λ m ds. m ≤ 1000000000 → (rest : Li
     (λ m ds ten so_far small rest.
     ap tokens (append_assoc ds ((48 + m % 10) ∷ []) rest) ∙ so_far (omega arith) ((48 + m % 10) ∷ rest) ∙ longer_number (m / 10) (m % 10) m rest (omega arith) (omega arith) small)
     n (omega arith) le bs
-
--- a printed number of 64 bits has at most 20 digits
-pub decimal_short : (n : ℕ) → n < 18446744073709551616 → length (decimal n) ≤ 20
-decimal_short n lt = length-decimal-le 20 n (omega arith) (omega (arith, lt)) lt
 
 -- the tokens of a printed number
 abbrev pub number_tokens : ℤ → List Token

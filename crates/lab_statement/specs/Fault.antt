@@ -13,8 +13,8 @@ use Rattle.lab_statement.specs.declared.token.Token.{Token}
 use Rattle.lab_statement.specs.FirstFaults.{statement_fault}
 use Rattle.lab_statement.specs.Token.{tokens}
 use Rattle.lab_statement.specs.Text.{AreStatementTokens, code_of, is_code_byte, HasWhere, BeginsLongStatement, SpellsStatement}
-use Rattle.lab_statement.specs.Printed.{newline}
-use Rattle.lab_statement.specs.Limits.{max_line_bytes}
+use Rattle.lab_printing.specs.Printed.{newline}
+use Rattle.lab_printing.specs.Limits.{max_line_bytes}
 
 -- What a kind of fault says of the text of one statement: it is too long, or it isn't and has a byte that is no code,
 -- or its tokens are wrong.

@@ -15,8 +15,8 @@ use Rattle.lab_statement.specs.declared.fault.ScriptFaultKind.TheVariants.{Unkno
 use Rattle.lab_statement.specs.declared.fault.Refusal.{Refusal}
 use Rattle.lab_statement.specs.declared.fault.Refusal.TheVariants as refusal
 use Rattle.lab_statement.specs.Grammar.{over}
-use Rattle.lab_statement.specs.Limits.{max_statement_bytes}
-use Rattle.lab_statement.specs.Printed.{printed_statement}
+use Rattle.lab_printing.specs.Limits.{max_statement_bytes}
+use Rattle.lab_printing.specs.Printed.{printed_statement}
 use Rattle.lab_statement.specs.Reading.{is_token, after}
 use Rattle.lab_statement.specs.Stopping.{Reading, Reads, Stops, ◌>>=◌, if_found, token_read, tokens_read, name_read, number_read, row_read, where_read}
 use Rattle.lab_table.specs.TableSet.{are_few}

@@ -14,8 +14,8 @@ use Rattle.lab_table.specs.declared.statement.Expr.TheVariants as expr
 use Rattle.lab_table.specs.declared.word.Word.TheVariants as word
 use Rattle.lab_statement.specs.declared.token.Token.{Token}
 use Rattle.lab_statement.specs.declared.token.Token.TheVariants as token
-use Rattle.lab_statement.specs.Printed.{printed_statement}
-use Rattle.lab_statement.specs.Limits.{max_depth, max_statement_bytes}
+use Rattle.lab_printing.specs.Printed.{printed_statement}
+use Rattle.lab_printing.specs.Limits.{max_depth, max_statement_bytes}
 
 -- number := [ '-' ] digits
 pub data IsNumber : List Token → ℤ → Type 0 where

@@ -1,12 +1,6 @@
 pub mod Token
 pub mod TokensOf
 pub mod Grammar
-pub mod Printed
-pub mod Sink
-pub mod Depth
-pub mod Limits
-pub mod Each
-pub mod Ranges
 pub mod Text
 pub mod Fault
 pub mod Reading

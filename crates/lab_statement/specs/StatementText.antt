@@ -3,7 +3,7 @@ use Rattle.std.specs.Prelude.{ℕ, Bool, ◌&&◌, ◌==◌, nat_le, if◌then�
 use Rattle.std.specs.List.{list_all}
 use Rattle.lab_table.specs.declared.statement.Statement.{Statement}
 use Rattle.lab_statement.specs.Token.{tokens}
-use Rattle.lab_statement.specs.Limits.{max_line_bytes}
+use Rattle.lab_printing.specs.Limits.{max_line_bytes}
 use Rattle.lab_statement.specs.Text.{code_of, is_code_byte}
 use Rattle.lab_statement.specs.Stopping.{read_value}
 use Rattle.lab_statement.specs.FirstFaults.{whole_statement_read}

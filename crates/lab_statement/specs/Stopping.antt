@@ -13,7 +13,7 @@ use Rattle.lab_statement.specs.declared.fault.ScriptFaultKind.{ScriptFaultKind}
 use Rattle.lab_statement.specs.declared.fault.ScriptFaultKind.TheVariants.{UnknownStatement, BadTableName, NumberOutOfRange, TooDeep}
 use Rattle.lab_statement.specs.declared.fault.Refusal.{Refusal}
 use Rattle.lab_statement.specs.declared.fault.Refusal.TheVariants as refusal
-use Rattle.lab_statement.specs.Limits.{max_depth}
+use Rattle.lab_printing.specs.Limits.{max_depth}
 use Rattle.lab_statement.specs.Reading.{after}
 use Rattle.lab_statement.specs.Token.{is_word}
 

@@ -8,8 +8,8 @@ use Rattle.lab_statement.specs.declared.token.Token.TheVariants as token
 use Rattle.lab_statement.specs.Token.{tokens}
 use Rattle.lab_statement.specs.TokensOf.{AreTokens}
 use Rattle.lab_statement.specs.Grammar.{IsStatement, IsEnd}
-use Rattle.lab_statement.specs.Printed.{printed_statement}
-use Rattle.lab_statement.specs.Limits.{max_line_bytes, max_statement_bytes}
+use Rattle.lab_printing.specs.Printed.{printed_statement}
+use Rattle.lab_printing.specs.Limits.{max_line_bytes, max_statement_bytes}
 
 -- whether a remark begins here
 abbrev pub begins_remark : List ℕ → Bool

@@ -2,10 +2,10 @@
 
 ghost use Rattle.std.specs.Prelude.{◌≡◌, ◌++◌, IfOk};
 ghost use Rattle.lab_statement.specs.Fault.{fault_text};
-ghost use Rattle.lab_statement.specs.Sink.{OnTaken};
+ghost use Rattle.lab_printing.specs.Sink.{OnTaken};
 
-use crate::row_text::{spell_both, spell_natural};
-use crate::sink::{Sink, append_result};
+use itoa::Buffer;
+use lab_printing::{Sink, append_result};
 use lab_table::NoMemory;
 use std::alloc::{AllocError, AllocFailed, Global};
 use thiserror::Error;
@@ -140,8 +140,9 @@ fn spell_fault(out: &mut Vec<u8>, fault: &ScriptFault) -> bool
         ScriptFault::NoMemory => true,
         ScriptFault::At { line, kind } => {
             out.put(b"line ")
-                && spell_natural(out, *line)
-                && spell_both(out, b": ", kind.name().as_bytes())
+                && out.put(Buffer::new().format(*line).as_bytes())
+                && out.put(b": ")
+                && out.put(kind.name().as_bytes())
                 && out.put(b"\n")
         }
     }

@@ -5,9 +5,9 @@ ghost use Rattle.lab_table.specs.Predicate as predicate;
 ghost use Rattle.lab_statement.specs.Stopping.{Comes, conj_read, pred_read, term_read, where_read};
 
 use crate::fault::{Refusal, ScriptFaultKind};
-use crate::limits::MAX_DEPTH;
 use crate::parser::Parser;
 use crate::token::Token;
+use lab_printing::MAX_DEPTH;
 use lab_table::{NoMemory, Pred, PredKind, Word};
 use std::alloc::Global;
 

@@ -1,49 +1,15 @@
-//! Statements in printed form, where that keeps the limits of a text.
+//! Statements in printed form that are read again.
 
-ghost use Rattle.std.specs.Prelude.{◌≡◌, ◌≢◌, ◌++◌, ◌≤◌, ◌<◌, length, Some, IfOk, OnOk, Err};
-ghost use Rattle.lab_statement.specs.Printed.{printed_command, printed_statement};
-ghost use Rattle.lab_statement.specs.Depth.{statement_depth};
+ghost use Rattle.std.specs.Prelude.{◌≡◌, ◌≢◌, ◌≤◌, ◌<◌, length, Some, IfOk, OnOk, Err};
+ghost use Rattle.lab_printing.specs.Printed.{printed_statement};
+ghost use Rattle.lab_printing.specs.Depth.{statement_depth};
+ghost use Rattle.lab_printing.specs.Limits.{max_depth, max_statement_bytes, StatementPrints};
 ghost use Rattle.lab_statement.specs.Text.{SpellsStatement};
 ghost use Rattle.lab_statement.specs.StatementText.{statement_in};
-ghost use Rattle.lab_statement.specs.Ranges.{StatementInRange};
-ghost use Rattle.lab_statement.specs.Limits.{max_depth, max_statement_bytes, StatementPrints, CommandPrints, IsDeep, IsLong};
 
-use crate::fits::{depth_fits, statement_fits};
-use crate::limits::MAX_STATEMENT_BYTES;
-use crate::sink::append_result;
-use crate::spelling::{spell_command, spell_statement};
-use lab_table::{Command, NoMemory, Statement};
-use std::alloc::{AllocError, Global};
-use thiserror::Error;
-
-/// Why a value has no printed text.
-#[derive(Clone, Copy, Debug, PartialEq, Eq, Error)]
-pub enum PrintFault {
-    /// An allocation was refused.
-    #[error("no memory")]
-    NoMemory,
-    /// More than 16 parentheses and `not`s of a statement would be open at one place.
-    #[error("a statement is too deep")]
-    TooDeep,
-    /// A statement would have more than 1,000 bytes, the line of a setup more than 4,000,
-    /// or a script more than 2,000 lines.
-    #[error("the text is too long")]
-    TooLong,
-    /// A script names more than four tables. Only `print_script` answers it.
-    #[error("there are too many tables")]
-    TooManyTables,
-}
-
-impl From<AllocError> for PrintFault {
-    ghost use Rattle.std.specs.Prelude.{◌≡◌};
-    ghost use Rattle.lab_statement.specs.declared.print.PrintFault.TheVariants.{NoMemory};
-
-    ghost from_gives = { λ _ fault. fault ≡ NoMemory };
-
-    fn from(_: AllocError) -> PrintFault {
-        PrintFault::NoMemory
-    }
-}
+use lab_printing::{PrintFault, check_statement, put_statement};
+use lab_table::Statement;
+use std::alloc::Global;
 
 /// A statement in printed form, if that keeps the limits of a text.
 /// TooDeep comes before TooLong; NoMemory where an allocation was refused.
@@ -62,71 +28,4 @@ pub fn print_statement(alloc: Global, statement: &Statement) -> Result<Vec<u8>, 
     let mut text = Vec::new(alloc);
     put_statement(&mut text, statement)?;
     Ok(text)
-}
-
-/// Whether a statement's printed form keeps the limits of a text, before it is printed: Ok exactly where
-/// `print_statement` gives a text unless memory runs out.
-/// TooDeep where more than 16 parentheses and `not`s would be open at one place; else TooLong where the
-/// text would have more than 1,000 bytes. It takes no memory and never answers NoMemory.
-/// By it a caller refuses a statement that can't be written down before running or keeping it.
-pub fn check_statement(statement: &Statement) -> Result<(), PrintFault>
-    ensures prints { OnOk result (StatementPrints statement.now) }
-    ensures too_deep { result ≡ Err PrintFault.TooDeep → max_depth < statement_depth statement.now }
-    ensures too_long { result ≡ Err PrintFault.TooLong → (statement_depth statement.now ≤ max_depth) × (max_statement_bytes < length (printed_statement statement.now)) }
-    ensures memory { result ≢ Err PrintFault.NoMemory }
-    ensures few_tables { result ≢ Err PrintFault.TooManyTables }
-{
-    if !depth_fits(statement) {
-        Err(PrintFault::TooDeep)
-    } else if !statement_fits(statement) {
-        Err(PrintFault::TooLong)
-    } else {
-        Ok(())
-    }
-}
-
-/// Appends a statement in printed form, whatever its length. NoMemory where an allocation was refused, and then part of it
-/// may stand there.
-pub fn put_statement(out: &mut Vec<u8>, statement: &Statement) -> Result<(), NoMemory>
-    ensures in_range { OnOk result (StatementInRange statement.now) }
-    ensures text { OnOk result (out.new.items ≡ out.old.items ++ printed_statement statement.now) }
-{
-    append_result(spell_statement(out, statement))
-}
-
-/// Appends a command in printed form, if that keeps the limits of a text.
-/// TooDeep and TooLong only where it breaks that limit; NoMemory where an allocation was refused. Where it is refused,
-/// the text or a part of it may stand there.
-pub fn put_printable(out: &mut Vec<u8>, command: &Command) -> Result<(), PrintFault>
-    ensures text { OnOk result (out.new.items ≡ out.old.items ++ printed_command command.now) }
-    ensures prints { OnOk result (CommandPrints command.now) }
-    ensures too_deep { result ≡ Err PrintFault.TooDeep → IsDeep command.now }
-    ensures too_long { result ≡ Err PrintFault.TooLong → IsLong command.now }
-    ensures few_tables { result ≢ Err PrintFault.TooManyTables }
-{
-    match command {
-        Command::Run(statement) if !depth_fits(statement) => Err(PrintFault::TooDeep),
-        _ => {
-            let before = out.len();
-            append_result(spell_command(out, command))?;
-            // The length is known once it stands there.
-            if out.len() - before > MAX_STATEMENT_BYTES {
-                return Err(PrintFault::TooLong);
-            }
-            Ok(())
-        }
-    }
-}
-
-/// Whether a command's printed form keeps the limits of a text; it takes no memory.
-pub fn check_command(command: &Command) -> Result<(), PrintFault>
-    ensures prints { OnOk result (CommandPrints command.now) }
-    ensures too_deep { result ≡ Err PrintFault.TooDeep → IsDeep command.now }
-    ensures too_long { result ≡ Err PrintFault.TooLong → IsLong command.now }
-    ensures few_tables { result ≢ Err PrintFault.TooManyTables }
-{
-    match command {
-        Command::Begin | Command::Commit | Command::Abort => Ok(()),
-        Command::Run(statement) => check_statement(statement),
-    }
 }

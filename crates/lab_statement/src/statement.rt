@@ -2,16 +2,16 @@
 
 ghost use Rattle.std.specs.Prelude.{◌≡◌, nat_le, true, false, length, OnOk, IfErr};
 ghost use Rattle.lab_statement.specs.Grammar.{over};
-ghost use Rattle.lab_statement.specs.Limits.{max_statement_bytes};
-ghost use Rattle.lab_statement.specs.Printed.{printed_statement};
+ghost use Rattle.lab_printing.specs.Limits.{max_statement_bytes};
+ghost use Rattle.lab_printing.specs.Printed.{printed_statement};
 ghost use Rattle.lab_statement.specs.declared.fault.ScriptFaultKind.TheVariants.{TooLong};
 ghost use Rattle.lab_statement.specs.Stopping.{Comes};
 ghost use Rattle.lab_statement.specs.FirstFaults.{delete_read, end_read, ended_read, expr_read, insert_read, select_read, statement_read, update_read, whole_statement_read};
 
 use crate::fault::{Refusal, ScriptFaultKind};
-use crate::fits::statement_fits;
 use crate::parser::Parser;
 use crate::token::Token;
+use lab_printing::statement_fits;
 use lab_table::{Expr, Statement, StatementKind, TableName, Word};
 use std::alloc::Global;
 
@@ -143,7 +143,7 @@ fn over(table: TableName, kind: StatementKind) -> Statement
 }
 
 /// The printed form is as short as it must be.
-#[tactic(auto, using(crate::proofs::PutTexts::same_test))]
+#[tactic(auto, using(crate::proofs::Bounds::same_test))]
 pub fn check_length(statement: &Statement) -> Result<(), Refusal>
     ensures short { OnOk result (nat_le (length (printed_statement statement.now)) max_statement_bytes ≡ true) }
     ensures long { IfErr result (λ e. (e ≡ Refusal.Fault TooLong) × (nat_le (length (printed_statement statement.now)) max_statement_bytes ≡ false)) }

@@ -7,10 +7,10 @@ ghost use Rattle.lab_statement.specs.Fault.{IsFirstInText, IsStatementFault};
 ghost use Rattle.lab_statement.specs.StatementText.{statement_in};
 
 use crate::fault::{ScriptFault, ScriptFaultKind};
-use crate::limits::MAX_LINE_BYTES;
 use crate::line::{code_and_remark, is_ascii_code};
 use crate::parser::read_statement;
 use crate::token::{Token, tokens_into};
+use lab_printing::MAX_LINE_BYTES;
 use lab_table::{NoMemory, Statement};
 use std::alloc::Global;
 

@@ -7,7 +7,7 @@ use Rattle.lab_judge.specs.declared.report.Report.{Report}
 use Rattle.lab_reports.specs.RefusalTree.{refused_tree}
 use Rattle.lab_reports.specs.Requirements.{meets}
 use Rattle.lab_reports.specs.Shortfall.{shortfall_text}
-use Rattle.lab_statement.specs.Printed.{newline}
+use Rattle.lab_printing.specs.Printed.{newline}
 use Rattle.lab_reports.specs.Tree.{tree_of, line_of}
 use Rattle.lab_reports.specs.declared.requirement.Requirement.{Requirement}
 use Rattle.lab_streams.specs.declared.ending.Ending.{Ending}

@@ -1,7 +1,8 @@
 //! Values that no text can spell: what is said of them instead of their printed form.
 
+use lab_printing::{PrintFault, check_statement};
 use lab_script::{Line, Lines, Script, print_script, print_transcript, run_serial};
-use lab_statement::{PrintFault, check_statement, print_statement};
+use lab_statement::print_statement;
 use lab_table::{
     Col, Command, Numbers, Pred, PredKind, RowId, RowName, Session, Statement, StatementKind,
     Table, TableName, Value,

@@ -4,11 +4,10 @@
 use crate::alike::alike_operations;
 use lab_history::{FileFault, History, Op};
 use lab_history_file::{WriteFault, read_history, write_history};
+use lab_printing::PrintFault;
 use lab_refusal_tests::{refuse, was_refused};
 use lab_script::{Script, parse_script, print_script, print_transcript, run_serial};
-use lab_statement::{
-    PrintFault, ScriptFault, parse_statement, print_script_fault, print_statement,
-};
+use lab_statement::{ScriptFault, parse_statement, print_script_fault, print_statement};
 use lab_table::{Command, Statement, Table, TableFault};
 use std::alloc::Global;
 use std::process::Abort;

@@ -1,5 +1,5 @@
 use Rattle.std.{proofs.Common.{◌≡◌, ◌++◌, ap, ◌∙◌, append_assoc, refl}, specs.Prelude.{codes}}
-use Rattle.lab_statement.proofs.Appended.{rest_appended}
+use Rattle.lab_printing.proofs.Appended.{rest_appended}
 use Rattle.lab_history.{specs.PathText.{index_text, txn_text}, proofs.Appended.{appended}}
 use Rattle.lab_history.proofs.path_text.put_in_txn.Goals as goal
 

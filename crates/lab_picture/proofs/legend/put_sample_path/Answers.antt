@@ -1,5 +1,5 @@
 use Rattle.std.{proofs.Common.{◌++◌, refl}, specs.Prelude.{codes}}
-use Rattle.lab_statement.proofs.Appended.{rest_appended}
+use Rattle.lab_printing.proofs.Appended.{rest_appended}
 use Rattle.lab_picture.specs.Heading.{sample_end, sample_path}
 use Rattle.lab_picture.proofs.legend.put_sample_path.Goals as goal
 

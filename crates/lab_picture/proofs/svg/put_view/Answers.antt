@@ -1,5 +1,5 @@
 use Rattle.std.{proofs.Common.{◌++◌, refl}, specs.Prelude.{codes}}
-use Rattle.lab_statement.proofs.Appended.{rest_appended}
+use Rattle.lab_printing.proofs.Appended.{rest_appended}
 use Rattle.lab_picture.specs.Svg.{numbers_text, view_text}
 use Rattle.lab_picture.proofs.svg.put_view.Goals as goal
 

@@ -1,5 +1,5 @@
 use Rattle.std.{proofs.Common.{◌++◌, ap, sym, ◌∙◌}, specs.Prelude.{codes}}
-use Rattle.lab_statement.proofs.Appended.{rest_appended}
+use Rattle.lab_printing.proofs.Appended.{rest_appended}
 use Rattle.lab_picture.specs.{Cycles.{walk_phenomenon}, Titles.{full_name, serial_title}}
 use Rattle.lab_picture.proofs.titles.put_serial_title.Goals as goal
 

@@ -1,5 +1,5 @@
 use Rattle.std.{proofs.{Common.{refl, sym, subst}, lemmas.Str.{IsUtf8-append, IsUtf8-from_ascii}}, specs.Prelude.{IsUtf8}}
-use Rattle.lab_statement.specs.Printed.{newline}
+use Rattle.lab_printing.specs.Printed.{newline}
 use Rattle.lab_reports.proofs.AsciiTexts.{ascii_by}
 use Rattle.lab_reports.proofs.line.print_line.Goals as goal
 

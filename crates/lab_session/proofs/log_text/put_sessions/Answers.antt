@@ -1,5 +1,5 @@
 use Rattle.std.proofs.{Common.{◌≡◌, ◌∷◌, ◌++◌, [], ap, sym, ◌∙◌, rules, drop, map}, lemmas.List.{drop_all}}
-use Rattle.lab_statement.{specs.Printed.{joined}, proofs.Joined.{all_joined, followed}}
+use Rattle.lab_printing.{specs.Printed.{joined}, proofs.Joined.{all_joined, followed}}
 use Rattle.lab_session.specs.LogText.{session_text}
 use Rattle.lab_session.proofs.log_text.put_sessions.Goals as goal
 

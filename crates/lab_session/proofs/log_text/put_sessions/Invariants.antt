@@ -1,5 +1,5 @@
 use Rattle.std.proofs.Common.{◌≡◌, ◌++◌, drop, map}
-use Rattle.lab_statement.proofs.Joined.{followed}
+use Rattle.lab_printing.proofs.Joined.{followed}
 use Rattle.lab_session.specs.LogText.{session_text}
 use Rattle.lab_session.proofs.log_text.put_sessions.Given as goal
 
