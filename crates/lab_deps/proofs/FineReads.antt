@@ -1,5 +1,5 @@
 -- What is excluded where each version that an operation sees is one that it may see.
-use Rattle.std.proofs.{Common.{◌≡◌, ℕ, ◌+◌, ◌==◌, Bool, true, false, not, ◌&&◌, ◌||◌, cond, Option, Some, None, List, refl, sym, ap, ◌∙◌, arith}, lemmas.{Bool.{false≢true, eqb-true, eq-eqb, and_parts, and_from, not-false}, Option.{none-some, same_Some}}}
+use Rattle.std.proofs.{Common.{◌≡◌, ℕ, ◌+◌, ◌==◌, Bool, true, false, not, ◌&&◌, ◌||◌, cond, Option, Some, None, List, refl, sym, ap, ◌∙◌, subst, arith}, lemmas.{Bool.{false≢true, eqb-true, eq-eqb, and_parts, and_from, not-false}, Option.{none-some, same_Some}}}
 use Rattle.std.specs.{Prelude.{nat_le, nat_lt, is_none, is_some, option_and_then, unwrap_or}, FinMap.{FinMap, get, entries}}
 use Rattle.lab_table.specs.Row.{Row, row_cmp}
 use Rattle.lab_history.{specs.{History.{History}, Version.{IsCommitted, ops_of, outcome_of, viewed, new_state, version_state, last_write, installers, place_in, is_at}, declared.operation.{Op.{Op}, VersionName.{VersionName, TheVariants.{Initial, Of}}}}, proofs.Greatest.{last_is_greatest}}

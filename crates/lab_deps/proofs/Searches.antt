@@ -100,15 +100,15 @@ module _ (h : History) (kinds : List (Option OpFault)) where
         lesser : (a b c : ℕ) → a ≤ b → b < c → a < c
         lesser a b c l m = omega arith
 
+  passed : (n k : ℕ) (f : Found) → IsSoughtTo h kinds (place n) k f → IsSoughtTo h kinds (place n + 1) 0 f
+  passed n k f (s, inl less) = (s, inl (omega (arith, less)))
+  passed n k f (s, inr (at, le)) = (s, inl (omega (arith, at)))
+
   -- behind a transaction, where what is sought at it is among so many first operations
   txn_passed : (n k : ℕ) (t : Txn) → find_txn h.txns n ≡ Some t → ((f : Found) → IsSought h kinds f → f.txn ≡ n → f.op ≤ k) → (found : Option Found) → IsFirstOf (ComesFirst h) (IsSoughtTo h kinds (place n) k) found
       → IsFirstOf (ComesFirst h) (IsSoughtTo h kinds (place n + 1) 0) found
-  txn_passed n k t there all found first = first_like (ComesFirst h) (IsSoughtTo h kinds (place n) k) (IsSoughtTo h kinds (place n + 1) 0) found to back first
+  txn_passed n k t there all found first = first_like (ComesFirst h) (IsSoughtTo h kinds (place n) k) (IsSoughtTo h kinds (place n + 1) 0) found (passed n k) back first
     where
-      to : (f : Found) → IsSoughtTo h kinds (place n) k f → IsSoughtTo h kinds (place n + 1) 0 f
-      to f (s, inl less) = (s, inl (omega (arith, less)))
-      to f (s, inr (at, le)) = (s, inl (omega (arith, at)))
-
       back : (f : Found) → IsSoughtTo h kinds (place n + 1) 0 f → (IsSoughtTo h kinds (place n) k f → ⊥) → ⊥
       back f (s, inr (at, le)) no = let w = op_within (ops_of h f.txn) f.op s.1.0 s.1.1.1 in absurd (omega (arith, w.0, le))
       back f (s, inl less) no =
@@ -136,6 +136,19 @@ module _ (h : History) (kinds : List (Option OpFault)) where
       (λ f s at.
       let ended : outcome_of h t.no ≡ Some Aborted = ap (option_map (λ u. u.outcome)) there ∙ ap Some aborted in
       absurd (false≢true (sym (ap has_committed (ap (outcome_of h) at ∙ ended)) ∙ ap has_committed s.1.1.0))) found first
+
+  -- what comes before what is sought up to an operation is so too
+  up_to : (p k : ℕ) (f g : Found) → IsSoughtTo h kinds p k f → IsSought h kinds g → ComesBefore h (g.txn, g.op, g.row) (f.txn, f.op, f.row) → IsSoughtTo h kinds p k g
+  up_to p k f g (_, inl less) s (inl before) = (s, inl (omega (arith, less, before)))
+  up_to p k f g (_, inr (at, le)) s (inl before) = (s, inl (omega (arith, at, before)))
+  up_to p k f g (_, inl less) s (inr (alike, _)) = let places = ap place alike in (s, inl (omega (arith, less, places)))
+  up_to p k f g (_, inr (at, le)) s (inr (alike, inl before)) = (s, inr (ap place alike ∙ at, omega (arith, le, before)))
+  up_to p k f g (_, inr (at, le)) s (inr (alike, inr (number, _))) = (s, inr (ap place alike ∙ at, omega (arith, le, number)))
+
+  -- where no kind is left to look for, what is found is the first at all operations of the transaction
+  pub settled : (n k : ℕ) (found : Option Found) → limit kinds found ≡ 0 → IsFirstOf (ComesFirst h) (IsSoughtTo h kinds (place n) k) found → IsFirstOf (ComesFirst h) (IsSoughtTo h kinds (place n + 1) 0) found
+  settled n k None none first = λ f s. let within = slice_get_within kinds f.place (Some f.kind) s.0.0 in absurd (omega (arith, within, none))
+  settled n k (Some f) none first = (passed n k f first.0, λ g s l. elim l [ inl less ↦ absurd (omega (arith, less, none)) | inr w ↦ first.1 g (up_to (place n) k f g first.0 s.0 w.1) l ])
 
   -- the kinds of what is found are there
   pub bounded : (p k : ℕ) (found : Option Found) → IsFirstOf (ComesFirst h) (IsSoughtTo h kinds p k) found → IfSome found (λ f. f.place ≤ length kinds)

@@ -82,8 +82,11 @@ fn first_in_ops(
     let mut known: &[(RowName, VersionName)] = &[];
     let mut hints = Hints::new();
     for (index, op) in ops.iter().enumerate() {
-        let number = index as u32 + 1;
         let left = kinds_before(kinds, &found);
+        if left.is_empty() {
+            return found;
+        }
+        let number = index as u32 + 1;
         let before = op_of(ops, number - 1);
         let again = sees_again(fine, before, op);
         fine = sees_fine(history, txn, number, known, again, op, &mut hints);
