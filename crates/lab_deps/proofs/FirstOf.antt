@@ -1,5 +1,5 @@
 -- The first of those of which something is so, and the least row: of either of two, of all members of a list, and among the entries of a map.
-use Rattle.std.proofs.{Common.{◌≡◌, ℤ, Bool, true, false, cond, T, Option, Some, None, List, [], ◌∷◌, ◌⊎◌, inl, inr, refl, sym, ap, ◌∙◌, subst}, lemmas.{Bool.{false≢true}, List.Elements.{Contains-append_cases}, Option.{none-some, same_Some}}}
+use Rattle.std.proofs.{Common.{◌≡◌, ℕ, ℤ, ◌+◌, ◌<◌, Bool, true, false, cond, T, Option, Some, None, List, [], ◌∷◌, ◌⊎◌, length, get_or, drop, inl, inr, refl, sym, ap, ◌∙◌, subst}, lemmas.{Bool.{false≢true}, List.{at_drop_more, Elements.{Contains-append_cases}}, Option.{none-some, same_Some}}}
 use Rattle.std.specs.{Prelude.{Contains, ◌&&◌}, Bool.{then_some}, Ordering.{is_lt, is_le, ordering_reverse}, Cmp.{tied_itself}, FinMap.{FinMap, find, get, entries, entries_sorted, is_sorted, get-entries, Entries.{below_all}}, declared.cmp.Ordering.{Ordering, TheVariants.{Less, Equal, Greater}}}
 use Rattle.lab_table.{specs.Row.{Row, row_cmp, row_eq, row_le, rows_total, rows_apart}, proofs.{Maps.{find_below, same_row, row_eq_self}, Members.{no_member, first_member, later_member, only_member}, Orderings.{is_less}, Tests.{both}}}
 use Rattle.lab_history.specs.{VersionName.{new_states}, declared.operation.State.{State}}
@@ -139,6 +139,12 @@ module _ {A : Type 0} where
     value_least m =
         first_like IsLess (Passes (entries m)) (HasPassing test m) (first_value test (entries m)) (λ row w. (w.0, get-entries m row ∙ w.1, w.2)) (λ row w no. no (w.0, sym (get-entries m row) ∙ w.1, w.2))
         (least_in (entries m) (entries_sorted m))
+
+-- among the entries from a place on the row is found at the one there, or among those behind it
+pub next_value : {A : Type 0} (test : Row → A → Bool) (es : List (Row × A)) (i : ℕ) (e : Row × A) (b : Bool) → i < length es → e ≡ get_or es i e → b ≡ test e.0 e.1
+    → first_value test (drop i es) ≡ cond b (Some e.0) (first_value test (drop (i + 1) es))
+next_value test es i e b less is passes =
+    at_drop_more (first_value test) es i e less ∙ ap (λ x. first_value test (x ∷ drop (i + 1) es)) (sym is) ∙ ap (λ b. cond b (Some e.0) (first_value test (drop (i + 1) es))) (sym passes)
 
 -- the rows that are written don't depend on how their states are stored
 pub first_states : (test : Row → Bool) (es : List (Row × State)) (fs : List (Row × Option ℤ)) → new_states es ≡ fs → first_entry test es ≡ first_entry test fs

@@ -1,5 +1,5 @@
 -- The walk over operations: what is found up to an operation, and what more at one.
-use Rattle.std.proofs.{Common.{◌≡◌, ℕ, zero, suc, ◌+◌, ◌<◌, ◌≤◌, ◌==◌, true, false, cond, Option, Some, None, List, [], ◌∷◌, ◌⊎◌, length, take, inl, inr, refl, sym, ap, ◌∙◌, subst, arith}, lemmas.{Bool.{false≢true}, Option.{none-some, same_Some, slice_get_within}}}
+use Rattle.std.proofs.{Common.{◌≡◌, ℕ, zero, suc, ◌+◌, ◌<◌, ◌≤◌, ◌==◌, true, false, cond, Option, Some, None, List, [], ◌∷◌, ◌⊎◌, length, take, length-take-le, inl, inr, refl, sym, ap, ◌∙◌, subst, arith}, lemmas.{Bool.{false≢true, eqb-true}, Option.{none-some, same_Some, slice_get_within}}}
 use Rattle.std.specs.{Prelude.{slice_get, option_map, IfSome}, Option.{option_or}}
 use Rattle.lab_table.specs.Row.{Row}
 use Rattle.lab_history.specs.{History.{History}, Version.{IsCommitted, find_txn, ops_of, op_at, outcome_of}, declared.{operation.Op.{Op}, transaction.{Outcome.TheVariants.{Aborted}, Txn.{Txn}}}}
@@ -134,7 +134,7 @@ module _ (h : History) (kinds : List (Option OpFault)) where
   aborted_passed t there aborted found first =
       txn_passed t.no 0 t there
       (λ f s at.
-      let ended : outcome_of h t.no ≡ Some Aborted = ap (option_map (λ u. u.outcome)) there ∙ ap Some aborted in
+      let ended : outcome_of h t.no ≡ Some Aborted = ap (option_map (λ (u : Txn). u.outcome)) there ∙ ap Some aborted in
       absurd (false≢true (sym (ap has_committed (ap (outcome_of h) at ∙ ended)) ∙ ap has_committed s.1.1.0))) found first
 
   -- what comes before what is sought up to an operation is so too
@@ -145,20 +145,31 @@ module _ (h : History) (kinds : List (Option OpFault)) where
   up_to p k f g (_, inr (at, le)) s (inr (alike, inl before)) = (s, inr (ap place alike ∙ at, omega (arith, le, before)))
   up_to p k f g (_, inr (at, le)) s (inr (alike, inr (number, _))) = (s, inr (ap place alike ∙ at, omega (arith, le, number)))
 
-  -- where no kind is left to look for, what is found is the first at all operations of the transaction
-  pub settled : (n k : ℕ) (found : Option Found) → limit kinds found ≡ 0 → IsFirstOf (ComesFirst h) (IsSoughtTo h kinds (place n) k) found → IsFirstOf (ComesFirst h) (IsSoughtTo h kinds (place n + 1) 0) found
-  settled n k None none first = λ f s. let within = slice_get_within kinds f.place (Some f.kind) s.0.0 in absurd (omega (arith, within, none))
-  settled n k (Some f) none first = (passed n k f first.0, λ g s l. elim l [ inl less ↦ absurd (omega (arith, less, none)) | inr w ↦ first.1 g (up_to (place n) k f g first.0 s.0 w.1) l ])
-
   -- the kinds of what is found are there
   pub bounded : (p k : ℕ) (found : Option Found) → IsFirstOf (ComesFirst h) (IsSoughtTo h kinds p k) found → IfSome found (λ f. f.place ≤ length kinds)
   bounded p k None first = tt
   bounded p k (Some f) first = let within = slice_get_within kinds f.place (Some f.kind) first.0.0.0 in omega (arith, within)
 
+  none_left : (found : Option Found) → IfSome found (λ f. f.place ≤ length kinds) → length (take (limit kinds found) kinds) ≡ 0 → limit kinds found ≡ 0
+  none_left None within none = sym (length-take-le (length kinds) kinds (omega arith)) ∙ none
+  none_left (Some f) within none = sym (length-take-le f.place kinds within) ∙ none
+
+  -- where no kind is left to look for, what is found is the first at all operations of the transaction
+  nothing_more : (n k : ℕ) (found : Option Found) → limit kinds found ≡ 0 → IsFirstOf (ComesFirst h) (IsSoughtTo h kinds (place n) k) found → IsFirstOf (ComesFirst h) (IsSoughtTo h kinds (place n + 1) 0) found
+  nothing_more n k None none first = λ f s. let within = slice_get_within kinds f.place (Some f.kind) s.0.0 in absurd (omega (arith, within, none))
+  nothing_more n k (Some f) none first = (passed n k f first.0, λ g s l. elim l [ inl less ↦ absurd (omega (arith, less, none)) | inr w ↦ first.1 g (up_to (place n) k f g first.0 s.0 w.1) l ])
+
+  pub settled : (n k : ℕ) (found : Option Found) → (length (take (limit kinds found) kinds) == 0) ≡ true → IsFirstOf (ComesFirst h) (IsSoughtTo h kinds (place n) k) found
+      → IsFirstOf (ComesFirst h) (IsSoughtTo h kinds (place n + 1) 0) found
+  settled n k found none first = nothing_more n k found (none_left found (bounded (place n) k found first) (eqb-true (length (take (limit kinds found) kinds)) 0 none)) first
+
   -- before the first transaction, and behind the last
+  none_before : (f : Found) → IsSoughtTo h kinds 0 0 f → ⊥
+  none_before f (s, inl less) = absurd (omega (arith, less))
+  none_before f (s, inr (at, le)) = let w = op_within (ops_of h f.txn) f.op s.1.0 s.1.1.1 in absurd (omega (arith, w.0, le))
+
   pub at_start : IsFirstOf (ComesFirst h) (IsSoughtTo h kinds 0 0) None
-  at_start f (s, inl less) = absurd (omega (arith, less))
-  at_start f (s, inr (at, le)) = let w = op_within (ops_of h f.txn) f.op s.1.0 s.1.1.1 in absurd (omega (arith, w.0, le))
+  at_start = none_before
 
   pub at_end : (p : ℕ) → length h.txns ≤ p → (found : Option Found) → IsFirstOf (ComesFirst h) (IsSoughtTo h kinds p 0) found → IsFirstOf (ComesFirst h) (IsSought h kinds) found
   at_end p all found first =

@@ -1,8 +1,8 @@
-use Rattle.std.{proofs.{Common.{◌≡◌, ℕ, ◌+◌, ◌-◌, true, Some, T, take, length, refl, sym, ap, ◌∙◌, subst, arith, add-one}, lemmas.Option.{slice_get_read, same_Some}}, specs.{Prelude.{slice_get}, Option.{option_copied, option_or}, FinMap.{is_sorted}}}
+use Rattle.std.{proofs.{Common.{◌≡◌, ℕ, ◌+◌, ◌-◌, ◌==◌, true, Option, Some, List, T, take, length, refl, sym, ap, ◌∙◌, subst, arith, add-one}, lemmas.Option.{slice_get_read, same_Some}}, specs.{Prelude.{slice_get}, Option.{option_copied, option_or}, FinMap.{is_sorted}}}
 use Rattle.lab_table.specs.Row.{row_cmp}
 use Rattle.lab_history.specs.{Version.{op_at, ops_of}, declared.operation.Op.{Op}}
-use Rattle.lab_deps.specs.{FaultOrder.{place_among}, Fine.{IsFineView}, FirstOf.{IsFirstOf}, Search.{limit, ComesFirst, IsSoughtTo, IsSoughtAt}}
-use Rattle.lab_deps.proofs.{FineReads.{next_fine, view_breaks}, Searches.{bounded, step, ops_passed}}
+use Rattle.lab_deps.specs.{FaultOrder.{place_among}, Fine.{IsFineView}, FirstOf.{IsFirstOf}, Search.{limit, ComesFirst, IsSoughtTo, IsSoughtAt}, declared.kind.OpFault.{OpFault}}
+use Rattle.lab_deps.proofs.{FineReads.{next_fine, view_breaks}, Searches.{bounded, step, settled, ops_passed}}
 use Rattle.lab_deps.proofs.search.first_in_ops.Goals as goal
 
 same_number : (i : ℕ) → i + 1 - 1 ≡ i
@@ -10,6 +10,12 @@ same_number i = omega arith
 
 pub kinds_before-left-requires : goal.kinds_before-left-requires
 kinds_before-left-requires c = bounded c.args.history.now c.args.kinds.now (place_among c.args.history.now.txns c.args.txn) c.loop-index.index c.loop-index.found c.loop-index.invariant.first
+
+pub returns-then-is_empty : goal.returns-then-is_empty
+returns-then-is_empty c =
+    let h = c.args.history.now in
+    let kinds = c.args.kinds.now in
+    settled h kinds c.args.txn c.loop-index.index c.loop-index.found (ap (λ (ks : List (Option OpFault)). length ks == 0) (sym c.kinds_before-left.ensures) ∙ sym c.is_empty.ensures ∙ c.if-is_empty.true) c.loop-index.invariant.first
 
 pub sees_fine-fine-requires-clause-again : goal.sees_fine-fine-requires-clause-again
 sees_fine-fine-requires-clause-again c = λ t.
