@@ -1,4 +1,4 @@
--- What is found at the versions that change a statement's matches is all that is found.
+-- What is found by the listing of a row and by the changes of a statement's matches is all that is found.
 use Rattle.std.proofs.Common.{◌≡◌, ◌⊎◌, ℕ, zero, suc, ◌+◌, ◌-◌, ◌==◌, Bool, true, false, cond, Option, Some, None, List, [], ◌∷◌, ◌++◌, refl, sym, ap, ◌∙◌, subst, arith, inl, inr}
 use Rattle.std.specs.{Prelude.{Contains, slice_get}, List.{flat_map}}
 use Rattle.std.proofs.lemmas.{Bool.{false≢true, eqb-true}, List.Elements.{Contains-append_left, Contains-append_right, Contains-append_cases}, Option.{none-some, same_Some}}
@@ -6,9 +6,8 @@ use Rattle.lab_table.{specs.{Row.{Row}, Table.{State}, Statement.{matches}, decl
 use Rattle.lab_deps.specs.Edges.{differ}
 use Rattle.lab_deps.specs.Collected.{apart, apart_in, read_by, passed_by, item_edge, change_edge}
 use Rattle.lab_deps.specs.EdgesByRow.{Chain, HasMembersOf, edges_by, along, walked, change_by, changes_along}
-use Rattle.lab_deps.specs.Turns.{state_in, state_before, item_in, items_of, change_in, change_at, found_at}
+use Rattle.lab_deps.specs.Turns.{state_in, state_before, item_in, items_of}
 use Rattle.lab_deps.specs.declared.{edge.{Edge.{Edge}, Kind.TheVariants.{ItemRead, ItemAnti}}, reading.Reading.{Reading}, versions.Version.{Version}}
-use Rattle.lab_deps.proofs.Membership.{from_each, of_each}
 
 pub less_one : (q : ℕ) → suc q - 1 ≡ q
 less_one q = omega arith
@@ -144,10 +143,6 @@ module _ (s : Statement) (r : Reading) (c : Chain) where
   item_into p None there e has = absurd (no_member e has)
   item_into p (Some v) there e has = into p v e there (Contains-append_left (apart_in (item_edge r p v.installer)) (cond (changed p v) (apart (change_edge r p v.installer)) []) e has)
 
-  change_into : (p : ℕ) (o : Option Version) → slice_get vs p ≡ o → (e : Edge) → Contains (change_in s r (matches s r.row (state_before c p)) p o) e → Contains edges e
-  change_into p None there e has = absurd (no_member e has)
-  change_into p (Some v) there e has = into p v e there (Contains-append_right (apart_in (item_edge r p v.installer)) (cond (changed p v) (apart (change_edge r p v.installer)) []) e has)
-
   abbrev items : List Edge
   items = items_of r vs
 
@@ -190,42 +185,3 @@ module _ (s : Statement) (r : Reading) (c : Chain) where
 
   pub walked_by_changes : HasMembersOf (items ++ changes_met) (walked s r c)
   walked_by_changes e = (apart_walked e, walked_apart e)
-
-  module _ (turns : List ℕ) where
-    abbrev changes : List Edge
-    changes = flat_map (change_at s r c) turns
-
-    found_walked : (e : Edge) → Contains (found_at s r c turns) e → Contains edges e
-    found_walked e has =
-        elim (Contains-append_cases items changes e has) [
-          | inl item ↦ items_walked e item
-          | inr change ↦
-              let one = from_each (change_at s r c) turns e change in
-              change_into one.source (slice_get vs one.source) refl e one.is_made
-        ]
-
-    -- a version leaves the matches as they are, or stands at one of the places
-    abbrev pub AreEnough : Type 0
-    AreEnough = (p : ℕ) (v : Version) → slice_get vs p ≡ Some v → Contains turns p ⊎ (matches s r.row (state_before c p) ≡ matches s r.row v.value)
-
-    change_found : AreEnough → (p : ℕ) (v : Version) (e : Edge) → slice_get vs p ≡ Some v
-        → Contains (cond (changed p v) (apart (change_edge r p v.installer)) []) e → Contains changes e
-    change_found enough p v e there made =
-        elim (enough p v there) [
-          | inl turn ↦ of_each (change_at s r c) turns p e turn (subst (λ o. Contains (change_in s r (matches s r.row (state_before c p)) p o) e) (sym there) made)
-          | inr same ↦
-              let kept : changed p v ≡ false = no_difference (matches s r.row (state_before c p)) (matches s r.row v.value) same in
-              absurd (no_member e (subst (λ b. Contains (cond b (apart (change_edge r p v.installer)) []) e) kept made))
-        ]
-
-    walked_found : AreEnough → (e : Edge) → Contains edges e → Contains (found_at s r c turns) e
-    walked_found enough e walks =
-        let m = made_along (edges_by r) e walks in
-        elim (Contains-append_cases (apart_in (item_edge r m.at m.version.installer)) (cond (changed m.at m.version) (apart (change_edge r m.at m.version.installer)) []) e m.has) [
-          | inl item ↦ Contains-append_left items changes e (item_found m.at m.version e m.there item)
-          | inr change ↦ Contains-append_right items changes e (change_found enough m.at m.version e m.there change)
-        ]
-
-    -- the edges at enough places are those of the whole walk
-    pub places_enough : AreEnough → HasMembersOf (found_at s r c turns) (walked s r c)
-    places_enough enough e = (found_walked e, walked_found enough e)

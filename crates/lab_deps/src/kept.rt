@@ -1,0 +1,102 @@
+//! What is kept of where a row turns, for some ways in which a statement may take its values.
+
+ghost use Rattle.std.specs.Prelude.{◌≡◌, Bool, true, false, List, length, get_or, Contains, OnOk, IfOk, IfSome};
+ghost use Rattle.lab_table.specs.Table.{State};
+ghost use Rattle.lab_deps.specs.Turns.{classes_of, AreNumbers, AreKept};
+
+use crate::turns::Turns;
+use crate::values::Values;
+use crate::versions::Version;
+use lab_table::{NoMemory, Value};
+use std::alloc::Global;
+
+/// Where a row turns for the statements that take its values in a way.
+#[derive(Drop)]
+pub struct Kept {
+    /// For each value beside the first one whether it is taken otherwise than that.
+    pub answers: Vec<bool>,
+    pub turns: Turns,
+}
+
+/// Rows with fewer versions are walked along.
+pub const FEWEST: usize = 16;
+
+/// What is kept of a row with these versions, for so many ways at most. NoMemory where an allocation was refused.
+pub fn kept_of(
+    alloc: Global,
+    most: usize,
+    before: &Option<Value>,
+    versions: &[Version],
+    values: &Values,
+) -> Result<Vec<Kept>, NoMemory>
+    ensures { IfOk result (λ kept. AreKept values.now.exact before.now values.now.others.items versions.now kept.items) }
+{
+    let mut kept = Vec::new(alloc);
+    if versions.len() < FEWEST {
+        return Ok(kept);
+    }
+    let Some(numbers) = values.numbers(alloc, before, versions)? else {
+        return Ok(kept);
+    };
+    for index in 0..values.ways() {
+        let answers = values.way(alloc, before, index)?;
+        if kept.len() < most && kept_by(&kept, &answers).is_none() {
+            keep(alloc, &mut kept, versions, &numbers, answers)?;
+        }
+    }
+    Ok(kept)
+}
+
+/// Keeps where a row turns whose versions have these numbers, by an answer for each. NoMemory where an allocation was
+/// refused.
+fn keep(
+    alloc: Global,
+    kept: &mut Vec<Kept>,
+    versions: &[Version],
+    numbers: &[usize],
+    answers: Vec<bool>,
+) -> Result<(), NoMemory>
+    requires { length numbers.now ≡ length versions.now }
+    ensures { OnOk result ((exact : Bool) (before : State) (others : List State) → AreNumbers exact before others versions.now numbers.now
+        → AreKept exact before others versions.now kept.old.items → AreKept exact before others versions.now kept.new.items) }
+{
+    let classes = classes_of(alloc, &answers, numbers)?;
+    let turns = Turns::of(alloc, versions, &classes)?;
+    kept.push(Kept { answers, turns })?;
+    Ok(())
+}
+
+/// The class of each version, by the answer for its number.
+fn classes_of(alloc: Global, answers: &[bool], numbers: &[usize]) -> Result<Vec<bool>, NoMemory>
+    ensures { IfOk result (λ classes. classes.items ≡ classes_of answers.now numbers.now) }
+{
+    numbers
+        .iter()
+        .map(|number| answer_at(answers, *number))
+        .collect(alloc)
+}
+
+fn answer_at(answers: &[bool], number: usize) -> bool
+    ensures { result ≡ get_or answers.now number false }
+{
+    answers.get(number).copied().unwrap_or(false)
+}
+
+/// What is kept by these answers.
+pub fn kept_by<'a>(kept: &'a [Kept], answers: &[bool]) -> Option<&'a Kept>
+    ensures { IfSome result (λ item. Contains kept.now item.now × (item.now.answers.items ≡ answers.now)) }
+{
+    for item in kept {
+        if is_by(item, answers) {
+            return Some(item);
+        }
+    }
+    None
+}
+
+/// Whether something is kept by these answers.
+fn is_by(item: &Kept, answers: &[bool]) -> bool
+    ensures { result ≡ true → item.now.answers.items ≡ answers.now }
+{
+    item.answers.as_slice() == answers
+}
