@@ -1,6 +1,6 @@
 -- Cells that gain bits, one after another and all at once.
-use Rattle.std.{proofs.{Common.{◌≡◌, ◌≤◌, ◌<◌, ◌+◌, ◌*◌, ℕ, zero, suc, List, [], ◌∷◌, length, get_or, set, take, drop, replicate, refl, sym, ap, ◌∙◌, subst, arith, inl, inr}, lemmas.{Bool.{cases_lt}, List.{length-replicate, length-take, get_or-take, get_or-drop, get_or_past}, Nat.{mul-add-lt, Bits.{bit_at_or, bit_at-zero, same_from_bits}}}, Math.Nat.{min-le_left}}, specs.Prelude.{bit_or}}
-use Rattle.lab_deps.specs.Marks.{or_at, marked, all_marked, turns_marked, Reaches}
+use Rattle.std.{proofs.{Common.{◌≡◌, ◌≢◌, ◌≤◌, ◌<◌, ◌+◌, ◌*◌, ℕ, zero, suc, List, [], ◌∷◌, length, get_or, set, take, drop, replicate, refl, sym, ap, ◌∙◌, subst, arith, inl, inr}, lemmas.{Bool.{cases_lt, cases_eq}, List.{length-replicate, length-take, get_or-take, get_or-drop, get_or-set_other, get_or_past}, Nat.{mul-add-lt, Bits.{bit_at_or, bit_at-zero, same_from_bits}}}, Math.Nat.{min-le_left}}, specs.Prelude.{bit_or}}
+use Rattle.lab_deps.specs.{Marks.{or_at, marked, all_marked, turns_marked, Reaches}, Turns.{AreMarks}}
 
 or_of_three : (a b c : ℕ) → bit_or (bit_or a b) c ≡ bit_or a (bit_or b c)
 or_of_three a b c = same_from_bits _ _ (λ i. omega (arith, bit_at_or (bit_or a b) c i, bit_at_or a b i, bit_at_or a (bit_or b c) i, bit_at_or b c i))
@@ -71,39 +71,59 @@ pub length_marked : (ns cs : List ℕ) (first step b : ℕ) → length (marked f
 length_marked [] cs first step b = refl
 length_marked (n ∷ ns) cs first step b = length_marked ns (or_at cs (first + n * step) b) first step b ∙ length_or cs (first + n * step) b
 
+pub length_all : (ms cs : List ℕ) (first : ℕ) → length (all_marked first ms cs) ≡ length cs
+length_all [] cs first = refl
+length_all (m ∷ ms) cs first = length_all ms (or_at cs first m) (first + 1) ∙ length_or cs first m
+
 -- cells of one row, and of one column
 module _ (w place most : ℕ) (cs : List ℕ) (reach : Reaches w cs place most) where
-  pub in_row : (n : ℕ) → n ≤ most → place * w + n * 1 < length cs
+  pub in_row : (n : ℕ) → n ≤ most → place * w + n < length cs
   in_row n low = let there = mul-add-lt place w n w reach.0 (omega (arith, low, reach.1)) in omega (arith, there, reach.2)
 
-  pub in_column : (n : ℕ) → n ≤ most → place + n * w < length cs
+  pub in_column : (n : ℕ) → n ≤ most → n * w + place < length cs
   in_column n low = let there = mul-add-lt n w place w (omega (arith, low, reach.1)) reach.0 in omega (arith, there, reach.2)
 
   -- all marks of a row
-  pub marks_fit : (ns marks : List ℕ) → marks ≡ marked 0 1 16 ns (replicate (most + 1) 0) → place * w + length marks ≤ length cs
+  pub marks_fit : (ns marks : List ℕ) → AreMarks ns most marks → place * w + length marks ≤ length cs
   marks_fit ns marks is =
       let long : length marks ≡ most + 1 = ap length is ∙ (length_marked ns (replicate (most + 1) 0) 0 1 16 ∙ length-replicate (most + 1) 0) in
       let there = in_row most (omega arith) in
       omega (arith, long, there)
 
-module _ (most : ℕ) (ns : List ℕ) (low : (k : ℕ) → get_or ns k 0 ≤ most) where
-  pub low_ahead : (c k : ℕ) → get_or (take c ns) k 0 ≤ most
-  low_ahead c k =
+-- what is so of each number of a list, and beyond it of 0, is so in parts of it
+module _ (P : ℕ → Type 0) (ns : List ℕ) (all : (k : ℕ) → P (get_or ns k 0)) where
+  pub each_taken : (c k : ℕ) → P (get_or (take c ns) k 0)
+  each_taken c k =
       elim (cases_lt k c) [
-        | inl before ↦ subst (λ n. n ≤ most) (sym (get_or-take c ns k 0 before)) (low k)
+        | inl before ↦ subst P (sym (get_or-take c ns k 0 before)) (all k)
         | inr behind ↦
             let long = length-take c ns in
             let least = min-le_left c (length ns) in
             let none : get_or (take c ns) k 0 ≡ 0 = get_or_past (take c ns) k 0 (omega (arith, long, least, behind)) in
-            omega (arith, none)
+            let beyond : get_or ns (length ns) 0 ≡ 0 = get_or_past ns (length ns) 0 (omega arith) in
+            subst P (beyond ∙ sym none) (all (length ns))
       ]
 
-  pub low_behind : (c k : ℕ) → get_or (drop c ns) k 0 ≤ most
-  low_behind c k = subst (λ n. n ≤ most) (sym (get_or-drop c ns k 0)) (low (c + k))
+  pub each_dropped : (c k : ℕ) → P (get_or (drop c ns) k 0)
+  each_dropped c k = subst P (sym (get_or-drop c ns k 0)) (all (c + k))
 
 -- where a reader sees the row as it was at first, all marks are those of the turns
-pub first_marked : (w reader most : ℕ) (ns marks cs : List ℕ) → ((k : ℕ) → get_or ns k 0 ≤ most) → marks ≡ marked 0 1 16 ns (replicate (most + 1) 0) → all_marked (reader * w) marks cs ≡ turns_marked w reader 0 ns cs
+pub first_marked : (w reader most : ℕ) (ns marks cs : List ℕ) → ((k : ℕ) → get_or ns k 0 ≤ most) → AreMarks ns most marks → all_marked (reader * w) marks cs ≡ turns_marked w reader 0 ns cs
 first_marked w reader most ns marks cs low is =
     let long : length (replicate (most + 1) 0) ≡ most + 1 = length-replicate (most + 1) 0 in
     ap (λ ms. all_marked (reader * w) ms cs) is
     ∙ (all_of_marked ns (replicate (most + 1) 0) cs (reader * w) 16 (λ k. omega (arith, low k, long)) ∙ ap (marked (reader * w) 1 16 ns) (all_of_none (most + 1) cs (reader * w)))
+
+zero_set : (cs : List ℕ) (at : ℕ) → get_or (set cs at 0) at 0 ≡ 0
+zero_set [] zero = refl
+zero_set [] (suc at) = refl
+zero_set (c ∷ cs) zero = refl
+zero_set (c ∷ cs) (suc at) = zero_set cs at
+
+-- a cell is empty where it was, or is the one that is cleared
+pub cleared : (cs : List ℕ) (at k : ℕ) → (k ≢ at → get_or cs k 0 ≡ 0) → get_or (set cs at 0) k 0 ≡ 0
+cleared cs at k before =
+    elim (cases_eq k at) [
+      | inl same ↦ ap (λ n. get_or (set cs at 0) n 0) same ∙ zero_set cs at
+      | inr other ↦ get_or-set_other cs at k 0 0 other ∙ before other
+    ]

@@ -1,9 +1,18 @@
 -- Numbers of states tell what a test answers.
-use Rattle.std.proofs.{Common.{◌≡◌, ◌≤◌, ◌<◌, ℕ, Bool, true, false, Some, None, List, [], ◌∷◌, ◌++◌, length, map, get_or, refl, sym, ap, ◌∙◌, append_assoc, arith}, lemmas.{Bool.{false≢true}, List.{length-map, map-append, get_or-map, get_or_past}}}
-use Rattle.std.specs.Cmp.{signed_Decides}
-use Rattle.lab_table.specs.Table.{State}
-use Rattle.lab_deps.specs.{Edges.{differ}, Turns.{states, alike, Heeds, asked, classes_of, IsNumber, AreNumbers}, declared.versions.Version.{Version}}
+use Rattle.std.{proofs.{Common.{◌≡◌, ◌≤◌, ◌<◌, ℕ, Bool, true, false, Some, None, List, [], ◌∷◌, ◌++◌, length, map, get_or, refl, sym, ap, ◌∙◌, subst, append_assoc, arith, inl, inr}, lemmas.{Bool.{false≢true, or_parts}, List.{length-map, map-append, get_or-map, get_or_past, Elements.{Contains-append_cases}}}}, specs.{Prelude.{Contains}, List.{list_any}, Cmp.{signed_Decides}}}
+use Rattle.lab_table.{specs.Table.{State}, proofs.Members.{no_member, only_member}}
+use Rattle.lab_deps.specs.{Edges.{differ}, Turns.{states, alike, Heeds, asked, classes_of, IsNumber, AreNumbers, AreTurns, AreKept}, declared.{kept.Kept.{Kept}, versions.Version.{Version}}}
 use Rattle.lab_deps.proofs.AtTurns.{no_difference}
+
+-- of classes none of which is true each is false
+pub none_true : (cs : List Bool) → list_any (λ c. c) cs ≡ false → (c : Bool) → Contains cs c → c ≡ false
+none_true [] none c there = absurd (no_member c there)
+none_true (b ∷ cs) none c there =
+    let parts = or_parts b (list_any (λ c. c) cs) none in
+    elim (Contains-append_cases (b ∷ []) cs c there) [
+      | inl here ↦ sym (only_member b c here) ∙ parts.0
+      | inr later ↦ none_true cs parts.1 c later
+    ]
 
 -- a test answers the same for states that are alike
 alike_heeded : (f : State → Bool) (exact : Bool) → Heeds exact f → (x y : State) → alike exact x y ≡ true → f x ≡ f y
@@ -38,3 +47,18 @@ module _ (exact : Bool) (before : State) (others : List State) where
       let answers = asked f before others in
       ap (λ cs. cs ++ asked f before (states vs)) (map-append (λ k. get_or answers k false) numbers (g ∷ []))
       ∙ (append_assoc (classes_of answers numbers) (get_or answers g false ∷ []) (asked f before (states vs)) ∙ (ap (λ b. classes_of answers numbers ++ b ∷ asked f before (states vs)) (is f heeds) ∙ so_far))
+
+  -- one more is kept, of which the turns are those of its answers
+  pub kept_more : (vs : List Version) (numbers : List ℕ) (classes : List Bool) (kept : List Kept) (new : Kept) → classes ≡ classes_of new.answers.items numbers → AreTurns false classes vs new.turns
+      → AreNumbers exact before others vs numbers → AreKept exact before others vs kept → AreKept exact before others vs (kept ++ new ∷ [])
+  kept_more vs numbers classes kept new made turns are so_far item there f heeds is =
+      elim (Contains-append_cases kept (new ∷ []) item there) [
+        | inl old ↦ so_far item old f heeds is
+        | inr now ↦
+            let same : new ≡ item = only_member new item now in
+            let due : classes ≡ asked f before (states vs) = made ∙ (ap (λ (k : Kept). classes_of k.answers.items numbers) same ∙ (ap (λ bs. classes_of bs numbers) (sym is) ∙ are f heeds)) in
+            subst (λ cs. AreTurns false cs vs item.turns) due (subst (λ (k : Kept). AreTurns false classes vs k.turns) same turns)
+      ]
+
+  pub none_kept : (vs : List Version) → AreKept exact before others vs []
+  none_kept vs item there = absurd (no_member item there)

@@ -1,5 +1,5 @@
 -- The versions at which a row turns from one of two classes to the other, by what a statement answers.
-use Rattle.std.specs.Prelude.{◌≡◌, ◌⊎◌, ◌≤◌, ◌+◌, ◌-◌, ◌++◌, ℕ, ℤ, zero, suc, Bool, false, not, cond, Option, Some, None, is_some, List, [], ◌∷◌, map, get_or, slice_get, replicate, Contains}
+use Rattle.std.specs.Prelude.{◌≡◌, ◌⊎◌, ◌≤◌, ◌+◌, ◌-◌, ◌++◌, ℕ, ℤ, zero, suc, Bool, false, not, cond, Option, Some, None, is_some, List, [], ◌∷◌, map, get_or, slice_get, replicate, Contains, IfSome}
 use Rattle.lab_table.specs.Row.{Row}
 use Rattle.lab_table.specs.Table.{State}
 use Rattle.lab_table.specs.Statement.{matches}
@@ -68,15 +68,19 @@ turned before [] vs = []
 turned before (c ∷ cs) [] = []
 turned before (c ∷ cs) (v ∷ vs) = cond (differ before c) v.place 0 ∷ turned c cs vs
 
--- there are marks for the places up to one that are among some, or none at all
+-- they are these, or none where all are of the class before
+abbrev pub AreInstallers : Bool → List Bool → List Version → List ℕ → Type 0
+AreInstallers before classes vs installers = (installers ≡ turned before classes vs) ⊎ ((installers ≡ []) × ((c : Bool) → Contains classes c → c ≡ before))
+
+-- the marks of the places up to one that are among some
 abbrev pub AreMarks : List ℕ → ℕ → List ℕ → Type 0
-AreMarks places most marks = (marks ≡ []) ⊎ (marks ≡ marked 0 1 16 places (replicate (most + 1) 0))
+AreMarks places most marks = marks ≡ marked 0 1 16 places (replicate (most + 1) 0)
 
 -- where versions of these classes turn
 pub record AreTurns (before : Bool) (classes : List Bool) (vs : List Version) (t : Turns) : Type 0 where
-  pub installers : (t.installers.items ≡ turned before classes vs) ⊎ ((t.installers.items ≡ []) × ((c : Bool) → Contains classes c → c ≡ before))
+  pub installers : AreInstallers before classes vs t.installers.items
   pub most : (k : ℕ) → get_or t.installers.items k 0 ≤ t.most
-  pub marks : AreMarks t.installers.items t.most t.marks.items
+  pub marks : IfSome t.marks (λ row. AreMarks t.installers.items t.most row.items)
 
 -- where a row turns by a test, against what it answers at first
 abbrev pub TurnsBy : (State → Bool) → State → List Version → Turns → Type 0

@@ -43,10 +43,9 @@ pub fn arrows_of(
     ensures { IfOk result (λ arrows. (from to : ℕ) (kind : Way) →
         has_bit (bits_of arrows.places.items arrows.width arrows.cells.items from to) kind ≡ true ↔ ((row : Row) × Contains (edges_in scope history.now) (edge_of from to kind row))) }
 {
-    let mut gatherer = Gatherer {
-        arrows: Arrows::none(alloc, history)?,
-        answers: Vec::new(alloc),
-    };
+    let arrows = Arrows::none(alloc, history)?;
+    let answers = Vec::new(alloc);
+    let mut gatherer = Gatherer { arrows, answers };
     add_edges(&mut gatherer, history, scope, rows)?;
     let mut arrows = gatherer.arrows;
     arrows.clear_own();
@@ -71,14 +70,27 @@ impl RowSink for Gatherer {
         versions: &Versions,
     ) -> Result<(), NoMemory> {
         reading.add_items(self, versions.as_slice())?;
+        self.take_changes(statement, reading, versions)
+    }
+}
+
+impl Gatherer {
+    /// Takes all that a reader has to do with a row's versions by their changing what matches its statement.
+    fn take_changes(
+        &mut self,
+        statement: &Statement,
+        reading: Reading,
+        versions: &Versions,
+    ) -> Result<(), NoMemory>
+        ensures { OnOk result (Grows (where_fits (FitsVersions versions.now.items) (λ g made es. Tells g.arrows.places.items g.arrows.width g.arrows.cells.items made es)) self.old self.new
+            (changes_along statement.now reading (matches statement.now reading.row versions.now.before) 0 versions.now.items)) }
+    {
         match versions.turns(&mut self.answers, statement, reading.row)? {
             None => reading.add_changes(self, statement, versions),
             Some(kept) => self.take_turns(statement, reading, versions, &kept.turns),
         }
     }
-}
 
-impl Gatherer {
     /// Takes all that a reader has to do with the versions at which a row turns.
     fn take_turns(
         &mut self,

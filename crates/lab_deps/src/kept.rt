@@ -32,26 +32,22 @@ pub fn kept_of(
     ensures { IfOk result (λ kept. AreKept values.now.exact before.now values.now.others.items versions.now kept.items) }
 {
     let mut kept = Vec::new(alloc);
-    if versions.len() < FEWEST {
-        return Ok(kept);
-    }
     let Some(numbers) = values.numbers(alloc, before, versions)? else {
         return Ok(kept);
     };
     for index in 0..values.ways() {
         let answers = values.way(alloc, before, index)?;
-        if kept.len() < most && kept_by(&kept, &answers).is_none() {
-            keep(alloc, &mut kept, versions, &numbers, answers)?;
-        }
+        keep(alloc, &mut kept, most, versions, &numbers, answers)?;
     }
     Ok(kept)
 }
 
-/// Keeps where a row turns whose versions have these numbers, by an answer for each. NoMemory where an allocation was
-/// refused.
+/// Keeps where a row turns whose versions have these numbers, by an answer for each, if it isn't kept yet and there is
+/// room. NoMemory where an allocation was refused.
 fn keep(
     alloc: Global,
     kept: &mut Vec<Kept>,
+    most: usize,
     versions: &[Version],
     numbers: &[usize],
     answers: Vec<bool>,
@@ -60,6 +56,12 @@ fn keep(
     ensures { OnOk result ((exact : Bool) (before : State) (others : List State) → AreNumbers exact before others versions.now numbers.now
         → AreKept exact before others versions.now kept.old.items → AreKept exact before others versions.now kept.new.items) }
 {
+    if kept.len() >= most {
+        return Ok(());
+    }
+    if kept_by(kept, &answers).is_some() {
+        return Ok(());
+    }
     let classes = classes_of(alloc, &answers, numbers)?;
     let turns = Turns::of(alloc, versions, &classes)?;
     kept.push(Kept { answers, turns })?;

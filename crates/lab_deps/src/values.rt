@@ -1,8 +1,9 @@
 //! The values of a row, each once, and what a statement answers for each.
 
-ghost use Rattle.std.specs.Prelude.{◌≡◌, OnOk, IfOk, IfSome};
+ghost use Rattle.std.specs.Prelude.{◌≡◌, true, OnOk, IfOk, IfSome};
+ghost use Rattle.lab_table.specs.Row.{Row};
 ghost use Rattle.lab_table.specs.Statement.{matches};
-ghost use Rattle.lab_deps.specs.Turns.{alike, asked, IsNumber, AreNumbers};
+ghost use Rattle.lab_deps.specs.Turns.{alike, asked, Heeds, IsNumber, AreNumbers};
 
 use crate::effect::is_same;
 use crate::kept::FEWEST;
@@ -71,6 +72,16 @@ impl Values {
         Ok(Some(numbers))
     }
 
+    /// Whether a statement answers the same for all values that aren't told apart.
+    pub fn suit(&self, statement: &Statement) -> bool
+        ensures { result ≡ true → (row : Row) → Heeds self.now.exact (matches statement.now row) }
+    {
+        if self.exact {
+            return true;
+        }
+        !statement.tests_values()
+    }
+
     /// Asks a statement whether it takes each value otherwise than the first one, which is given. NoMemory where an
     /// allocation was refused.
     pub fn ask(
@@ -107,9 +118,13 @@ impl Values {
         Ok(answers)
     }
 
-    /// How many ways there are.
+    /// How many ways there are; none where no values are told apart.
     pub fn ways(&self) -> usize {
-        2 * self.others.len() + 2
+        if self.others.is_empty() {
+            0
+        } else {
+            2 * self.others.len() + 2
+        }
     }
 }
 
@@ -125,9 +140,12 @@ fn number_of(
     if are_alike(exact, *before, *value) {
         return Some(others.len());
     }
-    others
-        .iter()
-        .position(|other| are_alike(exact, *other, *value))
+    for (place, other) in others.iter().enumerate() {
+        if are_alike(exact, *other, *value) {
+            return Some(place);
+        }
+    }
+    None
 }
 
 /// Whether two values are the same, or, where these don't matter, both absent or both there.
