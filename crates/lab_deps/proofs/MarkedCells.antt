@@ -58,7 +58,8 @@ pub all_of_marked : (ns ms cs : List ℕ) (first b : ℕ) → ((k : ℕ) → get
 all_of_marked [] ms cs first b below = refl
 all_of_marked (n ∷ ns) ms cs first b below =
     let at : first + (0 + n * 1) ≡ first + n * 1 = omega arith in
-    let within : 0 + n * 1 < length ms = omega (arith, below 0) in
+    let low : n < length ms = below 0 in
+    let within : 0 + n * 1 < length ms = omega (arith, low) in
     all_of_marked ns (or_at ms (0 + n * 1) b) cs first b (λ k. subst (λ l. get_or ns k 0 < l) (sym (length_or ms (0 + n * 1) b)) (below (suc k)))
     ∙ ap (marked first 1 b ns) (all_gained ms cs first (0 + n * 1) b within ∙ ap (λ k. or_at (all_marked first ms cs) k b) at)
 

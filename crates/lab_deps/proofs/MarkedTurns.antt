@@ -3,17 +3,7 @@ use Rattle.std.{proofs.{Common.{◌≡◌, ◌≢◌, ◌≤◌, ◌<◌, ◌+�
 use Rattle.lab_table.{specs.{Statement.{matches}, Table.{State}, declared.statement.Statement.{Statement}}, proofs.Members.{first_member, later_member}}
 use Rattle.lab_deps.specs.{Collected.{apart, read_by, passed_by}, Edges.{differ}, EdgesByRow.{Chain, change_by, changes_along}, KindBits.{bit, place, cell_at, Tells}, Marks.{or_at, marked, turns_marked}, Numbering.{FitsVersions}, Turns.{states, turned, TurnsFor}}
 use Rattle.lab_deps.specs.declared.{edge.{Edge.{Edge}, Kind.{Kind, TheVariants.{PredicateRead, PredicateAnti}}}, reading.Reading.{Reading}, turns.Turns.{Turns}, versions.Version.{Version}}
-use Rattle.lab_deps.proofs.{AtTurns.{no_difference}, MarkedCells.{or_set}, ToldKinds.{told_apart, told_off}}
-
-pub differ_alike : (a x y : Bool) → differ (differ a x) (differ a y) ≡ differ x y
-differ_alike true true true = refl
-differ_alike true true false = refl
-differ_alike true false true = refl
-differ_alike true false false = refl
-differ_alike false true true = refl
-differ_alike false true false = refl
-differ_alike false false true = refl
-differ_alike false false false = refl
+use Rattle.lab_deps.proofs.{MarkedCells.{or_set}, NumberedStates.{no_difference, differ_alike}, ToldKinds.{told_apart, told_off}}
 
 -- a cell is marked by a version, of which it stands for the edge if the row turns there, else for nothing
 module _ (ps : List ℕ) (w : ℕ) (made : List ℕ) (edge : ℕ → Edge) (kind : Kind) (of_kind : (n : ℕ) → (edge n).kind ≡ kind) (first step : ℕ)
@@ -46,7 +36,8 @@ module _ (ps : List ℕ) (w : ℕ) (made : List ℕ) (s : Statement) (r : Readin
       told_one ps w made (passed_by PredicateAnti r) PredicateAnti (λ n. refl) (reader * w) 1 (λ n p fit. let once : p ≡ p * 1 = omega arith in ap (λ q. reader * w + q) (fit ∙ once))
       (λ below from to a b same.
       let none : reader * w + 0 * 1 ≡ reader * w + 0 = omega arith in
-      b (same_from_place (place ps from) (place ps to) reader 0 w (below to) (omega (arith, below to)) (same ∙ none)).1)
+      let places = same_from_place (place ps from) (place ps to) reader 0 w (below to) (omega (arith, below to)) (same ∙ none) in
+      b places.1)
 
   read_one : (turns : Bool) (v : Version) → place ps v.installer ≡ v.place → (cs : List ℕ) (es : List Edge) → Tells ps w cs made es
       → Tells ps w (or_at cs (reader + cond turns v.place 0 * w) 4) made (es ++ cond turns (apart (read_by PredicateRead r v.installer)) [])
@@ -54,7 +45,8 @@ module _ (ps : List ℕ) (w : ℕ) (made : List ℕ) (s : Statement) (r : Readin
       told_one ps w made (read_by PredicateRead r) PredicateRead (λ n. refl) reader w (λ n p fit. let turned : p * w + reader ≡ reader + p * w = omega arith in ap (λ q. q * w + reader) fit ∙ turned)
       (λ below from to a b same.
       let none : reader + 0 * w ≡ 0 * w + reader = omega arith in
-      a (same_from_place (place ps from) (place ps to) 0 reader w (below to) (below r.txn) (same ∙ none)).0)
+      let places = same_from_place (place ps from) (place ps to) 0 reader w (below to) (below r.txn) (same ∙ none) in
+      a places.0)
 
   module _ (a : Bool) where
     -- the classes of versions, and where they turn

@@ -2,7 +2,22 @@
 use Rattle.std.{proofs.{Common.{◌≡◌, ◌≤◌, ◌<◌, ℕ, Bool, true, false, Some, None, List, [], ◌∷◌, ◌++◌, length, map, get_or, refl, sym, ap, ◌∙◌, subst, append_assoc, arith, inl, inr}, lemmas.{Bool.{false≢true, or_parts}, List.{length-map, map-append, get_or-map, get_or_past, Elements.{Contains-append_cases}}}}, specs.{Prelude.{Contains}, List.{list_any}, Cmp.{signed_Decides}}}
 use Rattle.lab_table.{specs.Table.{State}, proofs.Members.{no_member, only_member}}
 use Rattle.lab_deps.specs.{Edges.{differ}, Turns.{states, alike, Heeds, asked, classes_of, IsNumber, AreNumbers, AreTurns, AreKept}, declared.{kept.Kept.{Kept}, versions.Version.{Version}}}
-use Rattle.lab_deps.proofs.AtTurns.{no_difference}
+
+pub no_difference : (a b : Bool) → a ≡ b → differ a b ≡ false
+no_difference true true same = refl
+no_difference false false same = refl
+no_difference true false same = absurd (false≢true (sym same))
+no_difference false true same = absurd (false≢true same)
+
+pub differ_alike : (a x y : Bool) → differ (differ a x) (differ a y) ≡ differ x y
+differ_alike true true true = refl
+differ_alike true true false = refl
+differ_alike true false true = refl
+differ_alike true false false = refl
+differ_alike false true true = refl
+differ_alike false true false = refl
+differ_alike false false true = refl
+differ_alike false false false = refl
 
 -- of classes none of which is true each is false
 pub none_true : (cs : List Bool) → list_any (λ c. c) cs ≡ false → (c : Bool) → Contains cs c → c ≡ false
@@ -38,7 +53,7 @@ module _ (exact : Bool) (before : State) (others : List State) where
   pub as_many : (vs : List Version) (numbers : List ℕ) → AreNumbers exact before others vs numbers → length numbers ≡ length vs
   as_many vs numbers are =
       let none : State → Bool = λ _. false in
-      sym (length-map numbers (λ g. get_or (asked none before others) g false)) ∙ (ap length (are none (λ _ _ _. refl)) ∙ (length-map (states vs) (λ y. differ false false) ∙ length-map vs (λ v. v.value)))
+      sym (length-map numbers (λ g. get_or (asked none before others) g false)) ∙ (ap length (are none (λ _ _ _. refl)) ∙ (length-map (states vs) (λ y. differ false false) ∙ length-map vs (λ (v : Version). v.value)))
 
   -- the classes so far, and of the versions that are left
   pub numbered_next : (numbers : List ℕ) (g : ℕ) (v : Version) (vs : List Version) (all : List Bool) (f : State → Bool) → Heeds exact f → IsNumber exact before others v.value g

@@ -1,5 +1,5 @@
 -- The versions at which a row turns from one of two classes to the other, by what a statement answers.
-use Rattle.std.specs.Prelude.{◌≡◌, ◌⊎◌, ◌≤◌, ◌+◌, ◌-◌, ◌++◌, ℕ, ℤ, zero, suc, Bool, false, not, cond, Option, Some, None, is_some, List, [], ◌∷◌, map, get_or, slice_get, replicate, Contains, IfSome}
+use Rattle.std.specs.Prelude.{◌≡◌, ◌⊎◌, ◌≤◌, ◌+◌, ◌-◌, ◌++◌, ℕ, ℤ, Bool, false, not, cond, Option, Some, None, is_some, List, [], ◌∷◌, map, get_or, slice_get, replicate, Contains, IfSome}
 use Rattle.lab_table.specs.Row.{Row}
 use Rattle.lab_table.specs.Table.{State}
 use Rattle.lab_table.specs.Statement.{matches}
@@ -14,16 +14,6 @@ use Rattle.lab_deps.specs.declared.kept.Kept.{Kept}
 use Rattle.lab_deps.specs.declared.reading.Reading.{Reading}
 use Rattle.lab_deps.specs.declared.turns.Turns.{Turns}
 use Rattle.lab_deps.specs.declared.versions.Version.{Version}
-
--- the state that a version left; absent where there is no version
-abbrev pub state_in : Option Version → State
-state_in None = None
-state_in (Some v) = v.value
-
--- the state before the version at a place
-abbrev pub state_before : Chain → ℕ → State
-state_before c zero = c.before
-state_before c (suc p) = state_in (slice_get c.items p)
 
 -- what a reader of a listed row has to do with a version that there may be
 abbrev pub item_in : Reading → ℕ → Option Version → List Edge
