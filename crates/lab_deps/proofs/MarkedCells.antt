@@ -72,16 +72,15 @@ pub length_marked : (ns cs : List ℕ) (first step b : ℕ) → length (marked f
 length_marked [] cs first step b = refl
 length_marked (n ∷ ns) cs first step b = length_marked ns (or_at cs (first + n * step) b) first step b ∙ length_or cs (first + n * step) b
 
-pub length_all : (ms cs : List ℕ) (first : ℕ) → length (all_marked first ms cs) ≡ length cs
-length_all [] cs first = refl
-length_all (m ∷ ms) cs first = length_all ms (or_at cs first m) (first + 1) ∙ length_or cs first m
+pub length_turns : (w reader place : ℕ) (ns cs : List ℕ) → length (turns_marked w reader place ns cs) ≡ length cs
+length_turns w reader place ns cs = length_marked (drop place ns) (marked reader w 4 (take place ns) cs) (reader * w) 1 16 ∙ length_marked (take place ns) cs reader w 4
 
 -- cells of one row, and of one column
 module _ (w place most : ℕ) (cs : List ℕ) (reach : Reaches w cs place most) where
-  pub in_row : (n : ℕ) → n ≤ most → place * w + n < length cs
+  pub in_row : (n : ℕ) → n ≤ most → place * w + n * 1 < length cs
   in_row n low = let there = mul-add-lt place w n w reach.0 (omega (arith, low, reach.1)) in omega (arith, there, reach.2)
 
-  pub in_column : (n : ℕ) → n ≤ most → n * w + place < length cs
+  pub in_column : (n : ℕ) → n ≤ most → place + n * w < length cs
   in_column n low = let there = mul-add-lt n w place w (omega (arith, low, reach.1)) reach.0 in omega (arith, there, reach.2)
 
   -- all marks of a row

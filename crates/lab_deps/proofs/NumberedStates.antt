@@ -1,5 +1,5 @@
 -- Numbers of states tell what a test answers.
-use Rattle.std.{proofs.{Common.{◌≡◌, ◌≤◌, ◌<◌, ℕ, Bool, true, false, Some, None, List, [], ◌∷◌, ◌++◌, length, map, get_or, refl, sym, ap, ◌∙◌, subst, append_assoc, arith, inl, inr}, lemmas.{Bool.{false≢true, or_parts}, List.{length-map, map-append, get_or-map, get_or_past, Elements.{Contains-append_cases}}}}, specs.{Prelude.{Contains}, List.{list_any}, Cmp.{signed_Decides}}}
+use Rattle.std.{proofs.{Common.{◌≡◌, ◌≤◌, ◌<◌, ℕ, zero, suc, Bool, true, false, Some, None, List, [], ◌∷◌, ◌++◌, length, map, get_or, refl, sym, ap, ◌∙◌, subst, append_assoc, arith, inl, inr}, lemmas.{Bool.{false≢true, or_parts}, List.{length-map, map-append, get_or-map, get_or_past, Elements.{Contains-append_cases}}}}, specs.{Prelude.{Contains}, List.{list_any}, Cmp.{signed_Decides}}}
 use Rattle.lab_table.{specs.Table.{State}, proofs.Members.{no_member, only_member}}
 use Rattle.lab_deps.specs.{Edges.{differ}, Turns.{states, alike, Heeds, asked, classes_of, IsNumber, AreNumbers, AreTurns, AreKept}, declared.{kept.Kept.{Kept}, versions.Version.{Version}}}
 
@@ -19,15 +19,19 @@ differ_alike false true false = refl
 differ_alike false false true = refl
 differ_alike false false false = refl
 
--- of classes none of which is true each is false
-pub none_true : (cs : List Bool) → list_any (λ c. c) cs ≡ false → (c : Bool) → Contains cs c → c ≡ false
-none_true [] none c there = absurd (no_member c there)
-none_true (b ∷ cs) none c there =
-    let parts = or_parts b (list_any (λ c. c) cs) none in
-    elim (Contains-append_cases (b ∷ []) cs c there) [
-      | inl here ↦ sym (only_member b c here) ∙ parts.0
-      | inr later ↦ none_true cs parts.1 c later
+-- where no answer is true, all classes are false
+pub none_true : (answers : List Bool) → list_any (λ b. b) answers ≡ false → (numbers : List ℕ) (c : Bool) → Contains (classes_of answers numbers) c → c ≡ false
+none_true answers none [] c there = absurd (no_member c there)
+none_true answers none (g ∷ numbers) c there =
+    elim (Contains-append_cases (get_or answers g false ∷ []) (classes_of answers numbers) c there) [
+      | inl here ↦ sym (only_member (get_or answers g false) c here) ∙ each answers none g
+      | inr later ↦ none_true answers none numbers c later
     ]
+  where
+    each : (answers : List Bool) → list_any (λ b. b) answers ≡ false → (g : ℕ) → get_or answers g false ≡ false
+    each [] none g = get_or_past [] g false (omega arith)
+    each (b ∷ bs) none zero = let parts = or_parts b (list_any (λ b. b) bs) none in parts.0
+    each (b ∷ bs) none (suc g) = (let parts = or_parts b (list_any (λ b. b) bs) none in each bs parts.1 g)
 
 -- a test answers the same for states that are alike
 alike_heeded : (f : State → Bool) (exact : Bool) → Heeds exact f → (x y : State) → alike exact x y ≡ true → f x ≡ f y
@@ -64,15 +68,13 @@ module _ (exact : Bool) (before : State) (others : List State) where
       ∙ (append_assoc (classes_of answers numbers) (get_or answers g false ∷ []) (asked f before (states vs)) ∙ (ap (λ b. classes_of answers numbers ++ b ∷ asked f before (states vs)) (is f heeds) ∙ so_far))
 
   -- one more is kept, of which the turns are those of its answers
-  pub kept_more : (vs : List Version) (numbers : List ℕ) (classes : List Bool) (kept : List Kept) (new : Kept) → classes ≡ classes_of new.answers.items numbers → AreTurns false classes vs new.turns
+  pub kept_more : (vs : List Version) (numbers : List ℕ) (kept : List Kept) (new : Kept) → AreTurns false (classes_of new.answers.items numbers) vs new.turns
       → AreNumbers exact before others vs numbers → AreKept exact before others vs kept → AreKept exact before others vs (kept ++ new ∷ [])
-  kept_more vs numbers classes kept new made turns are so_far item there f heeds is =
+  kept_more vs numbers kept new turns are so_far item there f heeds is =
       elim (Contains-append_cases kept (new ∷ []) item there) [
         | inl old ↦ so_far item old f heeds is
-        | inr now ↦
-            let same : new ≡ item = only_member new item now in
-            let due : classes ≡ asked f before (states vs) = made ∙ (ap (λ (k : Kept). classes_of k.answers.items numbers) same ∙ (ap (λ bs. classes_of bs numbers) (sym is) ∙ are f heeds)) in
-            subst (λ cs. AreTurns false cs vs item.turns) due (subst (λ (k : Kept). AreTurns false classes vs k.turns) same turns)
+        | inr now ↦ subst (λ cs. AreTurns false cs vs item.turns) (ap (λ bs. classes_of bs numbers) (sym is) ∙ are f heeds)
+            (subst (λ (k : Kept). AreTurns false (classes_of k.answers.items numbers) vs k.turns) (only_member new item now) turns)
       ]
 
   pub none_kept : (vs : List Version) → AreKept exact before others vs []

@@ -1,9 +1,9 @@
 //! Which kinds of dependencies there are between the transactions of a history.
 
-ghost use Rattle.std.specs.Prelude.{◌≡◌, ◌≢◌, ◌≤◌, ◌<◌, ◌+◌, ◌*◌, ◌++◌, ◌∷◌, [], true, ℕ, List, length, get_or, set, bit_or, Contains, IfOk, IfSome};
+ghost use Rattle.std.specs.Prelude.{◌≡◌, ◌≢◌, ◌≤◌, ◌<◌, ◌+◌, ◌*◌, ◌++◌, ◌∷◌, [], true, ℕ, List, get_or, set, bit_or, Contains, IfOk, IfSome};
 ghost use Rattle.lab_history.specs.declared.transaction.Txn.{Txn as Transaction};
 ghost use Rattle.lab_deps.specs.KindBits.{bit, has_bit, place, bits_at, bits_of, Tells};
-ghost use Rattle.lab_deps.specs.Marks.{Reaches, all_marked, turns_marked};
+ghost use Rattle.lab_deps.specs.Marks.{Reaches, turns_marked};
 ghost use Rattle.lab_deps.specs.Numbering.{HasPlaces};
 ghost use Rattle.lab_deps.specs.Turns.{AreMarks};
 ghost use Rattle.lab_deps.specs.declared.edge.Edge.{Edge as Spelled};
@@ -11,7 +11,7 @@ ghost use Rattle.lab_deps.specs.declared.edge.Edge.{Edge as Spelled};
 mod row;
 
 use crate::edge::{Edge, Kind};
-use crate::turns::{Turns, mark_all, mark_column, mark_row};
+use crate::turns::Turns;
 use crate::txn_places::{place_in, places_of};
 use lab_history::History;
 use lab_table::{NoMemory, TxnNo};
@@ -114,8 +114,7 @@ impl Arrows {
         place < self.width && (most < self.width && self.cells.len() == width * width)
     }
 
-    /// Sets the bits between a reader of the version at a place of a row, counted from 0, and those at whose versions it
-    /// turns: of a predicate-read where these are before the place, of an anti-dependency behind it.
+    /// Sets the bits between a reader of the version at a place of a row and the installers of those at which it turns.
     pub fn mark_turns(&mut self, turns: &Turns, reader: u16, place: usize)
         requires reach { Reaches self.old.width self.old.cells.items reader turns.now.most }
         requires most { (k : ℕ) → get_or turns.now.installers.items k 0 ≤ turns.now.most }
@@ -124,35 +123,8 @@ impl Arrows {
         ensures width { self.new.width ≡ self.old.width }
         ensures cells { self.new.cells.items ≡ turns_marked self.old.width reader place turns.now.installers.items self.old.cells.items }
     {
-        match turns.marks_for(place) {
-            None => self.mark_beside(&turns.installers, reader, place),
-            Some(marks) => self.mark_behind(marks, reader),
-        }
-    }
-
-    /// The same one by one.
-    fn mark_beside(&mut self, installers: &[u16], reader: u16, place: usize)
-        requires row { (k : ℕ) → reader * self.old.width + get_or installers.now k 0 < length self.old.cells.items }
-        requires column { (k : ℕ) → get_or installers.now k 0 * self.old.width + reader < length self.old.cells.items }
-        ensures places { self.new.places.items ≡ self.old.places.items }
-        ensures width { self.new.width ≡ self.old.width }
-        ensures cells { self.new.cells.items ≡ turns_marked self.old.width reader place installers.now self.old.cells.items }
-    {
         let width = self.width;
-        let (ahead, behind) = installers.split_at(place.min(installers.len()));
-        mark_column(&mut self.cells, width, reader, ahead);
-        mark_row(&mut self.cells, width, reader, behind);
-    }
-
-    /// Sets the bits of marks between a reader and those of whom it sees no version.
-    fn mark_behind(&mut self, marks: &[u8], reader: u16)
-        requires { reader * self.old.width + length marks.now ≤ length self.old.cells.items }
-        ensures places { self.new.places.items ≡ self.old.places.items }
-        ensures width { self.new.width ≡ self.old.width }
-        ensures cells { self.new.cells.items ≡ all_marked (reader * self.old.width) marks.now self.old.cells.items }
-    {
-        let width = self.width;
-        mark_all(&mut self.cells, width, reader, marks);
+        turns.mark(&mut self.cells, width, reader, place);
     }
 
     /// Takes the bits between each transaction and itself away.

@@ -8,7 +8,6 @@ ghost use Rattle.lab_deps.specs.KindBits.{has_bit, bits_of, edge_of, Tells};
 ghost use Rattle.lab_deps.specs.Numbering.{FitsVersions, where_fits};
 ghost use Rattle.lab_deps.specs.Scopes.{Allows, edges_in};
 ghost use Rattle.lab_deps.specs.Sinks.{Grows};
-ghost use Rattle.lab_deps.specs.Turns.{TurnsFor};
 ghost use Rattle.lab_deps.specs.declared.edge.Kind.{Kind as Way};
 
 use crate::arrows::Arrows;
@@ -17,7 +16,6 @@ use crate::reading::Reading;
 use crate::row_sink::RowSink;
 use crate::scope::{Scope, add_edges};
 use crate::sink::EdgeSink;
-use crate::turns::Turns;
 use crate::versions::Versions;
 use indexmap::IndexMap;
 use lab_history::History;
@@ -87,27 +85,14 @@ impl Gatherer {
     {
         match versions.turns(&mut self.answers, statement, reading.row)? {
             None => reading.add_changes(self, statement, versions),
-            Some(kept) => self.take_turns(statement, reading, versions, &kept.turns),
+            Some(kept) => {
+                let reader = self.arrows.place(reading.txn);
+                if !self.arrows.reaches(reader, kept.turns.most) {
+                    return reading.add_changes(self, statement, versions);
+                }
+                self.arrows.mark_turns(&kept.turns, reader, reading.place);
+                Ok(())
+            }
         }
-    }
-
-    /// Takes all that a reader has to do with the versions at which a row turns.
-    fn take_turns(
-        &mut self,
-        statement: &Statement,
-        reading: Reading,
-        versions: &Versions,
-        turns: &Turns,
-    ) -> Result<(), NoMemory>
-        requires { TurnsFor statement.now reading.row versions.now turns.now }
-        ensures { OnOk result (Grows (where_fits (FitsVersions versions.now.items) (λ g made es. Tells g.arrows.places.items g.arrows.width g.arrows.cells.items made es)) self.old self.new
-            (changes_along statement.now reading (matches statement.now reading.row versions.now.before) 0 versions.now.items)) }
-    {
-        let reader = self.arrows.place(reading.txn);
-        if !self.arrows.reaches(reader, turns.most) {
-            return reading.add_changes(self, statement, versions);
-        }
-        self.arrows.mark_turns(turns, reader, reading.place);
-        Ok(())
     }
 }

@@ -1,8 +1,8 @@
 //! What is kept of where a row turns, for some ways in which a statement may take its values.
 
-ghost use Rattle.std.specs.Prelude.{◌≡◌, Bool, true, false, List, length, get_or, Contains, OnOk, IfOk, IfSome};
+ghost use Rattle.std.specs.Prelude.{◌≡◌, Bool, true, List, length, Contains, OnOk, IfOk, IfSome};
 ghost use Rattle.lab_table.specs.Table.{State};
-ghost use Rattle.lab_deps.specs.Turns.{classes_of, AreNumbers, AreKept};
+ghost use Rattle.lab_deps.specs.Turns.{AreNumbers, AreKept};
 
 use crate::turns::Turns;
 use crate::values::Values;
@@ -62,26 +62,9 @@ fn keep(
     if kept_by(kept, &answers).is_some() {
         return Ok(());
     }
-    let classes = classes_of(alloc, &answers, numbers)?;
-    let turns = Turns::of(alloc, versions, &classes)?;
+    let turns = Turns::of(alloc, versions, numbers, &answers)?;
     kept.push(Kept { answers, turns })?;
     Ok(())
-}
-
-/// The class of each version, by the answer for its number.
-fn classes_of(alloc: Global, answers: &[bool], numbers: &[usize]) -> Result<Vec<bool>, NoMemory>
-    ensures { IfOk result (λ classes. classes.items ≡ classes_of answers.now numbers.now) }
-{
-    numbers
-        .iter()
-        .map(|number| answer_at(answers, *number))
-        .collect(alloc)
-}
-
-fn answer_at(answers: &[bool], number: usize) -> bool
-    ensures { result ≡ get_or answers.now number false }
-{
-    answers.get(number).copied().unwrap_or(false)
 }
 
 /// What is kept by these answers.

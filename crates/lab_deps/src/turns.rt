@@ -2,8 +2,8 @@
 
 ghost use Rattle.std.specs.Prelude.{◌≡◌, ◌<◌, ◌≤◌, ◌+◌, ◌*◌, ℕ, false, cond, length, get_or, set, bit_or, IfOk, IfSome};
 ghost use Rattle.std.specs.List.{list_any};
-ghost use Rattle.lab_deps.specs.Marks.{marked, all_marked};
-ghost use Rattle.lab_deps.specs.Turns.{AreInstallers, AreMarks, AreTurns};
+ghost use Rattle.lab_deps.specs.Marks.{marked, all_marked, turns_marked, Reaches};
+ghost use Rattle.lab_deps.specs.Turns.{classes_of, AreInstallers, AreMarks, AreTurns};
 
 use crate::reading::differ;
 use crate::versions::Version;
@@ -23,13 +23,18 @@ pub struct Turns {
 }
 
 impl Turns {
-    /// Where versions of these classes turn; the state before them is of the class false. NoMemory where an allocation was
-    /// refused.
-    pub fn of(alloc: Global, versions: &[Version], classes: &[bool]) -> Result<Turns, NoMemory>
-        requires { length classes.now ≡ length versions.now }
-        ensures { IfOk result (AreTurns false classes.now versions.now) }
+    /// Where versions with these numbers turn, by an answer for each; it is false for other numbers and for the state before
+    /// them. NoMemory where an allocation was refused.
+    pub fn of(
+        alloc: Global,
+        versions: &[Version],
+        numbers: &[usize],
+        answers: &[bool],
+    ) -> Result<Turns, NoMemory>
+        requires { length numbers.now ≡ length versions.now }
+        ensures { IfOk result (AreTurns false (classes_of answers.now numbers.now) versions.now) }
     {
-        let installers = turned(alloc, versions, classes)?;
+        let installers = turned(alloc, versions, numbers, answers)?;
         let most = greatest(&installers);
         let marks = marks_of(alloc, &installers, most)?;
         Ok(Turns {
@@ -39,8 +44,22 @@ impl Turns {
         })
     }
 
+    /// Sets the bits between a reader of the version at a place, counted from 0, and the installers: of a predicate-read
+    /// where these are before the place, of an anti-dependency behind it. The cells are of rows so wide.
+    pub fn mark(&self, cells: &mut [u8], width: u16, reader: u16, place: usize)
+        requires reach { Reaches width cells.old reader self.now.most }
+        requires most { (k : ℕ) → get_or self.now.installers.items k 0 ≤ self.now.most }
+        requires marks { IfSome self.now.marks (λ row. AreMarks self.now.installers.items self.now.most row.items) }
+        ensures { cells.new ≡ turns_marked width reader place self.now.installers.items cells.old }
+    {
+        match self.marks_for(place) {
+            None => mark_beside(cells, width, reader, place, &self.installers),
+            Some(marks) => mark_all(cells, reader as u32 * width as u32, marks),
+        }
+    }
+
     /// The marks, where a reader sees the version at place 0, the one that the row has at first.
-    pub fn marks_for(&self, place: usize) -> Option<&[u8]>
+    fn marks_for(&self, place: usize) -> Option<&[u8]>
         ensures { IfSome self.now.marks (λ row. AreMarks self.now.installers.items self.now.most row.items)
             → IfSome result (λ row. (place ≡ 0) × AreMarks self.now.installers.items self.now.most row.now) }
     {
@@ -57,19 +76,24 @@ impl Turns {
     }
 }
 
-/// For each version of these classes the place of its installer, or 0 where it is of the class before; none where all are
-/// of the class false. NoMemory where an allocation was refused.
-fn turned(alloc: Global, versions: &[Version], classes: &[bool]) -> Result<Vec<u16>, NoMemory>
-    requires { length classes.now ≡ length versions.now }
-    ensures { IfOk result (λ found. AreInstallers false classes.now versions.now found.items) }
+/// For each version the place of its installer, or 0 where it is of the class before; none where all are of the class
+/// false. NoMemory where an allocation was refused.
+fn turned(
+    alloc: Global,
+    versions: &[Version],
+    numbers: &[usize],
+    answers: &[bool],
+) -> Result<Vec<u16>, NoMemory>
+    requires { length numbers.now ≡ length versions.now }
+    ensures { IfOk result (λ found. AreInstallers false (classes_of answers.now numbers.now) versions.now found.items) }
 {
     let mut found = Vec::new(alloc);
-    if !has_any(classes) {
+    if !has_any(answers) {
         return Ok(found);
     }
     let mut before = false;
     for (place, version) in versions.iter().enumerate() {
-        let after = classes[place];
+        let after = answer_at(answers, numbers[place]);
         found.push(installer_if(version, differ(before, after)))?;
         before = after;
     }
@@ -77,10 +101,16 @@ fn turned(alloc: Global, versions: &[Version], classes: &[bool]) -> Result<Vec<u
 }
 
 /// Whether one of these is true.
-fn has_any(classes: &[bool]) -> bool
-    ensures { result ≡ list_any (λ class. class) classes.now }
+fn has_any(answers: &[bool]) -> bool
+    ensures { result ≡ list_any (λ answer. answer) answers.now }
 {
-    classes.iter().any(|class| *class)
+    answers.iter().any(|answer| *answer)
+}
+
+fn answer_at(answers: &[bool], number: usize) -> bool
+    ensures { result ≡ get_or answers.now number false }
+{
+    answers.get(number).copied().unwrap_or(false)
 }
 
 /// The place of a version's installer, or 0 where it doesn't turn.
@@ -113,7 +143,7 @@ fn marks_of(alloc: Global, installers: &[u16], most: u16) -> Result<Option<Vec<u
         return Ok(None);
     }
     let mut marks = vec![in alloc; 0; most as usize + 1]?;
-    mark_row(&mut marks, 0, 0, installers);
+    mark_each(&mut marks, 0, 1, installers, 16);
     Ok(Some(marks))
 }
 
@@ -122,36 +152,36 @@ fn are_few(installers: &[u16], most: u16) -> bool {
     installers.len() <= most as usize / 8
 }
 
-/// Sets the bit of a predicate-anti-dependency in the cells between a place and these, of rows so wide.
-#[inline(always)]
-pub fn mark_row(cells: &mut [u8], width: u16, place: u16, others: &[u16])
-    requires { (k : ℕ) → place * width + get_or others.now k 0 < length cells.old }
-    ensures { cells.new ≡ marked (place * width) 1 16 others.now cells.old }
+/// Sets the bits between a reader and installers one by one.
+fn mark_beside(cells: &mut [u8], width: u16, reader: u16, place: usize, installers: &[u16])
+    requires row { (k : ℕ) → reader * width + get_or installers.now k 0 * 1 < length cells.old }
+    requires column { (k : ℕ) → reader + get_or installers.now k 0 * width < length cells.old }
+    ensures { cells.new ≡ turns_marked width reader place installers.now cells.old }
 {
-    for other in others {
-        mark_at(cells, place as usize * width as usize + *other as usize, 16);
+    let (ahead, behind) = installers.split_at(place.min(installers.len()));
+    mark_each(cells, reader as u32, width, ahead, 4);
+    mark_each(cells, reader as u32 * width as u32, 1, behind, 16);
+}
+
+/// Sets bits in the cells that stand so many steps behind a first one as these numbers say.
+#[inline(always)]
+fn mark_each(cells: &mut [u8], first: u32, step: u16, numbers: &[u16], bits: u8)
+    requires { (k : ℕ) → first + get_or numbers.now k 0 * step < length cells.old }
+    ensures { cells.new ≡ marked first step bits numbers.now cells.old }
+{
+    for number in numbers {
+        mark_at(cells, first as usize + *number as usize * step as usize, bits);
     }
 }
 
-/// Sets the bit of a predicate-read in the cells between these and a place.
+/// Sets the bits of marks in as many cells from a first one on.
 #[inline(always)]
-pub fn mark_column(cells: &mut [u8], width: u16, place: u16, others: &[u16])
-    requires { (k : ℕ) → get_or others.now k 0 * width + place < length cells.old }
-    ensures { cells.new ≡ marked place width 4 others.now cells.old }
-{
-    for other in others {
-        mark_at(cells, *other as usize * width as usize + place as usize, 4);
-    }
-}
-
-/// Sets the bits of marks in as many cells of a place's row.
-#[inline(always)]
-pub fn mark_all(cells: &mut [u8], width: u16, place: u16, marks: &[u8])
-    requires { place * width + length marks.now ≤ length cells.old }
-    ensures { cells.new ≡ all_marked (place * width) marks.now cells.old }
+fn mark_all(cells: &mut [u8], first: u32, marks: &[u8])
+    requires { first + length marks.now ≤ length cells.old }
+    ensures { cells.new ≡ all_marked first marks.now cells.old }
 {
     for (index, bits) in marks.iter().enumerate() {
-        mark_at(cells, place as usize * width as usize + index, *bits);
+        mark_at(cells, first as usize + index, *bits);
     }
 }
 
