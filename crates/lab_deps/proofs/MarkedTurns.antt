@@ -1,7 +1,7 @@
 -- Cells that are marked by the versions at which a row turns tell of what a reader has to do with them.
 use Rattle.std.{proofs.{Common.{◌≡◌, ◌≢◌, ◌≤◌, ◌<◌, ◌+◌, ◌*◌, ℕ, zero, suc, Bool, true, false, cond, List, [], ◌∷◌, ◌++◌, get_or, set, map, take, drop, refl, sym, ap, ◌∙◌, subst, append_assoc, arith, inl, inr}, lemmas.{Bool.{lt-ltb, le-ltb}, List.{append-nil, take_all, drop_all}, Nat.{same_from_place}}}, specs.Prelude.{Contains, bit_or}}
 use Rattle.lab_table.{specs.{Statement.{matches}, Table.{State}, declared.statement.Statement.{Statement}}, proofs.Members.{first_member, later_member}}
-use Rattle.lab_deps.specs.{Collected.{apart, read_by, passed_by}, Edges.{differ}, EdgesByRow.{Chain, change_by, changes_along}, KindBits.{bit, place, cell_at, Tells}, Marks.{or_at, marked, turns_marked}, Numbering.{FitsVersions}, Turns.{states, turned, TurnsFor}}
+use Rattle.lab_deps.specs.{Collected.{apart, read_by, passed_by}, Edges.{differ}, EdgesByRow.{Chain, edges_by, walk, unlisted, walked}, KindBits.{bit, place, cell_at, Tells}, Marks.{or_at, marked, turns_marked}, Numbering.{FitsVersions}, Turns.{states, turned, TurnsFor}}
 use Rattle.lab_deps.specs.declared.{edge.{Edge.{Edge}, Kind.{Kind, TheVariants.{PredicateRead, PredicateAnti}}}, reading.Reading.{Reading}, turns.Turns.{Turns}, versions.Version.{Version}}
 use Rattle.lab_deps.proofs.{MarkedCells.{or_set}, NumberedStates.{no_difference, differ_alike}, ToldKinds.{told_apart, told_off}}
 
@@ -60,49 +60,49 @@ module _ (ps : List ℕ) (w : ℕ) (made : List ℕ) (s : Statement) (r : Readin
     Fit vs = (v : Version) → Contains vs v → place ps v.installer ≡ v.place
 
     told_behind : (vs : List Version) (b : Bool) (q : ℕ) → r.place ≤ q → Fit vs → (cs : List ℕ) (es : List Edge) → Tells ps w cs made es
-        → Tells ps w (marked (reader * w) 1 16 (turns b vs) cs) made (es ++ changes_along s r b q vs)
+        → Tells ps w (marked (reader * w) 1 16 (turns b vs) cs) made (es ++ walk s (unlisted r) b q vs)
     told_behind [] b q behind fits cs es t = subst (Tells ps w cs made) (sym (append-nil es)) t
     told_behind (v ∷ vs) b q behind fits cs es t =
         let now : Bool = f v.value in
         let turn : Bool = differ (differ a b) (differ a now) in
         let next : List ℕ = or_at cs (reader * w + cond turn v.place 0 * 1) 16 in
-        let change : List Edge = change_by r q v.installer (differ b now) in
+        let change : List Edge = edges_by (unlisted r) q v.installer (differ b now) in
         let is : cond turn (apart (passed_by PredicateAnti r v.installer)) [] ≡ change =
-        ap (λ c. cond turn (apart (cond c (read_by PredicateRead r v.installer) (passed_by PredicateAnti r v.installer))) []) (sym (le-ltb q r.place behind)) ∙ ap (change_by r q v.installer) (differ_alike a b now) in
+        ap (λ c. cond turn (apart (cond c (read_by PredicateRead r v.installer) (passed_by PredicateAnti r v.installer))) []) (sym (le-ltb q r.place behind)) ∙ ap (edges_by (unlisted r) q v.installer) (differ_alike a b now) in
         let told : Tells ps w next made (es ++ change) = subst (λ xs. Tells ps w next made (es ++ xs)) is (passed_one turn v (fits v (first_member v vs)) cs es t) in
-        subst (Tells ps w (marked (reader * w) 1 16 (turns now vs) next) made) (append_assoc es change (changes_along s r now (q + 1) vs))
+        subst (Tells ps w (marked (reader * w) 1 16 (turns now vs) next) made) (append_assoc es change (walk s (unlisted r) now (q + 1) vs))
         (told_behind vs now (q + 1) (omega (arith, behind)) (λ u has. fits u (later_member v vs u has)) next (es ++ change) told)
 
     told_ahead : (k : ℕ) (vs : List Version) (b : Bool) (q : ℕ) → q + k ≡ r.place → Fit vs → (cs : List ℕ) (es : List Edge) → Tells ps w cs made es
-        → Tells ps w (turns_marked w reader k (turns b vs) cs) made (es ++ changes_along s r b q vs)
+        → Tells ps w (turns_marked w reader k (turns b vs) cs) made (es ++ walk s (unlisted r) b q vs)
     told_ahead zero vs b q at fits cs es t = told_behind vs b q (omega (arith, at)) fits cs es t
     told_ahead (suc k) [] b q at fits cs es t = subst (Tells ps w cs made) (sym (append-nil es)) t
     told_ahead (suc k) (v ∷ vs) b q at fits cs es t =
         let now : Bool = f v.value in
         let turn : Bool = differ (differ a b) (differ a now) in
         let next : List ℕ = or_at cs (reader + cond turn v.place 0 * w) 4 in
-        let change : List Edge = change_by r q v.installer (differ b now) in
+        let change : List Edge = edges_by (unlisted r) q v.installer (differ b now) in
         let is : cond turn (apart (read_by PredicateRead r v.installer)) [] ≡ change =
-        ap (λ c. cond turn (apart (cond c (read_by PredicateRead r v.installer) (passed_by PredicateAnti r v.installer))) []) (sym (lt-ltb q r.place (omega (arith, at)))) ∙ ap (change_by r q v.installer) (differ_alike a b now) in
+        ap (λ c. cond turn (apart (cond c (read_by PredicateRead r v.installer) (passed_by PredicateAnti r v.installer))) []) (sym (lt-ltb q r.place (omega (arith, at)))) ∙ ap (edges_by (unlisted r) q v.installer) (differ_alike a b now) in
         let told : Tells ps w next made (es ++ change) = subst (λ xs. Tells ps w next made (es ++ xs)) is (read_one turn v (fits v (first_member v vs)) cs es t) in
-        subst (Tells ps w (turns_marked w reader k (turns now vs) next) made) (append_assoc es change (changes_along s r now (q + 1) vs))
+        subst (Tells ps w (turns_marked w reader k (turns now vs) next) made) (append_assoc es change (walk s (unlisted r) now (q + 1) vs))
         (told_ahead k vs now (q + 1) (omega (arith, at)) (λ u has. fits u (later_member v vs u has)) next (es ++ change) told)
 
     -- where all versions are of the class before them, nothing changes
-    none_change : (vs : List Version) (b : Bool) (q : ℕ) → differ a b ≡ false → ((c : Bool) → Contains (classes vs) c → c ≡ false) → changes_along s r b q vs ≡ []
+    none_change : (vs : List Version) (b : Bool) (q : ℕ) → differ a b ≡ false → ((c : Bool) → Contains (classes vs) c → c ≡ false) → walk s (unlisted r) b q vs ≡ []
     none_change [] b q first all = refl
     none_change (v ∷ vs) b q first all =
         let now : Bool = f v.value in
         let class : differ a now ≡ false = all (differ a now) (first_member (differ a now) (classes vs)) in
         let same : differ b now ≡ false = sym (differ_alike a b now) ∙ (ap (λ c. differ c (differ a now)) first ∙ class) in
-        ap (λ c. change_by r q v.installer c ++ changes_along s r now (q + 1) vs) same ∙ none_change vs now (q + 1) class (λ c has. all c (later_member (differ a now) (classes vs) c has))
+        ap (λ c. edges_by (unlisted r) q v.installer c ++ walk s (unlisted r) now (q + 1) vs) same ∙ none_change vs now (q + 1) class (λ c has. all c (later_member (differ a now) (classes vs) c has))
 
   pub told_turns : (c : Chain) (t : Turns) → TurnsFor s r.row c t → FitsVersions c.items ps → (cs : List ℕ) (es : List Edge) → Tells ps w cs made es
-      → Tells ps w (turns_marked w reader r.place t.installers.items cs) made (es ++ changes_along s r (f c.before) 0 c.items)
+      → Tells ps w (turns_marked w reader r.place t.installers.items cs) made (es ++ walked s (unlisted r) c)
   told_turns c t turn fits cs es told =
       let a : Bool = f c.before in
       let start : differ a a ≡ false = no_difference a a refl in
-      let changes : List Edge = changes_along s r a 0 c.items in
+      let changes : List Edge = walked s (unlisted r) c in
       elim turn.installers [
         | inl is ↦ subst (λ ns. Tells ps w (turns_marked w reader r.place ns cs) made (es ++ changes)) (ap (λ b. turned b (classes a c.items) c.items) start ∙ sym is)
             (told_ahead a r.place c.items a 0 (omega arith) fits cs es told)

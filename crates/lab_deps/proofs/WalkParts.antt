@@ -1,8 +1,8 @@
--- What is found along a row's versions is what is found by the listing of the row, and by the changes of a statement's matches.
+-- What is found along a row's versions is what is found by the listing of the row, and without it.
 use Rattle.std.proofs.{Common.{◌≡◌, ◌⊎◌, ℕ, zero, suc, ◌+◌, ◌-◌, ◌==◌, Bool, true, false, cond, Option, Some, None, List, [], ◌∷◌, ◌++◌, refl, sym, ap, ◌∙◌, subst, arith, inl, inr}, lemmas.{Bool.{eqb-true}, List.Elements.{Contains-append_left, Contains-append_right, Contains-append_cases}, Option.{none-some, same_Some}}}
 use Rattle.std.specs.Prelude.{Contains, slice_get}
 use Rattle.lab_table.{specs.{Statement.{matches}, declared.statement.Statement.{Statement}}, proofs.Members.{no_member}}
-use Rattle.lab_deps.specs.{Edges.{differ}, Collected.{apart_in, read_by, passed_by, item_edge}, EdgesByRow.{Chain, HasMembersOf, walk, walked, change_by, changes_along}, Turns.{item_in, items_of}}
+use Rattle.lab_deps.specs.{Edges.{differ}, Collected.{apart_in, read_by, passed_by, item_edge}, EdgesByRow.{Chain, HasMembersOf, edges_by, walk, walked, unlisted}, Turns.{item_in, items_of}}
 use Rattle.lab_deps.specs.declared.{edge.{Edge.{Edge}, Kind.TheVariants.{ItemRead, ItemAnti}}, reading.Reading.{Reading}, versions.Version.{Version}}
 
 -- two parts and the rest, of which each has two parts too
@@ -102,23 +102,23 @@ module _ (r : Reading) where
         ]
 
   module _ (s : Statement) where
-    walk_parts : (b : Bool) (p : ℕ) (vs : List Version) (e : Edge) → Contains (walk s r b p vs) e → Contains (listed_along p vs ++ changes_along s r b p vs) e
+    walk_parts : (b : Bool) (p : ℕ) (vs : List Version) (e : Edge) → Contains (walk s r b p vs) e → Contains (listed_along p vs ++ walk s (unlisted r) b p vs) e
     walk_parts b p [] e has = absurd (no_member e has)
     walk_parts b p (v ∷ vs) e has =
         let now : Bool = matches s r.row v.value in
-        into_parts (item p v.installer) (change_by r p v.installer (differ b now)) (walk s r now (p + 1) vs) (listed_along (p + 1) vs) (changes_along s r now (p + 1) vs) (walk_parts now (p + 1) vs) e has
+        into_parts (item p v.installer) (edges_by (unlisted r) p v.installer (differ b now)) (walk s r now (p + 1) vs) (listed_along (p + 1) vs) (walk s (unlisted r) now (p + 1) vs) (walk_parts now (p + 1) vs) e has
 
-    parts_walk : (b : Bool) (p : ℕ) (vs : List Version) (e : Edge) → Contains (listed_along p vs ++ changes_along s r b p vs) e → Contains (walk s r b p vs) e
+    parts_walk : (b : Bool) (p : ℕ) (vs : List Version) (e : Edge) → Contains (listed_along p vs ++ walk s (unlisted r) b p vs) e → Contains (walk s r b p vs) e
     parts_walk b p [] e has = absurd (no_member e has)
     parts_walk b p (v ∷ vs) e has =
         let now : Bool = matches s r.row v.value in
-        of_parts (item p v.installer) (change_by r p v.installer (differ b now)) (walk s r now (p + 1) vs) (listed_along (p + 1) vs) (changes_along s r now (p + 1) vs) (parts_walk now (p + 1) vs) e has
+        of_parts (item p v.installer) (edges_by (unlisted r) p v.installer (differ b now)) (walk s r now (p + 1) vs) (listed_along (p + 1) vs) (walk s (unlisted r) now (p + 1) vs) (parts_walk now (p + 1) vs) e has
 
-    pub walked_by_changes : (c : Chain) → HasMembersOf (items_of r c.items ++ changes_along s r (matches s r.row c.before) 0 c.items) (walked s r c)
-    walked_by_changes c e =
+    pub walked_by_parts : (c : Chain) → HasMembersOf (items_of r c.items ++ walked s (unlisted r) c) (walked s r c)
+    walked_by_parts c e =
         let vs = c.items in
         let start : Bool = matches s r.row c.before in
-        let changes : List Edge = changes_along s r start 0 vs in (
+        let changes : List Edge = walked s (unlisted r) c in (
           λ has. parts_walk start 0 vs e (elim (Contains-append_cases (items_of r vs) changes e has) [
             | inl item ↦ Contains-append_left (listed_along 0 vs) changes e (items_listed vs e item)
             | inr change ↦ Contains-append_right (listed_along 0 vs) changes e change

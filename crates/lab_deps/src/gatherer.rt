@@ -2,8 +2,7 @@
 
 ghost use Rattle.std.specs.Prelude.{◌≡◌, ◌↔◌, ℕ, true, Contains, OnOk, IfOk};
 ghost use Rattle.lab_table.specs.Row.{Row};
-ghost use Rattle.lab_table.specs.Statement.{matches};
-ghost use Rattle.lab_deps.specs.EdgesByRow.{rows_of, changes_along};
+ghost use Rattle.lab_deps.specs.EdgesByRow.{rows_of, unlisted, walked};
 ghost use Rattle.lab_deps.specs.KindBits.{has_bit, bits_of, edge_of, Tells};
 ghost use Rattle.lab_deps.specs.Numbering.{FitsVersions, where_fits};
 ghost use Rattle.lab_deps.specs.Scopes.{Allows, edges_in};
@@ -68,27 +67,26 @@ impl RowSink for Gatherer {
         versions: &Versions,
     ) -> Result<(), NoMemory> {
         reading.add_items(self, versions.as_slice())?;
-        self.take_changes(statement, reading, versions)
+        self.take_unlisted(statement, reading, versions)
     }
 }
 
 impl Gatherer {
-    /// Takes all that a reader has to do with a row's versions by their changing what matches its statement.
-    fn take_changes(
+    /// Takes all that a reader has to do with a row's versions but for what it lists.
+    fn take_unlisted(
         &mut self,
         statement: &Statement,
         reading: Reading,
         versions: &Versions,
     ) -> Result<(), NoMemory>
-        ensures { OnOk result (Grows (where_fits (FitsVersions versions.now.items) (λ g made es. Tells g.arrows.places.items g.arrows.width g.arrows.cells.items made es)) self.old self.new
-            (changes_along statement.now reading (matches statement.now reading.row versions.now.before) 0 versions.now.items)) }
+        ensures { OnOk result (Grows (where_fits (FitsVersions versions.now.items) (λ g made es. Tells g.arrows.places.items g.arrows.width g.arrows.cells.items made es)) self.old self.new (walked statement.now (unlisted reading) versions.now)) }
     {
         match versions.turns(&mut self.answers, statement, reading.row)? {
-            None => reading.add_changes(self, statement, versions),
+            None => reading.unlisted().add_edges(self, statement, versions),
             Some(kept) => {
                 let reader = self.arrows.place(reading.txn);
                 if !self.arrows.reaches(reader, kept.turns.most) {
-                    return reading.add_changes(self, statement, versions);
+                    return reading.unlisted().add_edges(self, statement, versions);
                 }
                 self.arrows.mark_turns(&kept.turns, reader, reading.place);
                 Ok(())

@@ -1,13 +1,18 @@
 use Rattle.std.{proofs.{Common.{◌++◌, sym, ap, ◌∙◌, subst}, lemmas.Result.{on_ok_weaker}}, specs.Prelude.{IfSome}}
-use Rattle.lab_table.specs.Statement.{matches}
-use Rattle.lab_deps.{specs.{EdgesByRow.{changes_along}, KindBits.{Tells}, Marks.{turns_marked}, Numbering.{FitsVersions}, Turns.{TurnsFor}}, proofs.{MarkedTurns.{told_turns}}}
-use Rattle.lab_deps.proofs.gatherer.Gatherer.take_changes.Goals as goal
+use Rattle.lab_deps.{specs.{EdgesByRow.{walked, unlisted}, KindBits.{Tells}, Marks.{turns_marked}, Numbering.{FitsVersions}, Sinks.{Grows}, Turns.{TurnsFor}}, proofs.{MarkedTurns.{told_turns}}}
+use Rattle.lab_deps.proofs.gatherer.Gatherer.take_unlisted.Goals as goal
 
 pub returns-in-None : goal.returns-in-None
-returns-in-None c = on_ok_weaker c.add_changes.result (λ grows made es so_far fit. grows made es (so_far fit)) c.add_changes.ensures
+returns-in-None c =
+    on_ok_weaker c.add_edges.result
+    (λ grows made es so_far fit. subst (λ r. Tells c.add_edges.new.sink.arrows.places.items c.add_edges.new.sink.arrows.width c.add_edges.new.sink.arrows.cells.items made (es ++ walked c.args.statement.now r c.args.versions.now))
+    c.unlisted.ensures (grows made es (so_far fit))) c.add_edges.ensures
 
 pub returns-then-not-reaches-in-Some : goal.returns-then-not-reaches-in-Some
-returns-then-not-reaches-in-Some c = on_ok_weaker c.add_changes-2.result (λ grows made es so_far fit. grows made es (so_far fit)) c.add_changes-2.ensures
+returns-then-not-reaches-in-Some c =
+    on_ok_weaker c.add_edges-2.result
+    (λ grows made es so_far fit. subst (λ r. Tells c.add_edges-2.new.sink.arrows.places.items c.add_edges-2.new.sink.arrows.width c.add_edges-2.new.sink.arrows.cells.items made (es ++ walked c.args.statement.now r c.args.versions.now))
+    c.unlisted-2.ensures (grows made es (so_far fit))) c.add_edges-2.ensures
 
 pub mark_turns-requires-clause-most : goal.mark_turns-requires-clause-most
 mark_turns-requires-clause-most c =
@@ -28,7 +33,7 @@ returns-in-Some c made es so_far fit =
     let ps = a.places.items in
     let next = c.mark_turns.new.self in
     let told = so_far fit in
-    let all = es ++ changes_along s r (matches s r.row chain.before) 0 chain.items in
+    let all = es ++ walked s (unlisted r) chain in
     let turns = subst (λ o. IfSome o (λ kept. TurnsFor s r.row chain kept.now.turns)) c.in-Some.is c.in_ok-turns.ensures in
     let turned = told_turns ps a.width made s r chain c.in-Some.kept.now.turns turns (subst (FitsVersions chain.items) (sym told.same) fit) a.cells.items es told in
     let cells = c.mark_turns.ensures.cells ∙ ap (λ n. turns_marked a.width n r.place c.in-Some.kept.now.turns.installers.items a.cells.items) c.place.ensures in
