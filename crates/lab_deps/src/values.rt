@@ -155,7 +155,7 @@ fn are_alike(exact: bool, value: Option<Value>, other: Option<Value>) -> bool
     if exact {
         is_same(value, other)
     } else {
-        value.is_some() == other.is_some()
+        !differ(value.is_some(), other.is_some())
     }
 }
 
