@@ -29,7 +29,7 @@ none_true answers none (g ∷ numbers) c there =
     ]
   where
     each : (answers : List Bool) → list_any (λ b. b) answers ≡ false → (g : ℕ) → get_or answers g false ≡ false
-    each [] none g = get_or_past [] g false (omega arith)
+    each [] none g = refl
     each (b ∷ bs) none zero = let parts = or_parts b (list_any (λ b. b) bs) none in parts.0
     each (b ∷ bs) none (suc g) = (let parts = or_parts b (list_any (λ b. b) bs) none in each bs parts.1 g)
 
