@@ -87,10 +87,10 @@ fn turned(
     requires { length numbers.now ≡ length versions.now }
     ensures { IfOk result (λ found. AreInstallers false (classes_of answers.now numbers.now) versions.now found.items) }
 {
-    let mut found = Vec::new(alloc);
     if !has_any(answers) {
-        return Ok(found);
+        return Ok(Vec::new(alloc));
     }
+    let mut found = Vec::with_capacity(alloc, versions.len())?;
     let mut before = false;
     for (place, version) in versions.iter().enumerate() {
         let after = answer_at(answers, numbers[place]);

@@ -5,9 +5,6 @@ use Rattle.lab_deps.proofs.turns.turned.Goals as goal
 pub returns-then-not-has_any : goal.returns-then-not-has_any
 returns-then-not-has_any c = inr (c.new.ensures.items, none_true c.args.answers.now (sym c.has_any.ensures ∙ c.if-not-has_any.true) c.args.numbers.now)
 
-pub loop-place-init : goal.loop-place-init
-loop-place-init c = ap (λ ns. ns ++ turned false (classes_of c.args.answers.now c.args.numbers.now) c.args.versions.now) c.new.ensures.items
-
 pub loop-place-preserved : goal.loop-place-preserved
 loop-place-preserved c =
     let bs = c.args.answers.now in
