@@ -2,7 +2,7 @@
 use Rattle.std.proofs.{Common.{◌≡◌, ℕ, ◌<◌, ◌+◌, ⊎_elim, List, [], ◌∷◌, ◌++◌, length, drop, get_or, Some, refl, suc, arith, Result, Ok, Err, sym, ap, subst, ◌∙◌, append_assoc, append-nil}, Math.Seq.{drop-length}, lemmas.List.{at_drop_more}}
 use Rattle.serde_json.specs.{Data.{Data, Items, no_items, item}, Find.{get_item}, declared.value.Value.{Value}, View.{view, items_view}}
 use Rattle.lab_history.{specs.{Faults.{◌>>=◌}, declared.fault.FileFault.{FileFault}}, proofs.Steps.{both_ok, either_err, step_on}}
-use Rattle.lab_history_file.specs.{Entries.{items_from}, FileOf.{AreEach}}
+use Rattle.lab_history_file.specs.{Behind.{AllStand}, Entries.{items_from}, FileOf.{AreEach}}
 
 -- the items from a place on
 abbrev pub Tail : Items → ℕ → Items → Type 0
@@ -16,11 +16,6 @@ tail_head all i d ds tail = let same : i ≡ i + 0 = omega arith in ap (λ n. ge
 
 pub tail_rest : (all : Items) (i : ℕ) (d : Data) (ds : Items) → Tail all i (item d ds) → Tail all (i + 1) ds
 tail_rest all i d ds tail k m e = let same : i + 1 + k ≡ i + suc k = omega arith in ap (λ n. get_item n all) same ∙ tail (suc k) m e
-
--- each of some may stand behind those before it
-abbrev pub AllStand : {X : Type 0} → (List X → X → Type 0) → List X → List X → Type 0
-AllStand May before [] = Unit {0}
-AllStand May before (x ∷ xs) = May before x × AllStand May (before ++ x ∷ []) xs
 
 module _ {X : Type 0} (read : List X → ℕ → Data → Result X FileFault) where
   -- ---- in a loop
