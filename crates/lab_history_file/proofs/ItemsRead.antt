@@ -94,3 +94,8 @@ module _ {X : Type 0} (read : List X → ℕ → Data → Result X FileFault) wh
 
   pub each_err : (ds : Items) (f : FileFault) → items_from read [] 0 ds ≡ Err f → (past : List X) × (k : ℕ) × (m : Data) × (get_item k ds ≡ Some m) × (read past k m ≡ Err f)
   each_err ds f e = let found = items_err read (λ _ _ _. Unit {0}) ds f (λ _ _ _ _ _ _ _ _. tt) [] 0 ds (tail_all ds) tt e in (found.0, found.1, found.2, found.4, found.6)
+
+-- one more stands behind those that stand
+pub stand_more : {X : Type 0} (May : List X → X → Type 0) (before xs : List X) (x : X) → AllStand May before xs → May (before ++ xs) x → AllStand May before (xs ++ x ∷ [])
+stand_more May before [] x all may = (subst (λ ys. May ys x) (append-nil before) may, tt)
+stand_more May before (y ∷ ys) x all may = (all.0, stand_more May (before ++ y ∷ []) ys x all.1 (subst (λ zs. May zs x) (sym (append_assoc before (y ∷ []) ys)) may))

@@ -1,7 +1,7 @@
 -- Brackets, braces, commas, strings and null as tokens of JSON.
-use Rattle.std.{proofs.{Common.{◌⊎◌, inl, inr, ◌≡◌, ℕ, suc, ◌+◌, ◌≤◌, ◌&&◌, ◌||◌, ◌==◌, Bool, true, false, cond, not, nat_le, List, [], ◌∷◌, ◌++◌, length, take, drop, Option, Some, None, option_map, refl, sym, ap, ap₂, subst, ◌∙◌, arith}, lemmas.{Bool.{eqb-true, le-ltb}, List.{take-append-drop}}}, specs.{Prelude.{⊤}, List.{prefix_len}}}
+use Rattle.std.{proofs.{Common.{ℤ, ◌≡◌, ℕ, suc, ◌+◌, ◌≤◌, ◌&&◌, ◌||◌, ◌==◌, Bool, true, false, cond, not, nat_le, List, [], ◌∷◌, ◌++◌, length, take, drop, Option, Some, None, option_map, refl, sym, ap, ap₂, subst, ◌∙◌, arith}, lemmas.{Bool.{eqb-true, le-ltb}, List.{take-append-drop}}}, specs.{Prelude.{⊤}, List.{prefix_len}}}
 use Rattle.json.specs.{Token.{Token}, Text.{content, plain, prepend}, Lex.{Lexeme, token, comma, colon, Place, fresh, after_value, after_comma, after_key, may_begin, may_close, begins_colon, between, in_word, in_string, class, quote, operator, space, other, lex_byte, lex, punctuate}, Word.{is_operator, is_space, ends_word, word}}
-use Rattle.lab_history_file.specs.Bytes.{is_plain, tokens_at}
+use Rattle.lab_history_file.specs.Bytes.{is_mark, is_plain, tokens_at, WholeAt, IntegerAt, IsWhole, IsInteger}
 use Rattle.lab_history_file.proofs.NumberBytes.{word_ends}
 
 -- ---- blanks
@@ -110,7 +110,7 @@ module _ (p : Place) (bytes rest : List ℕ) where
   pub object_closed : may_close p ≡ true → lex between bytes ≡ lex between (125 ∷ rest) → tokens_at p bytes ≡ Token.end_object ∷ tokens_at after_value rest
   object_closed h e = ap (punctuate p) e ∙ object_closes p rest h
 
-  pub number_taken : (text : List ℕ) → may_begin p ≡ true → lex between bytes ≡ token (Token.number text) ∷ lex between rest → tokens_at p bytes ≡ Token.number text ∷ tokens_at after_value rest
+  number_taken : (text : List ℕ) → may_begin p ≡ true → lex between bytes ≡ token (Token.number text) ∷ lex between rest → tokens_at p bytes ≡ Token.number text ∷ tokens_at after_value rest
   number_taken text h e = ap (punctuate p) e ∙ number_stands p text _ h
 
 -- ---- ends
@@ -208,15 +208,20 @@ key_taken p bytes after rest text h e colons = ap (punctuate p) (e ∙ ap (λ ls
 
 -- ---- what ends a value
 
-pub mark_ends : (c : ℕ) (xs : List ℕ) → (c ≡ 44) ⊎ (c ≡ 93) ⊎ (c ≡ 125) → ends_word (c ∷ xs) ≡ true
-mark_ends c xs (inl e) = ap (λ b. ends_word (b ∷ xs)) e
-mark_ends c xs (inr (inl e)) = ap (λ b. ends_word (b ∷ xs)) e
-mark_ends c xs (inr (inr e)) = ap (λ b. ends_word (b ∷ xs)) e
+marked : (c : ℕ) (P : ℕ → Type 0) → P 44 → P 93 → P 125 → is_mark c ≡ true → P c
+marked c P comma bracket brace h = pick (c == 44) (c == 93) (c == 125) (eqb-true c 44) (eqb-true c 93) (eqb-true c 125) h
+  where
+    pick : (a b d : Bool) → (a ≡ true → c ≡ 44) → (b ≡ true → c ≡ 93) → (d ≡ true → c ≡ 125) → (a || b || d) ≡ true → P c
+    pick true b d is_comma is_bracket is_brace h = subst P (sym (is_comma refl)) comma
+    pick false true d is_comma is_bracket is_brace h = subst P (sym (is_bracket refl)) bracket
+    pick false false true is_comma is_bracket is_brace h = subst P (sym (is_brace refl)) brace
+    pick false false false is_comma is_bracket is_brace h = absurd cc
 
-pub mark_no_key : (c : ℕ) (xs : List ℕ) → (c ≡ 44) ⊎ (c ≡ 93) ⊎ (c ≡ 125) → begins_colon (lex between (c ∷ xs)) ≡ false
-mark_no_key c xs (inl e) = ap (λ b. begins_colon (lex between (b ∷ xs))) e ∙ comma_first xs
-mark_no_key c xs (inr (inl e)) = ap (λ b. begins_colon (lex between (b ∷ xs))) e ∙ bracket_first xs
-mark_no_key c xs (inr (inr e)) = ap (λ b. begins_colon (lex between (b ∷ xs))) e ∙ brace_first xs
+pub mark_ends : (c : ℕ) (xs : List ℕ) → is_mark c ≡ true → ends_word (c ∷ xs) ≡ true
+mark_ends c xs h = marked c (λ b. ends_word (b ∷ xs) ≡ true) refl refl refl h
+
+pub mark_no_key : (c : ℕ) (xs : List ℕ) → is_mark c ≡ true → begins_colon (lex between (c ∷ xs)) ≡ false
+mark_no_key c xs h = marked c (λ b. begins_colon (lex between (b ∷ xs)) ≡ false) (comma_first xs) (bracket_first xs) (brace_first xs) h
 
 pub blank_ends : (c : ℕ) (xs : List ℕ) → is_space c ≡ true → ends_word (c ∷ xs) ≡ true
 blank_ends c xs h = grind arith
@@ -244,3 +249,11 @@ null_passed rest = refl
 pub null_taken : (p : Place) (bytes rest : List ℕ) → may_begin p ≡ true → lex between bytes ≡ lex between (110 ∷ 117 ∷ 108 ∷ 108 ∷ rest) → ends_word rest ≡ true → tokens_at p bytes ≡ Token.null ∷ tokens_at after_value rest
 null_taken p bytes rest h e ends =
     ap (punctuate p) (e ∙ null_passed rest ∙ ap₂ (λ t ls. token t ∷ ls) (null_word rest ends) (word_ends rest ends)) ∙ null_stands p _ h
+
+-- ---- numbers
+
+pub whole_taken : (p : Place) (bytes rest : List ℕ) (n : ℕ) → may_begin p ≡ true → WholeAt bytes n rest → IsWhole (tokens_at p bytes) (tokens_at after_value rest) n
+whole_taken p bytes rest n h w = record { text = w.text; taken = number_taken p bytes rest w.text h w.lexed; is = w.is }
+
+pub integer_taken : (p : Place) (bytes rest : List ℕ) (z : ℤ) → may_begin p ≡ true → IntegerAt bytes z rest → IsInteger (tokens_at p bytes) (tokens_at after_value rest) z
+integer_taken p bytes rest z h w = record { text = w.text; taken = number_taken p bytes rest w.text h w.lexed; is = w.is }

@@ -1,6 +1,6 @@
 -- What the tokens of a list's members spell.
-use Rattle.std.{proofs.{Common.{◌≡◌, ◌≢◌, ℕ, ℤ, ◌+◌, ◌<◌, ◌≤◌, ◌≤ℤ◌, pos, negsuc, List, [], ◌∷◌, ◌++◌, length, Option, Some, None, option_and_then, if◌then◌else◌, refl, sym, ap, subst, ◌∙◌, arith, le-leb}, lemmas.Bool.{and_both}}, specs.Prelude.{nat_le, int_le, true}}
-use Rattle.json.specs.{Token.{Token}, Json.{after_end_array}}
+use Rattle.std.{proofs.{Common.{◌≡◌, ◌≢◌, ℕ, ℤ, ◌+◌, ◌<◌, ◌≤◌, ◌≤ℤ◌, pos, negsuc, List, [], ◌∷◌, ◌++◌, length, Option, Some, None, option_and_then, if◌then◌else◌, refl, sym, ap, subst, ◌∙◌, arith, le-leb, option_map, suc}, specs.Prelude.{◌&&◌, nat_le, int_le}}
+use Rattle.json.specs.Token.{Token}
 use Rattle.serde_json.specs.{Data.{Data, null, number, string, array, unsigned}, Find.{as_i64}, Read.{number_of}, View.{items_of}}
 use Rattle.lab_table.specs.{Row.{Row, in_test, numbered}, TableName.{is_table_name}}
 use Rattle.lab_history.{specs.declared.operation.{State.{State, TheVariants.{Absent, Present}}, VersionName.{VersionName, TheVariants.{Of}}}, proofs.Steps.{both_some}}
@@ -66,7 +66,7 @@ module _ (version : FileVersion) (row : Row) (old inside middle : List Token) (o
   member_listed : (last new : List Token) (ds : List Data) (levels : ℕ) → SpellItems levels middle new ds → Spells (suc levels) old new (array (items_of (key.0 ++ ds)))
   member_listed last new ds levels s = list_spelled levels old inside new (key.0 ++ ds) opens (key.2 levels new ds s)
 
-  pub pair_spelled : {X : Type 0} (Is : Data → X → Type 0) (levels : ℕ) (last new : List Token) (x : X) → levels ≤ 1 → Spelled levels Is middle last x → after_end_array last ≡ Some new
+  pub pair_spelled : {X : Type 0} (Is : Data → X → Type 0) (levels : ℕ) (last new : List Token) (x : X) → levels ≤ 1 → Spelled levels Is middle last x → last ≡ Token.end_array ∷ new
       → Spelled 2 (IsPair version Is) old new (row, x)
   pair_spelled Is levels last new x few s ends = record {
     tree = array (items_of (key.0 ++ s.tree ∷ []));
@@ -74,7 +74,7 @@ module _ (version : FileVersion) (row : Row) (old inside middle : List Token) (o
     stands = (s.tree, (key.0, key.1, refl), s.stands);
   }
 
-  pub version_spelled : (between last new : List Token) (txn op : ℕ) → WholeTo 1000000 middle between txn → WholeTo 10000 between last op → after_end_array last ≡ Some new
+  pub version_spelled : (between last new : List Token) (txn op : ℕ) → WholeTo 1000000 middle between txn → WholeTo 10000 between last op → last ≡ Token.end_array ∷ new
       → Spelled 2 (IsVersion version) old new (row, Of txn op)
   version_spelled between last new txn op t o ends = record {
     tree = array (items_of (key.0 ++ t.tree ∷ o.tree ∷ []));
@@ -84,7 +84,7 @@ module _ (version : FileVersion) (row : Row) (old inside middle : List Token) (o
     stands = (t.tree, o.tree, txn, op, (key.0, key.1, refl), t.stands, o.stands, refl);
   }
 
-  pub installed_spelled : (last new : List Token) (ns : List ℕ) → Spelled 1 (IsListOf (λ number txn. txn_in_number number ≡ Some txn)) middle last ns → ns ≢ [] → after_end_array last ≡ Some new
+  pub installed_spelled : (last new : List Token) (ns : List ℕ) → Spelled 1 (IsListOf (λ number txn. txn_in_number number ≡ Some txn)) middle last ns → ns ≢ [] → last ≡ Token.end_array ∷ new
       → Spelled 2 (IsInstalled version) old new (row, ns)
   installed_spelled last new ns s some ends =
       let pair = pair_spelled (IsListOf (λ number txn. txn_in_number number ≡ Some txn)) 1 last new ns (omega arith) s ends in

@@ -170,9 +170,11 @@ negative_number d more n all is small =
 digits_after : (first : ℕ) (tail : List ℕ) (number : ℕ) (rest : List ℕ) → is_ascii_digit first ≡ true → digits_on 0 (first ∷ tail) ≡ (number, rest) → digits_on (0 * 10 + (first - 48)) tail ≡ (number, rest)
 digits_after first tail number rest h e = let same : digits_on 0 (first ∷ tail) ≡ digits_on (0 * 10 + (first - 48)) tail = rw h refl in sym same ∙ e
 
-pub digits_found : (first : ℕ) (tail : List ℕ) (number : ℕ) (rest : List ℕ) → is_ascii_digit first ≡ true → digits_on 0 (first ∷ tail) ≡ (number, rest) → number ≤ 10000000009
-    → (first ≡ 48 → length rest + 1 ≡ length (first ∷ tail)) → ends_word rest ≡ true → NumberIn (first ∷ tail) number rest
-digits_found first tail number rest h e small alone ends =
+pub digits_found : (bytes : List ℕ) (first : ℕ) (tail : List ℕ) (number : ℕ) (rest : List ℕ) → bytes ≡ first ∷ tail → is_ascii_digit first ≡ true → digits_on 0 bytes ≡ (number, rest) → number ≤ 10000000009
+    → (first ≡ 48 → length rest + 1 ≡ length bytes) → ends_word rest ≡ true → NumberIn bytes number rest
+digits_found bytes first tail number rest is h begins small alone ends =
+    let e = ap (digits_on 0) (sym is) ∙ begins in
+    let whole : length bytes ≡ suc (length tail) = ap length is in
     let found = split (0 * 10 + (first - 48)) tail in
     let on = digits_after first tail number rest h e in
     let digit = digit_is first h in
@@ -181,9 +183,9 @@ digits_found first tail number rest h e small alone ends =
     record {
       first = first;
       more = found.digits;
-      bytes = ap (λ t. first ∷ t) left;
+      bytes = is ∙ ap (λ t. first ∷ t) left;
       all = (digit.0, found.all);
-      alone = λ z. nil_from_length found.digits (omega (arith, size, alone z));
+      alone = λ z. nil_from_length found.digits (omega (arith, whole, size, alone z));
       ends = ends;
       value = ap (λ (p : ℕ × List ℕ). p.0) (sym on) ∙ found.value ∙ ap (λ m. digits_value_after 10 (0 * 10 + m) found.digits) (sym digit.1);
       small = small;

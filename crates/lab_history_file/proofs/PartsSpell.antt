@@ -62,7 +62,7 @@ module _ (version : FileVersion) (old t1 t2 t3 t4 t5 t6 t7 new : List Token) whe
       → t3 ≡ Token.key (codes "ops") ∷ t4 → Spelled 5 (IsListOf (IsOperation version)) t4 t5 ops
       → t5 ≡ Token.key (codes "outcome") ∷ t6 → t6 ≡ Token.string (outcome_text outcome) ∷ t7 → t7 ≡ Token.end_object ∷ new
       → Spelled 6 (IsTransaction version) old new (record { no = no; outcome = outcome; ops = ops })
-  txn_spelled no ops outcome opens no_key n ops_key o outcome_key text closes =
+  txn_spelled own ops outcome opens no_key n ops_key o outcome_key text closes =
       let members =
       one_member_more 5 t1 t2 t3 new (codes "no") n.tree _ no_key (deeper 0 5 t2 t3 n.tree (omega arith) n.spells)
       (one_member_more 5 t3 t4 t5 new (codes "ops") o.tree _ ops_key o.spells
@@ -81,7 +81,7 @@ module _ (version : FileVersion) (old t1 t2 t3 t4 t5 t6 t7 t8 t9 t10 t11 t12 t13
       → t9 ≡ Token.key (codes "transactions") ∷ t10 → Spelled 7 (IsListOf (IsTransaction version)) t10 t11 txns → AllStand Stands [] txns → length txns ≤ 1000
       → t11 ≡ Token.key (codes "version") ∷ t12 → IsWhole t12 t13 n → n ≡ version_number version → t13 ≡ Token.end_object ∷ new
       → Spelled 8 (λ d h. parts_in d ≡ Ok h) old new (record { initial = finite.from_sorted initial; txns = txns; installed = finite.from_sorted installed; end_table = finite.from_sorted end })
-  parts_spelled initial end installed txns n opens end_key e format_key format initial_key i installed_key those txns_key t stand few version_key number is closes =
+  parts_spelled initial end installed txns n opens end_key e format_key format initial_key i installed_key those txns_key t stand few version_key taken is closes =
       let h : History = record { initial = finite.from_sorted initial; txns = txns; installed = finite.from_sorted installed; end_table = finite.from_sorted end } in
       let members =
       one_member_more 7 t1 t2 t3 new (codes "end") e.0.tree _ end_key (deeper 3 7 t2 t3 e.0.tree (omega arith) e.0.spells)
@@ -91,7 +91,7 @@ module _ (version : FileVersion) (old t1 t2 t3 t4 t5 t6 t7 t8 t9 t10 t11 t12 t13
       (one_member_more 7 t7 t8 t9 new (codes "installed") those.0.tree _ installed_key (deeper 3 7 t8 t9 those.0.tree (omega arith) those.0.spells)
       (one_member_more 7 t9 t10 t11 new (codes "transactions") t.tree _ txns_key t.spells
       (one_member_more 7 t11 t12 t13 new (codes "version") (Data.number (unsigned n)) _ version_key
-      (deeper 0 7 t12 t13 (Data.number (unsigned n)) (omega arith) (number_spelled t12 t13 number.text (unsigned n) number.taken number.is)) (no_members_more 7 t13 new closes)))))) in
+      (deeper 0 7 t12 t13 (Data.number (unsigned n)) (omega arith) (number_spelled t12 t13 taken.text (unsigned n) taken.taken taken.is)) (no_members_more 7 t13 new closes)))))) in
       let whole = object_spelled 7 old t1 new _ opens members in
       let holds : HoldsIn version _ h = record {
         number = Data.number (unsigned n);

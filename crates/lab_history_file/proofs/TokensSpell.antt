@@ -48,12 +48,16 @@ begins_value depth (Token.null ∷ ts) p e = refl
 begins_value depth (Token.bad ∷ ts) p e = refl
 
 -- a value takes tokens
-shorter : (levels : ℕ) (old new : List Token) (d : Data) → Spells levels old new d → length new < length old
+pub shorter : (levels : ℕ) (old new : List Token) (d : Data) → Spells levels old new d → length new < length old
 shorter levels old new d s = skip_value-shorter levels old new (ap left (s.taken levels (omega arith)))
 
 -- a list ends
-pub no_items_more : (levels : ℕ) (old new : List Token) → after_end_array old ≡ Some new → SpellItems levels old new []
-no_items_more levels old new e = record { json = json.no_items; taken = λ depth turns enough many. items_end (value depth) turns old new many e; is = refl }
+pub no_items_more : (levels : ℕ) (old new : List Token) → old ≡ Token.end_array ∷ new → SpellItems levels old new []
+no_items_more levels old new ends = record {
+  json = json.no_items;
+  taken = λ depth turns enough many. items_end (value depth) turns old new many (ap after_end_array ends);
+  is = refl;
+}
 
 -- an item stands in front of others
 pub one_item_more : (levels : ℕ) (old new end : List Token) (d : Data) (ds : List Data) → Spells levels old new d → SpellItems levels new end ds → SpellItems levels old end (d ∷ ds)
@@ -104,7 +108,7 @@ module _ {X : Type 0} (levels : ℕ) (Is : Data → X → Type 0) where
         λ end more rest. subst (SpellItems levels old end) (sym (append_assoc before.0 (d ∷ []) more)) (before.2 end (d ∷ more) (one_item_more levels middle new end d more s.spells rest)),
       )
 
-  pub each_listed : (old inside last new : List Token) (xs : List X) → old ≡ Token.begin_array ∷ inside → PassesEach levels Is inside last xs → after_end_array last ≡ Some new → Spelled (suc levels) (IsListOf Is) old new xs
+  pub each_listed : (old inside last new : List Token) (xs : List X) → old ≡ Token.begin_array ∷ inside → PassesEach levels Is inside last xs → last ≡ Token.end_array ∷ new → Spelled (suc levels) (IsListOf Is) old new xs
   each_listed old inside last new xs is all ends =
       let whole = subst (SpellItems levels inside new) (append-nil all.0) (all.2 new [] (no_items_more levels last new ends)) in
       record { tree = array (items_of all.0); spells = list_spelled levels old inside new all.0 is whole; stands = (items_of all.0, refl, all.1) }

@@ -1,5 +1,5 @@
 -- What bytes of a file begin with. Only private clauses cite it.
-use Rattle.std.specs.Prelude.{◌≡◌, ℕ, ℤ, ◌+◌, ◌-◌, ◌*◌, ◌≤◌, List, [], ◌∷◌, ◌++◌, Bool, false, true, ◌&&◌, not, nat_le, ◌==◌, if◌then◌else◌, Some, option_and_then}
+use Rattle.std.specs.Prelude.{◌≡◌, ℕ, ℤ, ◌+◌, ◌-◌, ◌*◌, ◌≤◌, List, [], ◌∷◌, ◌++◌, Bool, false, true, ◌&&◌, ◌||◌, not, nat_le, ◌==◌, if◌then◌else◌, Some, option_and_then}
 use Rattle.std.specs.Char.{is_ascii_digit}
 use Rattle.std.specs.Str.Parse.{AllDigits, digits_value}
 use Rattle.json.specs.Token.{Token}
@@ -17,6 +17,10 @@ digits_on n (b ∷ bs) = if is_ascii_digit b then digits_on (n * 10 + (b - 48)) 
 -- a byte that stands for itself in a string
 abbrev pub is_plain : ℕ → Bool
 is_plain b = nat_le 32 b && not (b == 34) && not (b == 92)
+
+-- a byte that ends a value of a list or of an object
+abbrev pub is_mark : ℕ → Bool
+is_mark b = (b == 44) || (b == 93) || (b == 125)
 
 -- the tokens of bytes that stand at a place
 abbrev pub tokens_at : Place → List ℕ → List Token

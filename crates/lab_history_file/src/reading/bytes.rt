@@ -6,7 +6,7 @@ ghost use Rattle.json.specs.Token as token;
 ghost use Rattle.json.specs.Lex.{begins_colon, between, lex};
 ghost use Rattle.json.specs.Lex as lex;
 ghost use Rattle.json.specs.Word.{ends_word, is_space};
-ghost use Rattle.lab_history_file.specs.Bytes.{digits_on, is_plain, IntegerAt, NumberIn, WholeAt};
+ghost use Rattle.lab_history_file.specs.Bytes.{digits_on, is_mark, is_plain, IntegerAt, NumberIn, WholeAt};
 
 fn is_blank(byte: u8) -> bool
     ensures { result ≡ is_space byte }
@@ -84,6 +84,14 @@ pub fn string_at(bytes: &[u8]) -> Option<(&[u8], &[u8])>
     }
 }
 
+/// Whether a byte ends a value of a list or of an object.
+#[inline(always)]
+fn is_mark(byte: u8) -> bool
+    ensures { result ≡ is_mark byte }
+{
+    byte == b',' || byte == b']' || byte == b'}'
+}
+
 /// Whether a bracket or a brace closes behind a blank.
 #[inline(never)]
 #[tactic(auto, using(crate::proofs::MarkBytes::bracket_ends, crate::proofs::MarkBytes::brace_ends, crate::proofs::MarkBytes::blank_ends))]
@@ -94,12 +102,21 @@ fn closes_behind_blank(bytes: &[u8]) -> bool
     let Some((first, _)) = bytes.split_first() else {
         return false;
     };
-    is_blank(*first) && (behind(b']', bytes).is_some() || behind(b'}', bytes).is_some())
+    if !is_blank(*first) {
+        return false;
+    }
+    if let Some(_) = behind(b']', bytes) {
+        return true;
+    }
+    if let Some(_) = behind(b'}', bytes) {
+        return true;
+    }
+    false
 }
 
 /// Whether a value of a list or of an object, which is no key, ends before these bytes.
 #[inline(always)]
-#[tactic(auto, using(crate::proofs::MarkBytes::mark_ends, crate::proofs::MarkBytes::no_colon))]
+#[tactic(auto, using(crate::proofs::MarkBytes::mark_ends, crate::proofs::MarkBytes::mark_no_key))]
 pub fn ends_value(bytes: &[u8]) -> bool
     ensures word { result ≡ true → ends_word bytes.now ≡ true }
     ensures no_key { result ≡ true → begins_colon (lex between bytes.now) ≡ false }
@@ -107,10 +124,12 @@ pub fn ends_value(bytes: &[u8]) -> bool
     let Some((first, _)) = bytes.split_first() else {
         return false;
     };
-    if *first == b',' || *first == b']' || *first == b'}' {
+    if is_mark(*first) {
         true
+    } else if b' ' < *first {
+        false
     } else {
-        *first <= b' ' && closes_behind_blank(bytes)
+        closes_behind_blank(bytes)
     }
 }
 

@@ -98,7 +98,6 @@ impl<'a> Model for Tokens<'a> {
     ghost view = { λ t. tokens_at (place_of t.place) t.rest.now };
 }
 
-#[tactic(auto, using(crate::proofs::MarkBytes::comma_passed, crate::proofs::MarkBytes::list_opened, crate::proofs::MarkBytes::object_opened, crate::proofs::MarkBytes::list_closed, crate::proofs::MarkBytes::object_closed, crate::proofs::MarkBytes::key_taken, crate::proofs::MarkBytes::text_taken, crate::proofs::MarkBytes::null_taken, crate::proofs::MarkBytes::none_left))]
 impl<'a> Tokens<'a> {
     /// Those of a text.
     pub fn new(text: &'a [u8]) -> Tokens<'a>
@@ -112,6 +111,7 @@ impl<'a> Tokens<'a> {
 
     /// Goes on behind a value, and behind the comma that may follow it.
     #[inline(always)]
+    #[tactic(auto, using(crate::proofs::MarkBytes::comma_passed))]
     fn pass_value(&mut self, rest: &'a [u8])
         ensures { self.new ≡ tokens_at lex.after_value rest.now }
     {
@@ -129,6 +129,7 @@ impl<'a> Tokens<'a> {
 
     /// The bracket that begins a list.
     #[inline(always)]
+    #[tactic(auto, using(crate::proofs::MarkBytes::list_opened))]
     pub fn open_list(&mut self) -> Result<(), Stop>
         ensures { IfOk result (λ _. self.old ≡ token.begin_array ∷ self.new) }
     {
@@ -143,6 +144,7 @@ impl<'a> Tokens<'a> {
 
     /// The brace that begins an object.
     #[inline(always)]
+    #[tactic(auto, using(crate::proofs::MarkBytes::object_opened))]
     pub fn open_object(&mut self) -> Result<(), Stop>
         ensures { IfOk result (λ _. self.old ≡ token.begin_object ∷ self.new) }
     {
@@ -157,6 +159,7 @@ impl<'a> Tokens<'a> {
 
     /// Whether a list ends here, whose bracket is then taken.
     #[inline(always)]
+    #[tactic(auto, using(crate::proofs::MarkBytes::list_closed))]
     pub fn list_ends(&mut self) -> bool
         ensures { MatchBool result (self.old ≡ token.end_array ∷ self.new) (self.new ≡ self.old) }
     {
@@ -184,6 +187,7 @@ impl<'a> Tokens<'a> {
 
     /// The brace that ends an object.
     #[inline(always)]
+    #[tactic(auto, using(crate::proofs::MarkBytes::object_closed))]
     pub fn close_object(&mut self) -> Result<(), Stop>
         ensures { IfOk result (λ _. self.old ≡ token.end_object ∷ self.new) }
     {
@@ -196,6 +200,7 @@ impl<'a> Tokens<'a> {
     }
 
     /// This key.
+    #[tactic(auto, using(crate::proofs::MarkBytes::key_taken))]
     pub fn key(&mut self, name: &[u8]) -> Result<(), Stop>
         ensures { IfOk result (λ _. self.old ≡ token.key name.now ∷ self.new) }
     {
@@ -214,6 +219,7 @@ impl<'a> Tokens<'a> {
 
     /// A text.
     #[inline(always)]
+    #[tactic(auto, using(crate::proofs::MarkBytes::text_taken))]
     pub fn text(&mut self) -> Result<&'a [u8], Stop>
         ensures { IfOk result (λ text. self.old ≡ token.string text.now ∷ self.new) }
     {
@@ -230,6 +236,7 @@ impl<'a> Tokens<'a> {
 
     /// A number that isn't below zero.
     #[inline(always)]
+    #[tactic(auto, using(crate::proofs::MarkBytes::whole_taken))]
     pub fn whole(&mut self) -> Result<u64, Stop>
         ensures { IfOk result (λ number. IsWhole self.old self.new number) }
     {
@@ -243,6 +250,7 @@ impl<'a> Tokens<'a> {
 
     /// A number.
     #[inline(always)]
+    #[tactic(auto, using(crate::proofs::MarkBytes::integer_taken))]
     pub fn integer(&mut self) -> Result<i64, Stop>
         ensures { IfOk result (λ number. IsInteger self.old self.new number) }
     {
@@ -256,6 +264,7 @@ impl<'a> Tokens<'a> {
 
     /// Whether null comes next, which is then taken.
     #[inline(always)]
+    #[tactic(auto, using(crate::proofs::MarkBytes::null_taken))]
     pub fn takes_null(&mut self) -> bool
         ensures { MatchBool result (self.old ≡ token.null ∷ self.new) (self.new ≡ self.old) }
     {
@@ -270,6 +279,7 @@ impl<'a> Tokens<'a> {
     }
 
     /// Whether no token is left.
+    #[tactic(auto, using(crate::proofs::MarkBytes::none_left))]
     pub fn are_over(&self) -> bool
         ensures { result ≡ true → self.now ≡ [] }
     {
