@@ -63,9 +63,12 @@ object_closes after_value xs h = refl
 object_closes after_comma xs h = absurd cc
 object_closes after_key xs h = absurd cc
 
-pub comma_passed : (xs : List ℕ) → tokens_at after_value (44 ∷ xs) ≡ tokens_at after_comma xs
+comma_on : (xs : List ℕ) → tokens_at after_value (44 ∷ xs) ≡ tokens_at after_comma xs
 unfolding lex punctuate
-comma_passed xs = refl
+comma_on xs = refl
+
+pub comma_passed : (bytes rest : List ℕ) → bytes ≡ 44 ∷ rest → tokens_at after_value bytes ≡ tokens_at after_comma rest
+comma_passed bytes rest is = ap (tokens_at after_value) is ∙ comma_on rest
 
 number_stands : (p : Place) (text : List ℕ) (ls : List Lexeme) → may_begin p ≡ true → punctuate p (token (Token.number text) ∷ ls) ≡ Token.number text ∷ punctuate after_value ls
 unfolding punctuate
@@ -193,12 +196,11 @@ plain_front [] = tt
 plain_front (c ∷ xs) = plain_by c xs (is_plain c) refl (plain_front xs)
 
 -- a quote, plain bytes and a quote are a string
-pub string_lexed : (bytes inside rest : List ℕ) → lex between bytes ≡ lex between (34 ∷ inside) → drop (prefix_len is_plain inside) inside ≡ 34 ∷ rest
-    → lex between bytes ≡ token (Token.string (take (prefix_len is_plain inside) inside)) ∷ lex between rest
-string_lexed bytes inside rest begins ends =
-    let text = take (prefix_len is_plain inside) inside in
-    let all = plain_front inside in
-    let whole : inside ≡ text ++ 34 ∷ rest = sym (take-append-drop (prefix_len is_plain inside) inside) ∙ ap (λ t. text ++ t) ends in
+pub string_lexed : (bytes inside text after rest : List ℕ) → lex between bytes ≡ lex between (34 ∷ inside) → text ≡ take (prefix_len is_plain inside) inside → after ≡ drop (prefix_len is_plain inside) inside
+    → after ≡ 34 ∷ rest → lex between bytes ≡ token (Token.string text) ∷ lex between rest
+string_lexed bytes inside text after rest begins is left ends =
+    let all : AllPlain text = subst AllPlain (sym is) (plain_front inside) in
+    let whole : inside ≡ text ++ 34 ∷ rest = sym (take-append-drop (prefix_len is_plain inside) inside) ∙ ap₂ (λ s t. s ++ t) (sym is) (sym left ∙ ends) in
     begins ∙ quote_lexed inside text (ap (content plain) whole ∙ contents text rest all) ∙ ap (λ ls. token (Token.string text) ∷ ls) (ap (lex in_string) whole ∙ string_passed text rest all)
 
 -- and a key before a colon

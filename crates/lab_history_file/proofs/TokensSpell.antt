@@ -48,7 +48,7 @@ begins_value depth (Token.null ∷ ts) p e = refl
 begins_value depth (Token.bad ∷ ts) p e = refl
 
 -- a value takes tokens
-pub shorter : (levels : ℕ) (old new : List Token) (d : Data) → Spells levels old new d → length new < length old
+shorter : (levels : ℕ) (old new : List Token) (d : Data) → Spells levels old new d → length new < length old
 shorter levels old new d s = skip_value-shorter levels old new (ap left (s.taken levels (omega arith)))
 
 -- a list ends
@@ -107,6 +107,9 @@ module _ {X : Type 0} (levels : ℕ) (Is : Data → X → Type 0) where
         each_appended before.0 xs d x before.1 s.stands,
         λ end more rest. subst (SpellItems levels old end) (sym (append_assoc before.0 (d ∷ []) more)) (before.2 end (d ∷ more) (one_item_more levels middle new end d more s.spells rest)),
       )
+
+  pub each_smaller : (old new : List Token) (x : X) → Spelled levels Is old new x → length new < length old
+  each_smaller old new x s = shorter levels old new s.tree s.spells
 
   pub each_listed : (old inside last new : List Token) (xs : List X) → old ≡ Token.begin_array ∷ inside → PassesEach levels Is inside last xs → last ≡ Token.end_array ∷ new → Spelled (suc levels) (IsListOf Is) old new xs
   each_listed old inside last new xs is all ends =

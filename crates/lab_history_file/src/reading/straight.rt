@@ -69,7 +69,8 @@ fn parts_of(alloc: Global, version: FileVersion, tokens: &mut Tokens<'_>) -> Res
     tokens.key(b"end")?;
     let end = entries_of::<Value>(alloc, version, tokens)?;
     tokens.key(b"format")?;
-    if tokens.text()? != b"hermitage-history".as_slice() {
+    let format = tokens.text()?;
+    if format != b"hermitage-history".as_slice() {
         return Err(Stop::Other);
     }
     tokens.key(b"initial")?;
@@ -79,7 +80,8 @@ fn parts_of(alloc: Global, version: FileVersion, tokens: &mut Tokens<'_>) -> Res
     tokens.key(b"transactions")?;
     let txns = txns_of(alloc, version, tokens)?;
     tokens.key(b"version")?;
-    if tokens.whole()? != number_of(version) {
+    let number = tokens.whole()?;
+    if number != number_of(version) {
         return Err(Stop::Other);
     }
     tokens.close_object()?;
@@ -192,6 +194,7 @@ fn ops_of(
     Ok(Ops::new(ops))
 }
 
+#[tactic(auto, using(lab_history::proofs::NewStates::new_states_sorted))]
 fn op_of(alloc: Global, version: FileVersion, tokens: &mut Tokens<'_>) -> Result<Op, Stop>
     ensures { IfOk result (λ op. Spelled 4 (IsOperation version) tokens.old tokens.new op) }
 {

@@ -283,6 +283,12 @@ impl<'a> Tokens<'a> {
     pub fn are_over(&self) -> bool
         ensures { result ≡ true → self.now ≡ [] }
     {
-        self.place.may_close() && behind_blanks(self.rest).is_empty()
+        if !self.place.may_close() {
+            return false;
+        }
+        match behind_blanks(self.rest).split_first() {
+            None => true,
+            Some(_) => false,
+        }
     }
 }
