@@ -72,7 +72,6 @@ pub fn behind(byte: u8, bytes: &[u8]) -> Option<&[u8]>
 
 /// The text of a string, and what stands behind it.
 #[inline(always)]
-#[tactic(auto, using(crate::proofs::MarkBytes::string_lexed))]
 pub fn string_at(bytes: &[u8]) -> Option<(&[u8], &[u8])>
     ensures { IfSome result (λ parts. lex between bytes.now ≡ lex.token (token.string parts.0.now) ∷ lex between parts.1.now) }
 {

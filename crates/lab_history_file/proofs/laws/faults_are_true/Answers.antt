@@ -1,5 +1,3 @@
-use Rattle.lab_history_file.proofs.PartsSpell.{text_read}
-use Rattle.lab_history_file.proofs.MembersSpell.{installed_spelled}
 use Rattle.lab_history_file.proofs.{Faultless.{faultless}, FaultsAreTrue.{fault_is_true}}
 use Rattle.lab_history_file.proofs.laws.faults_are_true.Goals as goal
 
