@@ -1,5 +1,5 @@
 import os,re,glob,sys
-top='/tmp/w/merged'; os.chdir(top)
+top='/tmp/w/int'; os.chdir(top)
 def lines(pat):
     n=0
     for r,d,f in os.walk(pat):
