@@ -1,13 +1,13 @@
 -- Of two faults that are true of a history, one comes before the other, or they are one.
-use Rattle.std.proofs.{Common.{◌≡◌, ℕ, suc, ◌<◌, ◌==◌, Bool, true, false, ◌||◌, cond, Some, List, [], ◌∷◌, inl, inr, refl, sym, ap, subst, ◌∙◌, arith}, lemmas.{Bool.{false≢true, eqb-true}, Option.{none-some}}}
-use Rattle.std.specs.{Prelude.{nat_le}, Ordering.{is_lt, ordering_reverse}, declared.cmp.Ordering.{Ordering, TheVariants.{Less, Equal, Greater}}}
+use Rattle.std.proofs.{Common.{◌≡◌, ℕ, suc, ◌<◌, ◌==◌, true, false, cond, Some, None, List, [], ◌∷◌, inl, inr, refl, sym, ap, subst, ◌∙◌, arith}, lemmas.{Bool.{eqb-true}, Option.{none-some, same_Some}}}
+use Rattle.std.specs.{Prelude.{nat_le, slice_get}, Ordering.{is_lt, ordering_reverse}, declared.cmp.Ordering.{Ordering, TheVariants.{Less, Equal, Greater}}}
 use Rattle.lab_table.specs.Row.{Row, row_cmp, rows_total, rows_apart}
 use Rattle.lab_history.specs.{History.{History}, Version.{IsCommitted, find_txn}, declared.transaction.Txn.{Txn}}
 use Rattle.lab_deps.specs.FaultKinds.{parts_of, op_fault, row_fault, fault_of}
 use Rattle.lab_deps.specs.Soundness.{Stands}
 use Rattle.lab_deps.specs.Refusal.{is_uncommitted_read, IsAnswer}
 use Rattle.lab_deps.specs.FaultOrder.{kind_place, where_is, place_among, ComesBefore, IsFirst}
-use Rattle.lab_deps.specs.declared.{fault.{FaultParts.{FaultParts}, LocalFault.{LocalFault}}, kind.{OpFault.{OpFault}, RowFault.{RowFault}}}
+use Rattle.lab_deps.specs.declared.{check.TheConstants.{KINDS}, fault.{FaultParts.{FaultParts}, LocalFault.{LocalFault}}, kind.{OpFault.{OpFault}, RowFault.{RowFault}}}
 use Rattle.lab_deps.specs.declared.fault.FaultParts.TheVariants as parts
 use Rattle.lab_deps.specs.declared.fault.LocalFault.TheVariants as fault
 use Rattle.lab_deps.specs.declared.kind.OpFault.TheVariants as kind
@@ -63,45 +63,35 @@ op_committed h kind.LaterThanOwn n k row stands = stands.1.0
 op_committed h kind.RowsDiffer n k row stands = stands.1.0
 op_committed h kind.WritesDiffer n k row stands = stands.1.0
 
--- the kinds at a place in their order
-abbrev op_kind_at : ℕ → OpFault
-op_kind_at p = cond (p == 0) kind.Dangling (cond (p == 2) kind.OwnWriteMissed (cond (p == 3) kind.LaterThanOwn (cond (p == 4) kind.RowsDiffer (cond (p == 5) kind.WritesDiffer (cond (p == 7) kind.AbortedRead kind.IntermediateRead)))))
+-- each kind stands at its place among those of faults at operations, and none at that of a kind of rows alone
+pub at_place : (kind : OpFault) → slice_get KINDS (op_place kind) ≡ Some (Some kind)
+at_place kind.Dangling = refl
+at_place kind.AbortedRead = refl
+at_place kind.IntermediateRead = refl
+at_place kind.OwnWriteMissed = refl
+at_place kind.LaterThanOwn = refl
+at_place kind.RowsDiffer = refl
+at_place kind.WritesDiffer = refl
+
+none_at : (kind : RowFault) → slice_get KINDS (row_place kind) ≡ Some None
+none_at row_kind.InstallOrder = refl
+none_at row_kind.EndDiffers = refl
+
+pub same_kind : (a b : OpFault) → op_place a ≡ op_place b → a ≡ b
+same_kind a b e = same_Some a b (same_Some (Some a) (Some b) (sym (at_place a) ∙ ap (slice_get KINDS) e ∙ at_place b))
+
+pub kinds_apart : (kind : OpFault) (other : RowFault) → op_place kind ≡ row_place other → ⊥
+kinds_apart kind other same = none-some kind (same_Some None (Some kind) (sym (none_at other) ∙ ap (slice_get KINDS) (sym same) ∙ at_place kind))
 
 abbrev row_kind_at : ℕ → RowFault
 row_kind_at p = cond (p == 1) row_kind.InstallOrder row_kind.EndDiffers
-
-op_kind_again : (kind : OpFault) → op_kind_at (op_place kind) ≡ kind
-op_kind_again kind.Dangling = refl
-op_kind_again kind.AbortedRead = refl
-op_kind_again kind.IntermediateRead = refl
-op_kind_again kind.OwnWriteMissed = refl
-op_kind_again kind.LaterThanOwn = refl
-op_kind_again kind.RowsDiffer = refl
-op_kind_again kind.WritesDiffer = refl
 
 row_kind_again : (kind : RowFault) → row_kind_at (row_place kind) ≡ kind
 row_kind_again row_kind.InstallOrder = refl
 row_kind_again row_kind.EndDiffers = refl
 
--- whether the kind at a place is one of rows alone
-abbrev is_of_row : ℕ → Bool
-is_of_row p = (p == 1) || (p == 6)
-
-op_not_of_row : (kind : OpFault) → is_of_row (op_place kind) ≡ false
-op_not_of_row kind.Dangling = refl
-op_not_of_row kind.AbortedRead = refl
-op_not_of_row kind.IntermediateRead = refl
-op_not_of_row kind.OwnWriteMissed = refl
-op_not_of_row kind.LaterThanOwn = refl
-op_not_of_row kind.RowsDiffer = refl
-op_not_of_row kind.WritesDiffer = refl
-
-row_of_row : (kind : RowFault) → is_of_row (row_place kind) ≡ true
-row_of_row row_kind.InstallOrder = refl
-row_of_row row_kind.EndDiffers = refl
-
-kinds_apart : (kind : OpFault) (other : RowFault) → op_place kind ≡ row_place other → ⊥
-kinds_apart kind other same = false≢true (sym (op_not_of_row kind) ∙ ap is_of_row same ∙ row_of_row other)
+pub same_row_kind : (a b : RowFault) → row_place a ≡ row_place b → a ≡ b
+same_row_kind a b e = sym (row_kind_again a) ∙ ap row_kind_at e ∙ row_kind_again b
 
 same_number : (a b : ℕ) → (a < b → ⊥) → (b < a → ⊥) → a ≡ b
 same_number a b p q = grind arith
@@ -115,7 +105,7 @@ one_row a b p q = at (row_cmp a b) refl
     at Greater e = absurd (q (ap is_lt (rows_total.antisymm b a ∙ ap ordering_reverse e)))
 
 -- transactions of a file at one place are one
-one_txn : (ts : List Txn) (n m : ℕ) (t u : Txn) → find_txn ts n ≡ Some t → find_txn ts m ≡ Some u → place_among ts n ≡ place_among ts m → n ≡ m
+pub one_txn : (ts : List Txn) (n m : ℕ) (t u : Txn) → find_txn ts n ≡ Some t → find_txn ts m ≡ Some u → place_among ts n ≡ place_among ts m → n ≡ m
 one_txn [] n m t u e f same = absurd (none-some t e)
 one_txn (v ∷ ts) n m t u e f same =
     elim (v.no == n) as (λ b. (v.no == n) ≡ b → cond b (Some v) (find_txn ts n) ≡ Some t → cond b 0 (suc (place_among ts n)) ≡ place_among (v ∷ ts) m → n ≡ m) [
@@ -174,12 +164,12 @@ module _ (h : History) where
       let b = op_told same m j other in
       let w = one_place n k row m j other (op_committed h kind n k row stands) (op_committed h same m j other also)
       (λ c. not_before (placed _ _ (n, k, row) (m, j, other) a.1 b.1 c)) (λ c. not_after (placed _ _ (m, j, other) (n, k, row) b.1 a.1 c)) in
-      let is : kind ≡ same = sym (op_kind_again kind) ∙ ap op_kind_at (sym a.0 ∙ kinds ∙ b.0) ∙ op_kind_again same in
+      let is : kind ≡ same = same_kind kind same (sym a.0 ∙ kinds ∙ b.0) in
       ap (λ x. op_fault x n k row) is ∙ ap (λ x. op_fault same x k row) w.0 ∙ ap (λ x. op_fault same m x row) w.1 ∙ ap (op_fault same m j) w.2
   one_made (parts.Row kind row) (parts.Row same other) kinds stands also not_before not_after =
       let a = row_told kind row in
       let b = row_told same other in
-      ap (λ x. row_fault x row) (sym (row_kind_again kind) ∙ ap row_kind_at (sym a.0 ∙ kinds ∙ b.0) ∙ row_kind_again same)
+      ap (λ x. row_fault x row) (same_row_kind kind same (sym a.0 ∙ kinds ∙ b.0))
       ∙ ap (row_fault same) (one_row row other (λ l. not_before (placed _ _ (0, 0, row) (0, 0, other) a.1 b.1 (inr (refl, inr (refl, l))))) (λ l. not_after (placed _ _ (0, 0, other) (0, 0, row) b.1 a.1 (inr (refl, inr (refl, l))))))
   one_made (parts.Operation kind n k row) (parts.Row apart other) kinds stands also not_before not_after = absurd (kinds_apart kind apart (sym (op_told kind n k row).0 ∙ kinds ∙ (row_told apart other).0))
   one_made (parts.Row kind row) (parts.Operation apart m j other) kinds stands also not_before not_after = absurd (kinds_apart apart kind (sym (op_told apart m j other).0 ∙ sym kinds ∙ (row_told kind row).0))

@@ -1,11 +1,11 @@
 -- What is excluded where each version that an operation sees is one that it may see.
-use Rattle.std.proofs.{Common.{◌≡◌, ℕ, ◌+◌, ◌==◌, Bool, true, false, not, ◌&&◌, ◌||◌, cond, Option, Some, None, List, refl, sym, ap, ◌∙◌, arith}, lemmas.{Bool.{false≢true, eqb-true, eq-eqb, and_parts, and_from, not-false}, Option.{none-some, same_Some}}}
-use Rattle.std.specs.{Prelude.{nat_le, nat_lt, is_none, is_some, option_map, option_and_then, unwrap_or}, FinMap.{find, get, entries, get-entries}}
+use Rattle.std.proofs.{Common.{◌≡◌, ℕ, ◌+◌, ◌==◌, Bool, true, false, not, ◌&&◌, ◌||◌, cond, Option, Some, None, refl, ap, ◌∙◌, subst, arith}, lemmas.{Bool.{false≢true, eqb-true, eq-eqb, and_parts, and_from}}}
+use Rattle.std.specs.{Prelude.{nat_le, nat_lt, is_none, is_some, option_and_then, unwrap_or}, FinMap.{FinMap, get, entries}}
 use Rattle.lab_table.specs.Row.{Row, row_cmp}
 use Rattle.lab_history.{specs.{History.{History}, Version.{IsCommitted, ops_of, outcome_of, viewed, new_state, version_state, last_write, installers, place_in, is_at}, declared.operation.{Op.{Op}, VersionName.{VersionName, TheVariants.{Initial, Of}}}}, proofs.Greatest.{last_is_greatest}}
-use Rattle.lab_deps.specs.{Soundness.{has_committed}, Broken.{is_dangling, has_aborted, is_aborted, is_other, is_intermediate, precedes, is_later, is_broken}, Passes.{first_value}, Fine.{is_last, is_own, is_clear, is_fine, is_unfine, IsCleanOp}}
+use Rattle.lab_deps.specs.{Soundness.{has_committed}, Broken.{is_dangling, has_aborted, is_aborted, is_other, is_intermediate, precedes, is_later, breaks_at}, FirstOf.{IsLeastRow, HasPassing, first_value}, Fine.{is_last, is_own, is_clear, is_fine, is_unfine, IsFineView}, declared.kind.OpFault.{OpFault}}
 use Rattle.lab_deps.specs.declared.kind.OpFault.TheVariants as kind
-use Rattle.lab_deps.proofs.{Rows.{no_value_in_map, value_in_map}, Found.{committed}}
+use Rattle.lab_deps.proofs.{FirstOf.{value_least}, Found.{committed}}
 
 -- no fault of what is seen stands
 abbrev IsRead : History → ℕ → ℕ → Row → VersionName → Type 0
@@ -69,7 +69,7 @@ module _ (h : History) (n k : ℕ) (row : Row) where
       ] refl t
 
   -- what may be seen may be seen by the next operation too
-  pub fine_next : (v : VersionName) → is_fine h n k row v ≡ true → is_fine h n (k + 1) row v ≡ true
+  fine_next : (v : VersionName) → is_fine h n k row v ≡ true → is_fine h n (k + 1) row v ≡ true
   fine_next Initial t = refl
   fine_next (Of m j) t =
       elim (m == n) as (λ b. cond b (is_own h m j k row) (is_last h m j row && is_clear h n m row) ≡ true → cond b (is_own h m j (k + 1) row) (is_last h m j row && is_clear h n m row) ≡ true) [
@@ -82,41 +82,33 @@ module _ (h : History) (n k : ℕ) (row : Row) where
       later : (j k : ℕ) → nat_lt j k ≡ true → nat_lt j (k + 1) ≡ true
       later j k t = grind arith
 
--- what is seen again is known where what the operation before saw is
-pub known_again : (before : Option Op) (op : Op) (known : List (Row × VersionName)) → option_map (λ b. b.view) before ≡ Some op.view → ((b : Op) → before ≡ Some b → entries b.view ≡ known)
-    → (row : Row) (v : VersionName) → get op.view row ≡ Some v → find row_cmp row known ≡ Some v
-known_again None op known again seen row v e = absurd (none-some op.view again)
-known_again (Some b) op known again seen row v e =
-    ap (find row_cmp row) (sym (seen b refl)) ∙ (sym (get-entries b.view row) ∙ (ap (λ view. get view row) (same_Some b.view op.view again) ∙ e))
+  -- so no test of a version that is seen is true
+  fine_breaks : (v : VersionName) → IsRead h n k row v → (kind : OpFault) → breaks_at kind h n k row v ≡ false
+  fine_breaks v read kind.Dangling = read.0
+  fine_breaks v read kind.AbortedRead = read.1
+  fine_breaks v read kind.IntermediateRead = read.2
+  fine_breaks v read kind.OwnWriteMissed = refl
+  fine_breaks v read kind.LaterThanOwn = read.3
+  fine_breaks v read kind.RowsDiffer = refl
+  fine_breaks v read kind.WritesDiffer = refl
 
--- where each version of a view may be seen none is found that may not
-pub all_fine : (h : History) (n k : ℕ) (op : Op) → ((row : Row) (v : VersionName) → get op.view row ≡ Some v → is_fine h n k row v ≡ true) → first_value (is_unfine h n k) (entries op.view) ≡ None
-all_fine h n k op fine =
-    elim (first_value (is_unfine h n k) (entries op.view)) as (λ o. first_value (is_unfine h n k) (entries op.view) ≡ o → o ≡ None) [
-      | None ↦ λ _. refl
-      | Some row ↦ λ e.
-          let found = value_in_map (is_unfine h n k) op.view row e in
-          absurd (false≢true (ap not (sym (fine row found.0 found.1)) ∙ found.2))
-    ] refl
+module _ (h : History) (n k : ℕ) where
+  -- where none of a view is found that may not be seen, each may
+  pub all_fine : (view : FinMap row_cmp VersionName) → first_value (is_unfine h n k) (entries view) ≡ None → IsFineView h n k view
+  all_fine view none row v e =
+      elim (is_fine h n k row v) as (λ b. is_fine h n k row v ≡ b → b ≡ true) [
+        | true ↦ λ _. refl
+        | false ↦ λ off. absurd (subst (IsLeastRow (HasPassing (is_unfine h n k) view)) none (value_least (is_unfine h n k) view) row (v, e, ap not off))
+      ] refl
 
-module _ (h : History) (n k : ℕ) (op : Op) (c : IsCommitted h n) (none : first_value (is_unfine h n k) (entries op.view) ≡ None) where
-  -- each version of the view may be seen
-  pub view_fine : (row : Row) (v : VersionName) → get op.view row ≡ Some v → is_fine h n k row v ≡ true
-  view_fine row v e = not-false (is_fine h n k row v) (no_value_in_map (is_unfine h n k) op.view row v none e)
+  -- and the view may be seen by the next operation too
+  pub next_fine : (view : FinMap row_cmp VersionName) → IsFineView h n k view → IsFineView h n (k + 1) view
+  next_fine view fine row v e = fine_next h n k row v (fine row v e)
 
-  seen_fine : (row : Row) (o : Option VersionName) → get op.view row ≡ o → is_fine h n k row (unwrap_or o Initial) ≡ true
-  seen_fine row None e = refl
-  seen_fine row (Some v) e = view_fine row v e
-
-  read : (row : Row) → IsRead h n k row (viewed op row)
-  read row = fine_read h n k row (viewed op row) c (seen_fine row (get op.view row) refl)
-
-  -- so no fault stands where it also sees what its own transaction wrote, and what is listed and written is due
-  pub clean_op : ((row : Row) → is_broken kind.OwnWriteMissed h n k op row ≡ false) → ((row : Row) → is_broken kind.RowsDiffer h n k op row ≡ false) → ((row : Row) → is_broken kind.WritesDiffer h n k op row ≡ false) → IsCleanOp h n k op
-  clean_op own rows writes kind.Dangling row = (read row).0
-  clean_op own rows writes kind.AbortedRead row = (read row).1
-  clean_op own rows writes kind.IntermediateRead row = (read row).2
-  clean_op own rows writes kind.OwnWriteMissed row = own row
-  clean_op own rows writes kind.LaterThanOwn row = (read row).3
-  clean_op own rows writes kind.RowsDiffer row = rows row
-  clean_op own rows writes kind.WritesDiffer row = writes row
+  -- what an operation sees that has such a view breaks nothing
+  pub view_breaks : (op : Op) → IsCommitted h n → IsFineView h n k op.view → (kind : OpFault) (row : Row) → breaks_at kind h n k row (viewed op row) ≡ false
+  view_breaks op c fine kind row = fine_breaks h n k row (viewed op row) (fine_read h n k row (viewed op row) c (seen (get op.view row) refl)) kind
+    where
+      seen : (o : Option VersionName) → get op.view row ≡ o → is_fine h n k row (unwrap_or o Initial) ≡ true
+      seen None e = refl
+      seen (Some v) e = fine row v e

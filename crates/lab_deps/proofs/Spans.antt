@@ -3,7 +3,7 @@ use Rattle.std.proofs.{Common.{◌≡◌, ℕ, ℤ, zero, suc, ◌+◌, ◌≤�
 use Rattle.std.specs.{Prelude.{nat_lt, slice_index_or, filter}, Ordering.{is_gt}, List.{prefix_len}, Cmp.Lexicographic.{nat_list_eq_equiv}, FinMap.{is_sorted}}
 use Rattle.lab_table.{specs.{Row.{Row, row_cmp}, TableName.{table_name_eq}, Running.{comes_after}, Statement.{may_match}, declared.statement.Statement.{Statement}}, proofs.{RowOrder.{in_one_table, behind_greater}, Searching.{parted}}}
 use Rattle.lab_history.specs.declared.operation.Op.{Op}
-use Rattle.lab_deps.{specs.{Broken.{is_unlisted}, Passes.{first_value}}, proofs.{OwnTable.{own_table}, RuledOut.{may_be_unlisted}}}
+use Rattle.lab_deps.{specs.{Broken.{is_unlisted}, FirstOf.{first_value}}, proofs.{OwnTable.{own_table}, RuledOut.{may_be_unlisted}}}
 
 -- of rows of one table that with the greater number comes behind
 behind_in_table : (row other : Row) → other.table ≡ row.table → is_gt (row_cmp row other) ≡ nat_lt other.id row.id

@@ -1,14 +1,13 @@
 -- Tests of what an operation sees that exclude several kinds of faults at once.
-use Rattle.std.specs.Prelude.{◌≡◌, ℕ, suc, ◌==◌, nat_lt, Bool, true, false, not, ◌&&◌, cond, Some, is_some, List, slice_get}
-use Rattle.lab_table.specs.Row.{Row}
+use Rattle.std.specs.Prelude.{◌≡◌, ℕ, ◌==◌, nat_lt, Bool, true, not, ◌&&◌, cond, Some, is_some}
+use Rattle.std.specs.FinMap as map
+use Rattle.lab_table.specs.Row.{Row, row_cmp}
 use Rattle.lab_history.specs.History.{History}
 use Rattle.lab_history.specs.Version.{ops_of, outcome_of, version_state, last_write, installers, place_in, is_at}
-use Rattle.lab_history.specs.declared.operation.Op.{Op}
 use Rattle.lab_history.specs.declared.operation.VersionName.{VersionName}
 use Rattle.lab_history.specs.declared.operation.VersionName.TheVariants.{Initial, Of}
-use Rattle.lab_deps.specs.Soundness.{IsCommittedOp, has_committed}
-use Rattle.lab_deps.specs.Broken.{precedes, is_broken}
-use Rattle.lab_deps.specs.declared.kind.OpFault.{OpFault}
+use Rattle.lab_deps.specs.Soundness.{has_committed}
+use Rattle.lab_deps.specs.Broken.{precedes}
 
 -- whether an operation of a committed transaction is the transaction's last that writes a row
 abbrev pub is_last : History → ℕ → ℕ → Row → Bool
@@ -31,14 +30,6 @@ is_fine h n k row (Of m j) = cond (m == n) (is_own h m j k row) (is_last h m j r
 abbrev pub is_unfine : History → ℕ → ℕ → Row → VersionName → Bool
 is_unfine h n k row v = not (is_fine h n k row v)
 
--- no fault of any kind stands at an operation
-abbrev pub IsCleanOp : History → ℕ → ℕ → Op → Type 0
-IsCleanOp h n k op = (kind : OpFault) (row : Row) → is_broken kind h n k op row ≡ false
-
--- nor at one of a transaction's
-abbrev pub IsCleanTxn : History → ℕ → Type 0
-IsCleanTxn h n = (k : ℕ) (op : Op) → IsCommittedOp h n k op → IsCleanOp h n k op
-
--- no fault of any kind stands at any of these operations of a transaction, which are numbered from one
-abbrev pub AreClean : History → ℕ → List Op → Type 0
-AreClean h n ops = (p : ℕ) (op : Op) → slice_get ops p ≡ Some op → IsCleanOp h n (suc p) op
+-- each version of a view is one that an operation may see
+abbrev pub IsFineView : History → ℕ → ℕ → map.FinMap row_cmp VersionName → Type 0
+IsFineView h n k view = (row : Row) (v : VersionName) → map.get view row ≡ Some v → is_fine h n k row v ≡ true

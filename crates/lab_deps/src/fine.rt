@@ -2,12 +2,11 @@
 //!
 //! A version that the operation before saw too isn't looked at again.
 
-ghost use Rattle.std.specs.Prelude.{◌≡◌, ◌↔◌, true, None, Some, T, is_some, IsTrue};
+ghost use Rattle.std.specs.Prelude.{◌≡◌, ◌↔◌, true, Some, T, is_some, IsTrue};
 ghost use Rattle.std.specs.FinMap as map;
 ghost use Rattle.lab_table.specs.Row.{Row, row_cmp};
 ghost use Rattle.lab_history.specs.declared.operation.VersionName.{VersionName as Named};
 ghost use Rattle.lab_deps.specs.Fine as fine;
-ghost use Rattle.lab_deps.specs.Passes.{first_value};
 
 use crate::broken::precedes;
 use crate::lookup::{Hints, is_last, version_state_near};
@@ -15,20 +14,25 @@ use crate::near::value_near;
 use lab_history::{History, Op, VersionName};
 use lab_table::{RowName, TxnNo};
 
-/// Whether each version that an operation of a transaction sees is found to be one that it may see. What is known are
-/// versions that it may see.
+/// Whether each version that an operation of a transaction sees is found to be one that it may see. That may be known, as
+/// may some such versions.
 pub fn sees_fine(
     history: &History,
     txn: TxnNo,
     number: u32,
     known: &[(RowName, VersionName)],
+    again: bool,
     op: &Op,
     hints: &mut Hints,
 ) -> bool
+    requires again { again ≡ true → fine.IsFineView history.now txn number op.now.view }
     requires sorted { T (map.is_sorted row_cmp known.now) }
     requires known { (row : Row) (v : Named) → map.find row_cmp row known.now ≡ Some v → fine.is_fine history.now txn number row v ≡ true }
-    ensures { result ≡ true → first_value (fine.is_unfine history.now txn number) (map.entries op.now.view) ≡ None }
+    ensures { result ≡ true → fine.IsFineView history.now txn number op.now.view }
 {
+    if again {
+        return true;
+    }
     let mut near = 0;
     let entries = op.view.entries();
     for entry in entries {

@@ -9,9 +9,10 @@ ghost use Rattle.lab_history.specs.Version.{find_txn, op_at, version_state, last
 ghost use Rattle.lab_history.specs.VersionName.{state_value};
 ghost use Rattle.lab_deps.specs.Fine.{is_last};
 
-use crate::near::value_near;
+use crate::near::{likely_place, value_near};
 use lab_history::{Hint, History, Op, Outcome, State, Txn, VersionName};
-use lab_table::{RowName, TxnNo};
+use lab_table::{RowName, TxnNo, Value};
+use std::cell::Cell;
 
 /// Where the next look-ups are likely to find what they look for.
 #[derive(Clone, Copy)]
@@ -34,6 +35,31 @@ impl Hints {
             seen: Hint::new(),
             last: Hint::new(),
             written: 0,
+        }
+    }
+}
+
+/// Where the next rows of an operation are looked for first. The tests of its rows share it.
+#[derive(Drop)]
+pub struct Near {
+    /// Among those that it lists.
+    pub listed: Cell<usize>,
+    /// Among those that it sees.
+    pub seen: Cell<usize>,
+    /// Among those that it writes, or that the operations write whose versions it sees.
+    pub written: Cell<usize>,
+    /// Among those of the initial table.
+    pub initial: Cell<usize>,
+}
+
+impl Near {
+    /// Where the first rows are looked for.
+    pub fn new() -> Near {
+        Near {
+            listed: Cell::new(0),
+            seen: Cell::new(0),
+            written: Cell::new(0),
+            initial: Cell::new(0),
         }
     }
 }
@@ -81,8 +107,36 @@ pub fn version_state_near(
     }
 }
 
+/// What an operation lists of a row, looked for at a place first, which is then where a greater row is looked for.
+pub fn listed_near(op: &Op, row: RowName, near: &Cell<usize>) -> Option<Value>
+    ensures { result ≡ map.get op.now.rows row }
+{
+    let found = value_near(op.rows.entries(), near.get(), row);
+    near.set(found.1);
+    found.0
+}
+
+/// The version that an operation sees of a row, looked for in the same way.
+pub fn seen_near(op: &Op, row: RowName, near: &Cell<usize>) -> Option<VersionName>
+    ensures { result ≡ map.get op.now.view row }
+{
+    let found = value_near(op.view.entries(), near.get(), row);
+    near.set(found.1);
+    found.0
+}
+
+/// The value of a row in the initial table, looked for where it is likely to stand.
+pub fn initial_near(history: &History, row: RowName, near: &Cell<usize>) -> Option<Value>
+    ensures { result ≡ map.get history.now.initial row }
+{
+    let initial = history.initial().rows();
+    let found = value_near(initial, likely_place(initial, near.get(), row), row);
+    near.set(found.1);
+    found.0
+}
+
 /// What an operation writes to a row, looked for at a place first, and at the one before.
-fn written_near(op: &Op, row: RowName, near: &mut usize) -> Option<State>
+pub fn written_near(op: &Op, row: RowName, near: &mut usize) -> Option<State>
     ensures { option_map state_value result ≡ map.get op.now.writes row }
 {
     let entries = op.writes.entries();

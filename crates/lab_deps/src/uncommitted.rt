@@ -1,16 +1,14 @@
 //! Reads of what was never committed.
 
-ghost use Rattle.std.specs.Prelude.{◌≡◌, ℕ, None, IfSome, option_and_then};
+ghost use Rattle.std.specs.Prelude.{◌≡◌, ℕ, None, IfSome};
 ghost use Rattle.lab_table.specs.Row.{Row};
-ghost use Rattle.lab_deps.specs.Passes as pass;
 ghost use Rattle.lab_deps.specs.Soundness.{Stands};
-ghost use Rattle.lab_deps.specs.FaultOrder.{IsFirstRead};
-ghost use Rattle.lab_deps.specs.Uncommitted.{read_of};
+ghost use Rattle.lab_deps.specs.FaultOrder.{ComesBefore, IsFirstRead};
+ghost use Rattle.lab_deps.specs.Search.{IsTestedAt};
 ghost use Rattle.lab_deps.specs.declared.fault.LocalFault.TheVariants as fault;
 
-use crate::fault::{FaultParts, LocalFault};
 use crate::kind::OpFault;
-use crate::passes::fault_in;
+use crate::search::first_at_ops;
 use lab_history::History;
 use lab_table::{RowName, TxnNo};
 
@@ -29,7 +27,7 @@ pub fn first_aborted_read(history: &History) -> Option<Read>
     ensures first { IfSome result (λ read. IsFirstRead history.now fault.AbortedRead read.txn read.op read.row) }
     ensures none { result ≡ None → (n k : ℕ) (row : Row) → ¬ Stands history.now (fault.AbortedRead n k row) }
 {
-    first_read(history, OpFault::AbortedRead)
+    first_of_kind(history, OpFault::AbortedRead)
 }
 
 /// The first operation of a committed transaction that sees another's version that isn't that one's last of the row,
@@ -39,23 +37,19 @@ pub fn first_intermediate_read(history: &History) -> Option<Read>
     ensures first { IfSome result (λ read. IsFirstRead history.now fault.IntermediateRead read.txn read.op read.row) }
     ensures none { result ≡ None → (n k : ℕ) (row : Row) → ¬ Stands history.now (fault.IntermediateRead n k row) }
 {
-    first_read(history, OpFault::IntermediateRead)
+    first_of_kind(history, OpFault::IntermediateRead)
 }
 
-/// The place of the first fault of this kind, where it is such a read.
-fn first_read(history: &History, kind: OpFault) -> Option<Read>
-    ensures { result ≡ option_and_then read_of (pass.fault_in kind history.now) }
+/// The first fault of a kind at an operation.
+fn first_of_kind(history: &History, kind: OpFault) -> Option<Read>
+    ensures found { IfSome result (λ read. IsTestedAt history.now kind read.txn read.op read.row) }
+    ensures first { IfSome result (λ read. (n k : ℕ) (row : Row) → IsTestedAt history.now kind n k row → ComesBefore history.now (n, k, row) (read.txn, read.op, read.row) → ⊥) }
+    ensures none { result ≡ None → (n k : ℕ) (row : Row) → IsTestedAt history.now kind n k row → ⊥ }
 {
-    let fault = fault_in(history, kind)?;
-    read_at(fault)
-}
-
-/// The place of a fault at an operation.
-fn read_at(fault: LocalFault) -> Option<Read>
-    ensures { result ≡ read_of fault }
-{
-    match fault.parts() {
-        FaultParts::Operation { txn, op, row, .. } => Some(Read { txn, op, row }),
-        FaultParts::Row { .. } => None,
-    }
+    let found = first_at_ops(history, &[Some(kind)])?;
+    Some(Read {
+        txn: found.txn,
+        op: found.op,
+        row: found.row,
+    })
 }

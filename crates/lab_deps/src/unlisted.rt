@@ -2,26 +2,26 @@
 //!
 //! Where the statement names the rows that it may match by their numbers, these rows of its table alone are looked at.
 
-ghost use Rattle.std.specs.Prelude.{◌≡◌, ◌≢◌, ℕ, pos, None, IfSome, [], ◌∷◌};
+ghost use Rattle.std.specs.Prelude.{◌≡◌, ◌≢◌, ℕ, pos, true, None, IfSome};
+ghost use Rattle.std.specs.Ordering.{int_eq};
 ghost use Rattle.std.specs.FinMap as map;
-ghost use Rattle.lab_table.specs.Row.{numbered};
+ghost use Rattle.lab_table.specs.Row.{id_of};
+ghost use Rattle.lab_table.specs.NamedRow.{has_number};
 ghost use Rattle.lab_deps.specs.Broken as test;
-ghost use Rattle.lab_deps.specs.Passes as pass;
+ghost use Rattle.lab_deps.specs.FirstOf.{IsLeastRow, first_value};
 
-use crate::broken::is_unlisted;
+use crate::effect::is_same;
+use crate::lookup::{Near, listed_near, seen_near};
 use crate::near::entry_within;
 use crate::row::{first_entry, least};
 use crate::span::within;
 use lab_history::{History, Op};
 use lab_table::{RowName, Value};
 
-/// The first row of the initial table that an operation's view lacks, and that matches without being listed so.
+/// The least row of the initial table that an operation's view lacks, and that matches without being listed so.
 pub fn unlisted_row(history: &History, op: &Op) -> Option<RowName>
-    ensures { result ≡ pass.first_value (test.is_unlisted op.now) (map.entries history.now.initial) }
+    ensures { IsLeastRow (test.IsUnlisted history.now op.now) result }
 {
-    if let Some(row) = op.statement.named_row() {
-        return unlisted_itself(history, op, row);
-    }
     match op.statement.named_ids() {
         None => first_unlisted(history, op),
         Some(numbers) => unlisted_among(history, op, numbers),
@@ -30,58 +30,32 @@ pub fn unlisted_row(history: &History, op: &Op) -> Option<RowName>
 
 /// The same, where all rows between the statement's bounds are looked at.
 fn first_unlisted(history: &History, op: &Op) -> Option<RowName>
-    ensures { result ≡ pass.first_value (test.is_unlisted op.now) (map.entries history.now.initial) }
+    ensures { result ≡ first_value (test.is_unlisted op.now) (map.entries history.now.initial) }
 {
+    let near = Near::new();
     let entries = within(&op.statement, history.initial().rows());
-    first_entry(entries, |row, value| is_unlisted(op, row, value))
+    first_entry(entries, |row, value| is_unlisted(op, row, value, &near))
 }
 
-/// This row, where the initial table has it so.
-fn unlisted_itself(history: &History, op: &Op, row: RowName) -> Option<RowName>
-    ensures { result ≡ pass.unlisted_itself history.now op.now row }
-{
-    let value = history.initial().get(row)?;
-    if is_unlisted(op, row, value) {
-        Some(row)
-    } else {
-        None
-    }
-}
-
-/// The row of this number in the statement's table, where the initial table has it so.
-fn unlisted_at(history: &History, op: &Op, id: u32) -> Option<RowName>
-    ensures { result ≡ pass.unlisted_itself history.now op.now (numbered op.now.statement.table id) }
-{
-    match entry_within(history.initial().rows(), op.statement.table, id) {
-        None => None,
-        Some(entry) => {
-            if is_unlisted(op, entry.0, entry.1) {
-                Some(entry.0)
-            } else {
-                None
-            }
-        }
-    }
-}
-
-/// The first of the rows with these numbers that is so. It is one of the statement's table, as no other matches.
+/// The least of the rows with these numbers that is so.
 fn unlisted_among(history: &History, op: &Op, numbers: &[Value]) -> Option<RowName>
-    ensures { result ≡ pass.first_value (pass.is_unlisted_among op.now numbers.now) (map.entries history.now.initial) }
+    ensures { IsLeastRow (λ row. test.IsUnlisted history.now op.now row × (has_number numbers.now row ≡ true)) result }
 {
+    let near = Near::new();
     let mut found = None;
     for number in numbers {
-        found = least(found, unlisted_numbered(history, op, *number));
+        found = least(found, unlisted_numbered(history, op, *number, &near));
     }
     found
 }
 
-fn unlisted_numbered(history: &History, op: &Op, number: Value) -> Option<RowName>
-    ensures { result ≡ pass.first_value (pass.is_unlisted_among op.now (number ∷ [])) (map.entries history.now.initial) }
+/// The row with this number that is so. It is one of the statement's table, as no other matches.
+fn unlisted_numbered(history: &History, op: &Op, number: Value, near: &Near) -> Option<RowName>
+    ensures { IsLeastRow (λ row. test.IsUnlisted history.now op.now row × (int_eq (id_of row) number ≡ true)) result }
 {
-    match row_number(number) {
-        None => None,
-        Some(id) => unlisted_at(history, op, id),
-    }
+    let id = row_number(number)?;
+    let entry = entry_within(history.initial().rows(), op.statement.table, id)?;
+    is_unlisted(op, entry.0, entry.1, near).then_some(entry.0)
 }
 
 /// The number as a row's, where it is none below 0.
@@ -90,4 +64,14 @@ fn row_number(number: Value) -> Option<u32>
     ensures none { result ≡ None → (id : ℕ) → pos id ≢ number }
 {
     u32::try_from(number.number()).ok()
+}
+
+/// Whether a row of the initial table that the view lacks matches, and the operation doesn't list it so.
+fn is_unlisted(op: &Op, row: RowName, value: Value, near: &Near) -> bool
+    ensures { result ≡ test.is_unlisted op.now row value }
+{
+    let due = op.statement.listed(row, Some(value));
+    due.is_some()
+        && !is_same(listed_near(op, row, &near.listed), due)
+        && seen_near(op, row, &near.seen).is_none()
 }

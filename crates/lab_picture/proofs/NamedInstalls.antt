@@ -1,15 +1,24 @@
 -- Where a row's installers aren't its committed writers, one is found to be out of place, and is.
-use Rattle.std.proofs.{Common.{◌≡◌, ℕ, zero, suc, ◌+◌, ◌≤◌, ◌==◌, Bool, true, false, cond, Option, Some, None, List, [], ◌∷◌, refl, sym, ap, ◌∙◌, subst, arith, inl, inr}, lemmas.{Bool.{false≢true, eqb-true, eq-eqb, and_parts, and_from}, Option.{none-some, same_Some}}}
-use Rattle.std.specs.Prelude.{slice_get, is_none, codes}
+use Rattle.std.proofs.{Common.{◌≡◌, ℕ, zero, suc, ◌+◌, ◌≤◌, ◌==◌, Bool, true, false, cond, Option, Some, None, List, [], ◌∷◌, refl, sym, ap, ◌∙◌, ◌⊎◌, subst, arith, inl, inr}, lemmas.{Bool.{false≢true, eqb-true, eq-eqb, and_parts, and_from}, Option.{none-some, same_Some}}}
+use Rattle.std.specs.{Prelude.{slice_get, is_none, codes}, Option.{option_or}}
 use Rattle.lab_table.specs.Row.{Row}
 use Rattle.lab_history.specs.{History.{History}, Version.{find_txn, installers, outcome_of, place_in, writes_row, is_at, is_missing}, declared.transaction.Txn.{Txn}}
 use Rattle.lab_deps.specs.{FaultOrder.{IsFirst}, Soundness.{InstallsOther, has_committed, is_writer}, declared.fault.LocalFault.TheVariants.{InstallOrder}}
-use Rattle.lab_deps.proofs.{BrokenStands.{decides_none}, Found.{committed, committed_there, either_found, neither_found}, Places.{times, times_count, at_times, apart_times, at_most_once, place_there, no_place, next, here, start}}
+use Rattle.lab_deps.proofs.{BrokenStands.{decides_none}, Found.{committed, committed_there}, Places.{times, times_count, at_times, apart_times, at_most_once, place_there, no_place, next, here, start}}
 use Rattle.lab_judge.specs.{Judgement.{IsSerialVerdict, IsExactJudgement}, ReportText.{line_text, serial_text}, declared.{report.Report.{Report}, serial.Serial.TheVariants.{NoFault}}}
 use Rattle.lab_picture.specs.Installs.{is_left_out, first_left_out, misplaced_at, wrong_at, first_wrong, misplaced_of, misplaced_text}
 use Rattle.lab_picture.specs.InstallLaws.{IsOut, NamesOut, times_installed}
 use Rattle.lab_picture.specs.Sketch.{of_installs, of_serial, drawing_of}
 use Rattle.lab_picture.specs.declared.installs.{Misplaced.{Misplaced}, Why.{Why, TheVariants.{Missing, Unwritten, Repeated}}}
+
+-- what is the first of two that is there
+either_found : {A : Type 0} (a b : Option A) (x : A) → option_or a b ≡ Some x → (a ≡ Some x) ⊎ ((a ≡ None) × (b ≡ Some x))
+either_found None b x e = inr (refl, e)
+either_found (Some y) b x e = inl e
+
+neither_found : {A : Type 0} (a b : Option A) → option_or a b ≡ None → (a ≡ None) × (b ≡ None)
+neither_found None b e = (refl, e)
+neither_found (Some y) b e = absurd (none-some y (sym e))
 
 -- a place that is found is that one
 is_the_place : (o : Option ℕ) (p : ℕ) → is_at o p ≡ true → o ≡ Some p

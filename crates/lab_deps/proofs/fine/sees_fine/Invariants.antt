@@ -1,5 +1,5 @@
 use Rattle.std.{proofs.Common.{◌≡◌, drop}, specs.FinMap.{entries}}
-use Rattle.lab_deps.specs.{Fine.{is_unfine}, Passes.{first_value}}
+use Rattle.lab_deps.specs.{Fine.{is_unfine}, FirstOf.{first_value}}
 use Rattle.lab_deps.proofs.fine.sees_fine.Given as goal
 
 -- the row is found among the entries that are left as among all

@@ -1,6 +1,6 @@
 use Rattle.std.proofs.Common.{◌≡◌, Bool, drop}
 use Rattle.lab_table.specs.Row.{Row}
-use Rattle.lab_deps.specs.Passes.{first_entry}
+use Rattle.lab_deps.specs.FirstOf.{first_entry}
 use Rattle.lab_deps.proofs.row.first_row.Given as goal
 
 -- the row is found among the entries that are left as among all

@@ -1,5 +1,5 @@
 use Rattle.std.{proofs.Common.{◌∙◌}, specs.FinMap.{entries}}
-use Rattle.lab_deps.proofs.Rows.{first_states}
+use Rattle.lab_deps.proofs.FirstOf.{first_states}
 use Rattle.lab_deps.proofs.row.first_written.Goals as goal
 
 pub returns : goal.returns

@@ -1,6 +1,6 @@
 use Rattle.std.{proofs.Common.{rules, T, ◌∙◌, sym, ap, subst}, specs.FinMap.{entries, entries_sorted, is_sorted}}
 use Rattle.lab_table.specs.Row.{row_cmp}
-use Rattle.lab_deps.{specs.{Broken.{is_unlisted}, Passes.{first_value}}, proofs.Spans.{unlisted_within}}
+use Rattle.lab_deps.{specs.{Broken.{is_unlisted}, FirstOf.{first_value}}, proofs.Spans.{unlisted_within}}
 use Rattle.lab_deps.proofs.unlisted.first_unlisted.Goals as goal
 
 pub within-entries-requires : goal.within-entries-requires

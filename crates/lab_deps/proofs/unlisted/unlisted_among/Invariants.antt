@@ -1,7 +1,7 @@
-use Rattle.std.{proofs.Common.{◌≡◌, take}, specs.FinMap.{entries}}
-use Rattle.lab_deps.specs.Passes.{first_value, is_unlisted_among}
+use Rattle.std.proofs.Common.{take}
+use Rattle.lab_deps.{specs.FirstOf.{IsLeastRow}, proofs.NamedIds.{Within}}
 use Rattle.lab_deps.proofs.unlisted.unlisted_among.Given as goal
 
--- the row among those with the numbers so far
+-- the least row with one of the numbers so far
 abbrev pub invariant-loop-number : goal.invariant-loop-number
-invariant-loop-number l = l.found ≡ first_value (is_unlisted_among l.op (take l.number-index l.numbers)) (entries l.history.initial)
+invariant-loop-number l = IsLeastRow (Within l.history l.op (take l.number-index l.numbers)) l.found

@@ -1,9 +1,9 @@
-use Rattle.std.proofs.Common.{sym, ◌∙◌}
-use Rattle.lab_deps.proofs.{NamedIds.{among_all}, RuledOut.{unlisted_at_row}}
+use Rattle.std.{proofs.Common.{sym, subst}}
+use Rattle.lab_deps.{specs.{Broken.{is_unlisted, IsUnlisted}, FirstOf.{IsLeastRow}}, proofs.{FirstOf.{value_least}, NamedIds.{among_all}}}
 use Rattle.lab_deps.proofs.unlisted.unlisted_row.Goals as goal
 
-pub returns-in-Some : goal.returns-in-Some
-returns-in-Some c = c.unlisted_itself.ensures ∙ sym (unlisted_at_row c.args.history.now c.args.op.now c.in-Some.row c.in-Some.ensures.only)
+pub returns-in-None : goal.returns-in-None
+returns-in-None c = subst (IsLeastRow (IsUnlisted c.args.history.now c.args.op.now)) (sym c.first_unlisted.ensures) (value_least (is_unlisted c.args.op.now) c.args.history.now.initial)
 
-pub returns-in-Some-named_ids : goal.returns-in-Some-named_ids
-returns-in-Some-named_ids c = c.unlisted_among.ensures ∙ among_all c.args.history.now c.args.op.now c.in-Some-named_ids.numbers.now c.in-Some-named_ids.ensures.only
+pub returns-in-Some : goal.returns-in-Some
+returns-in-Some c = among_all c.args.history.now c.args.op.now c.in-Some.numbers.now c.unlisted_among.result c.in-Some.ensures.only c.unlisted_among.ensures
