@@ -2,7 +2,7 @@
 use Rattle.std.proofs.{Common.{◌≡◌, ℕ, ◌<◌, ◌+◌, ⊎_elim, List, [], ◌∷◌, ◌++◌, length, drop, get_or, Some, refl, suc, arith, Result, Ok, Err, sym, ap, subst, ◌∙◌, append_assoc, append-nil}, Math.Seq.{drop-length}, lemmas.List.{at_drop_more}}
 use Rattle.serde_json.specs.{Data.{Data, Items, no_items, item}, Find.{get_item}, declared.value.Value.{Value}, View.{view, items_view}}
 use Rattle.lab_history.{specs.{Faults.{◌>>=◌}, declared.fault.FileFault.{FileFault}}, proofs.Steps.{both_ok, either_err, step_on}}
-use Rattle.lab_history_file.specs.{Entries.{items_from}, FileOf.{AreEach}}
+use Rattle.lab_history_file.specs.{Behind.{AllStand}, Entries.{items_from}, FileOf.{AreEach}}
 
 -- the items from a place on
 abbrev pub Tail : Items → ℕ → Items → Type 0
@@ -16,11 +16,6 @@ tail_head all i d ds tail = let same : i ≡ i + 0 = omega arith in ap (λ n. ge
 
 pub tail_rest : (all : Items) (i : ℕ) (d : Data) (ds : Items) → Tail all i (item d ds) → Tail all (i + 1) ds
 tail_rest all i d ds tail k m e = let same : i + 1 + k ≡ i + suc k = omega arith in ap (λ n. get_item n all) same ∙ tail (suc k) m e
-
--- each of some may stand behind those before it
-abbrev pub AllStand : {X : Type 0} → (List X → X → Type 0) → List X → List X → Type 0
-AllStand May before [] = Unit {0}
-AllStand May before (x ∷ xs) = May before x × AllStand May (before ++ x ∷ []) xs
 
 module _ {X : Type 0} (read : List X → ℕ → Data → Result X FileFault) where
   -- ---- in a loop
@@ -99,3 +94,8 @@ module _ {X : Type 0} (read : List X → ℕ → Data → Result X FileFault) wh
 
   pub each_err : (ds : Items) (f : FileFault) → items_from read [] 0 ds ≡ Err f → (past : List X) × (k : ℕ) × (m : Data) × (get_item k ds ≡ Some m) × (read past k m ≡ Err f)
   each_err ds f e = let found = items_err read (λ _ _ _. Unit {0}) ds f (λ _ _ _ _ _ _ _ _. tt) [] 0 ds (tail_all ds) tt e in (found.0, found.1, found.2, found.4, found.6)
+
+-- one more stands behind those that stand
+pub stand_more : {X : Type 0} (May : List X → X → Type 0) (before xs : List X) (x : X) → AllStand May before xs → May (before ++ xs) x → AllStand May before (xs ++ x ∷ [])
+stand_more May before [] x all may = (subst (λ ys. May ys x) (append-nil before) may, tt)
+stand_more May before (y ∷ ys) x all may = (all.0, stand_more May (before ++ y ∷ []) ys x all.1 (subst (λ zs. May zs x) (sym (append_assoc before (y ∷ []) ys)) may))

@@ -34,3 +34,8 @@ pub mod WritableTree
 pub mod Keys
 pub mod TextFaults
 pub mod OneFile
+pub mod TokensSpell
+pub mod NumberBytes
+pub mod MarkBytes
+pub mod MembersSpell
+pub mod PartsSpell

@@ -4,7 +4,7 @@ use Rattle.std.specs.FinMap as finite
 use Rattle.serde_json.specs.{Data.{Data}, Find.{as_array}, View.{items_view}, declared.value.Value.{Value}}
 use Rattle.lab_table.{specs.Row.{Row, row_cmp}, proofs.Tests.{both, joined}}
 use Rattle.lab_history.{specs.{Faults.{required}, RowOrder.{follows}, declared.{fault.FileFault.{FileFault}, path.ListPlace.{ListPlace}}}, proofs.{Steps.{both_ok, step_on, required_ok, required_is}, Rising.{rises_after, rises_all}}}
-use Rattle.lab_history_file.{specs.{Entries.{items_from, last_row, placed_in, entries_in}, FileOf.{IsListOf, IsMapOf}}, proofs.{ItemsRead.{AllStand, read_on, items_read, items_are_read}, JsonShapes.{array_of}}}
+use Rattle.lab_history_file.{specs.{Behind.{AllStand}, Entries.{items_from, last_row, placed_in, entries_in}, FileOf.{IsListOf, IsMapOf}}, proofs.{ItemsRead.{read_on, items_read, items_are_read}, JsonShapes.{array_of}}}
 use Rattle.lab_history.specs.declared.path.Path.TheVariants as path
 
 -- a map of entries in order is the map again
@@ -19,11 +19,11 @@ last_pushed [] e = refl
 last_pushed (f ∷ []) e = refl
 last_pushed (f ∷ g ∷ es) e = last_pushed (g ∷ es) e
 
-abbrev Follows : {X : Type 0} → List (Row × X) → Row × X → Type 0
+abbrev pub Follows : {X : Type 0} → List (Row × X) → Row × X → Type 0
 Follows before x = T (follows (last_row before) x.0)
 
 -- rows of which each follows rise, and rows that rise follow
-follow_rise : {X : Type 0} (before xs : List (Row × X)) → AllStand Follows before xs → T (rises_after (last_row before) xs)
+pub follow_rise : {X : Type 0} (before xs : List (Row × X)) → AllStand Follows before xs → T (rises_after (last_row before) xs)
 follow_rise before [] all = tt
 follow_rise before (x ∷ xs) all = joined _ _ all.0 (subst (λ o. T (rises_after o xs)) (last_pushed before x) (follow_rise (before ++ x ∷ []) xs all.1))
 

@@ -3,11 +3,11 @@ use Rattle.std.{proofs.{Common.{◌≡◌, ℕ, ◌≤◌, ◌==◌, Bool, true,
 use Rattle.std.specs.FinMap as finite
 use Rattle.serde_json.specs.{Data.{Data, string}, Find.{as_str}}
 use Rattle.lab_history.{specs.{Faults.{◌>>=◌, required}, History.{History}}, proofs.Steps.{both_ok, both_some, step_on, required_ok, when_found}}
-use Rattle.lab_history_file.specs.{Entries.{values_in, installed_in}, FileVersion.{version_number}, FileOf.{HoldsIn}, Keys.{root_keys, object_with}, Format.{format_in, numbered_version, version_in, keyed, txns_in, parts_in}, declared.file_version.FileVersion.{FileVersion, TheVariants.{One, Two}}}
+use Rattle.lab_history_file.specs.{Behind.{AllStand, Stands}, Entries.{values_in, installed_in}, FileVersion.{version_number}, FileOf.{HoldsIn}, Keys.{root_keys, object_with}, Format.{format_in, numbered_version, version_in, keyed, txns_in, parts_in}, declared.file_version.FileVersion.{FileVersion, TheVariants.{One, Two}}}
 use Rattle.lab_history.specs.declared.fault.FileFault.TheVariants as fault
 use Rattle.lab_history.specs.declared.path.ListPlace.TheVariants as list
 use Rattle.lab_history.specs.declared.path.Path.TheVariants as path
-use Rattle.lab_history_file.proofs.{JsonShapes.{string_of, keyed_shape}, ListsRead.{map_again}, EntriesRead.{values_read, values_are_read, installed_list_read, installed_list_is_read}, ItemsRead.{AllStand}, TransactionsRead.{Stands, list_read, list_is_read}}
+use Rattle.lab_history_file.proofs.{JsonShapes.{string_of, keyed_shape}, ListsRead.{map_again}, EntriesRead.{values_read, values_are_read, installed_list_read, installed_list_is_read}, TransactionsRead.{list_read, list_is_read}}
 
 -- the parts of a history stand in a value of either version, where each transaction may stand behind those before it
 abbrev pub Holds : Data → History → Type 0

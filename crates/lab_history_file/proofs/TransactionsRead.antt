@@ -2,11 +2,11 @@
 use Rattle.std.{proofs.{Common.{◌≡◌, ℕ, ◌+◌, ◌≤◌, ◌==◌, Bool, true, false, List, [], ◌∷◌, length, Some, None, Ok, codes, refl, sym, ap, subst, ◌∙◌, arith, option_and_then, nat_lt, if◌then◌else◌, bytes_eq}, lemmas.Slice.Eq.{bytes_eq-Decides}}, specs.List.{list_any}}
 use Rattle.serde_json.specs.{Data.{Data, string}, Find.{as_str, as_array}}
 use Rattle.lab_history.{specs.{Faults.{required, refused_if}, HistoryRules.{operations}, declared.transaction.{Outcome.{Outcome, TheVariants.{Committed, Aborted}}, Txn.{Txn}}}, proofs.Steps.{both_ok, both_some, step_on, required_ok, required_is, refused_ok, refused_is, kept_limit, limit_kept}}
-use Rattle.lab_history_file.specs.{Entries.{txn_in_number, items_from}, FileOf.{IsListOf, IsOperation, IsTransaction, outcome_text}, Member.{count}, Keys.{txn_keys, object_with}, Format.{keyed, op_behind, outcome_named, txn_in, txns_in}, declared.file_version.FileVersion.{FileVersion}}
+use Rattle.lab_history_file.specs.{Behind.{AllStand, Stands}, Entries.{txn_in_number, items_from}, FileOf.{IsListOf, IsOperation, IsTransaction, outcome_text}, Member.{count}, Keys.{txn_keys, object_with}, Format.{keyed, op_behind, outcome_named, txn_in, txns_in}, declared.file_version.FileVersion.{FileVersion}}
 use Rattle.lab_history.specs.declared.fault.FileFault.TheVariants as fault
 use Rattle.lab_history.specs.declared.fault.Limit.TheVariants as limit
 use Rattle.lab_history.specs.declared.path.Path.TheVariants as path
-use Rattle.lab_history_file.proofs.{ItemsRead.{AllStand, items_read, items_are_read}, JsonShapes.{array_of, string_of, keyed_shape}, OperationsRead.{ops_read, ops_are_read, each_count}}
+use Rattle.lab_history_file.proofs.{ItemsRead.{items_read, items_are_read}, JsonShapes.{array_of, string_of, keyed_shape}, OperationsRead.{ops_read, ops_are_read, each_count}}
 
 -- ---- outcomes
 
@@ -28,11 +28,6 @@ outcome_is_read Committed = refl
 outcome_is_read Aborted = refl
 
 -- ---- a transaction
-
--- what a transaction's place among those before it allows
-pub record Stands (before : List Txn) (txn : Txn) : Type 0 where
-  pub alone : list_any (λ t. t.no == txn.no) before ≡ false
-  pub room : length (operations before) + length txn.ops ≤ 10000
 
 module _ (version : FileVersion) (before : List Txn) (index : ℕ) where
   txn_parts : (own ops outcome : Data) (txn : Txn) → txn_in version before index (object_with txn_keys (own ∷ ops ∷ outcome ∷ [])) ≡ Ok txn

@@ -1,7 +1,7 @@
 -- Transactions that each may stand behind those before it: their numbers are distinct, and their operations few enough.
 use Rattle.std.{proofs.{Common.{◌≡◌, ℕ, ◌+◌, ◌≤◌, ◌==◌, false, List, [], ◌∷◌, ◌++◌, length, refl, sym, ap, subst, ◌∙◌, arith, append_assoc, append-nil, length-append}, lemmas.{Bool.{or_parts, or_from}, Grind.{flat_map-append}}}, specs.List.{list_any}}
 use Rattle.lab_history.{specs.{HistoryRules.{AllDistinct, operations}, declared.transaction.Txn.{Txn}}, proofs.Standing.{numbers, unlike, operations_push}}
-use Rattle.lab_history_file.proofs.{ItemsRead.{AllStand}, TransactionsRead.{Stands}}
+use Rattle.lab_history_file.specs.Behind.{AllStand, Stands}
 
 -- a number at the end that none of those before it has
 none_pushed : (m : ℕ) (ts : List Txn) (txn : Txn) → list_any (λ k. k == m) (numbers ts) ≡ false → (txn.no == m) ≡ false → list_any (λ k. k == m) (numbers (ts ++ txn ∷ [])) ≡ false

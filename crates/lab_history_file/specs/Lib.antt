@@ -12,3 +12,8 @@ pub mod FaultOf
 pub mod Tree
 pub mod FileRead
 pub mod HistoryFile
+pub mod Spelled
+pub mod Bytes
+pub mod Place
+pub mod Reads
+pub mod Behind

@@ -8,10 +8,13 @@ ghost use Rattle.lab_history_file.specs.FileRead.{ReadsAs};
 ghost use Rattle.lab_history_file.specs.Format.{format_in, version_in, parts_in, history_in};
 ghost use Rattle.lab_history_file.specs.HistoryFile.{HoldsHistory, IsFileFault};
 
+mod bytes;
 mod earlier;
 mod keys;
 mod lists;
 mod operation;
+mod straight;
+mod tokens;
 mod transaction;
 
 use crate::fault::wrong;
@@ -22,6 +25,7 @@ use lab_table::Table;
 use lists::entries_at;
 use serde_json::Value as Json;
 use std::alloc::Global;
+use tokens::Stop;
 use transaction::txns_of;
 
 /// Whether a value is an object that says it is a history file.
@@ -80,8 +84,8 @@ fn parts_of(alloc: Global, json: &Json) -> Result<Parts, FileFault>
     })
 }
 
-/// The parts of the history that a file holds. Its value is given back before the limits are looked at.
-fn parts_in_file(alloc: Global, bytes: &[u8]) -> Result<Parts, FileFault>
+/// The parts of the history that the value of a file holds. The value is given back before the limits are looked at.
+fn parts_in_value(alloc: Global, bytes: &[u8]) -> Result<Parts, FileFault>
     ensures { ReadsAs parts_in bytes.now result }
 {
     match Json::from_slice(alloc, bytes) {
@@ -93,6 +97,18 @@ fn parts_in_file(alloc: Global, bytes: &[u8]) -> Result<Parts, FileFault>
                 Err(FileFault::NotJson)
             }
         }
+    }
+}
+
+/// The parts of the history that a file holds. Most files need no value: it is made only where a file is written otherwise
+/// than this product writes it, and says what is wrong with one that isn't of the format.
+fn parts_in_file(alloc: Global, bytes: &[u8]) -> Result<Parts, FileFault>
+    ensures { ReadsAs parts_in bytes.now result }
+{
+    match straight::parts_in(alloc, bytes) {
+        Ok(parts) => Ok(parts),
+        Err(Stop::NoMemory) => Err(FileFault::NoMemory),
+        Err(Stop::Other) => parts_in_value(alloc, bytes),
     }
 }
 

@@ -223,6 +223,10 @@ fn texts_that_are_refused_memory_are_not_made(rt: HostRuntime) -> Result<(), Fai
 const SHORT_LIFE: &str =
     r#"{"end":[["test",1,10]],"format":"hermitage-history","initial":[["test",1,10]],"installed":[["test",3,[1]]],"transactions":[{"no":1,"ops":[{"rows":[],"statement":"insert into test (id, value) values (3, 30)","view":[],"writes":[["test",3,30]]},{"rows":[["test",3,30]],"statement":"update test set value = 31 where id = 3","view":[["test",3,1,1]],"writes":[["test",3,31]]},{"rows":[["test",3,31]],"statement":"delete from test where id = 3","view":[["test",3,1,2]],"writes":[["test",3,null]]}],"outcome":"committed"},{"no":2,"ops":[{"rows":[["test",1,10]],"statement":"select * from test","view":[["test",3,1,3]],"writes":[]}],"outcome":"aborted"}],"version":2}"#;
 
+/// The same with its version in front, which is read by way of a value.
+const VERSION_FIRST: &str =
+    r#"{"version":2,"end":[["test",1,10]],"format":"hermitage-history","initial":[["test",1,10]],"installed":[["test",3,[1]]],"transactions":[{"no":1,"ops":[{"rows":[],"statement":"insert into test (id, value) values (3, 30)","view":[],"writes":[["test",3,30]]},{"rows":[["test",3,30]],"statement":"update test set value = 31 where id = 3","view":[["test",3,1,1]],"writes":[["test",3,31]]},{"rows":[["test",3,31]],"statement":"delete from test where id = 3","view":[["test",3,1,2]],"writes":[["test",3,null]]}],"outcome":"committed"},{"no":2,"ops":[{"rows":[["test",1,10]],"statement":"select * from test","view":[["test",3,1,3]],"writes":[]}],"outcome":"aborted"}]}"#;
+
 /// What a call came to.
 #[derive(Clone, Copy, Debug, PartialEq, Eq)]
 enum Made {
@@ -240,9 +244,9 @@ fn has_two(history: &History) -> Made {
     }
 }
 
-/// Reads that file, and looks whether it gives two transactions.
-fn read(alloc: Global) -> Made {
-    match read_history(alloc, SHORT_LIFE.as_bytes()) {
+/// Reads one of those files, and looks whether it gives two transactions.
+fn read(alloc: Global, text: &str) -> Made {
+    match read_history(alloc, text.as_bytes()) {
         Ok(history) => {
             let made = has_two(&history);
             drop(history);
@@ -253,7 +257,7 @@ fn read(alloc: Global) -> Made {
     }
 }
 
-/// Writes a history, and looks whether it gives that file.
+/// Writes a history, and looks whether it gives the first of them.
 fn written(alloc: Global, history: &History) -> Made {
     match write_history(alloc, history) {
         Ok(text) => {
@@ -295,13 +299,15 @@ fn copied_operation(alloc: Global, history: &History) -> (Made, bool) {
     (made, refused)
 }
 
-/// One of the three calls, and whether an allocation was refused.
+/// One of the four calls, and whether an allocation was refused.
 fn outcome(alloc: Global, history: &History, call: u8) -> (Made, bool) {
-    if call == 2 {
+    if call == 3 {
         return copied_operation(alloc, history);
     }
     let made = if call == 0 {
-        read(alloc)
+        read(alloc, SHORT_LIFE)
+    } else if call == 1 {
+        read(alloc, VERSION_FIRST)
     } else {
         written(alloc, history)
     };
@@ -331,7 +337,7 @@ fn shows_outcome(rt: &impl Abort, alloc: Global, history: &History, call: u8) {
 fn histories_that_are_refused_memory_are_not_made(rt: HostRuntime) -> Result<(), Fail> {
     let whole = read_history(rt.alloc(), SHORT_LIFE.as_bytes());
     let whole = whole.ok().ok_or("a history")?;
-    for call in 0..3u8 {
+    for call in 0..4u8 {
         shows_outcome(&rt, rt.alloc(), &whole, call);
     }
     drop(whole);

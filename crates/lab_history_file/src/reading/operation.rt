@@ -30,7 +30,7 @@ fn may_have(version: FileVersion, statement: &Statement) -> bool
 }
 
 /// The statement, if a file of a version may have it.
-fn only(version: FileVersion, statement: Statement) -> Option<Statement>
+pub fn only(version: FileVersion, statement: Statement) -> Option<Statement>
     ensures { result ≡ only_in version statement }
 {
     if may_have(version, &statement) {
