@@ -191,13 +191,34 @@ pub struct Handed {
     pub seats: Vec<Seat>,
 }
 
-/// The sessions from 1 to a number.
-fn sessions(alloc: Global, last: u8) -> Option<Vec<Session>> {
-    let mut sessions = Vec::new(alloc);
-    for number in 1..=last {
-        sessions.push(Session::new(number)?).ok()?;
+/// So many sessions, from 1 on.
+fn sessions(alloc: Global, count: usize) -> Option<Vec<Session>> {
+    Vec::from_slice(alloc, Session::ALL.get(..count)?).ok()
+}
+
+/// Leaves out the seat at a place.
+fn leave_out(seats: &mut Vec<Seat>, owners: &mut Vec<Session>, place: usize) -> Option<()> {
+    if place >= owners.len() || place >= seats.len() {
+        return None;
     }
-    Some(sessions)
+    owners.remove(place);
+    drop(seats.remove(place));
+    Some(())
+}
+
+/// Adds a second seat of the session at a place.
+fn repeat(
+    alloc: Global,
+    seats: &mut Vec<Seat>,
+    owners: &mut Vec<Session>,
+    place: usize,
+) -> Option<()> {
+    let owner = *owners.get(place)?;
+    owners.push(owner).ok()?;
+    match spare(alloc, place) {
+        Some(seat) => seats.push(seat).ok(),
+        None => None,
+    }
 }
 
 /// Leaves of the seats of nine sessions what is handed in where three are there, and says whose they are.
@@ -209,19 +230,12 @@ fn spoil_seats(
 ) -> Option<Vec<Session>> {
     let mut owners = sessions(alloc, 3)?;
     seats.truncate(3);
-    match spoil {
-        Spoil::SeatMissing if place < owners.len() => {
-            drop(taken(seats, place)?);
-            owners.remove(place);
-        }
-        Spoil::SeatRepeated => {
-            let owner = *owners.get(place)?;
-            owners.push(owner).ok()?;
-            seats.push(spare(alloc, place)?).ok()?;
-        }
-        _ => {}
-    }
-    Some(owners)
+    let spoiled = match spoil {
+        Spoil::SeatMissing => leave_out(seats, &mut owners, place),
+        Spoil::SeatRepeated => repeat(alloc, seats, &mut owners, place),
+        _ => Some(()),
+    };
+    spoiled.and(Some(owners))
 }
 
 /// What is handed in of the seats of nine sessions.

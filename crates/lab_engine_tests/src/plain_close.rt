@@ -12,7 +12,7 @@ pub fn is_answered(outcome: &Outcome) -> bool {
 
 fn is_call_at(alloc: Global, call: &Call, place: usize, event: &LogEvent) -> bool {
     call.receipt.place == place
-        && alike_commands(alloc, &call.command, &event.command) == Some(true)
+        && alike_commands(alloc, &call.command, &event.command)
         && alike_outcomes(&call.receipt.outcome, &event.outcome)
 }
 

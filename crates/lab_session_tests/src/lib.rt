@@ -7,6 +7,8 @@
 #[cfg(test)]
 mod again;
 #[cfg(test)]
+mod calls;
+#[cfg(test)]
 mod ends;
 #[cfg(test)]
 mod engines;
