@@ -194,7 +194,9 @@ fn start(alloc: Global, script: &Script, spoil: Spoil) -> Option<Table> {
 
 /// The table where row 1 has another value.
 fn other_table(alloc: Global) -> Option<Table> {
-    let other = parse_script(alloc, OTHER).ok()?;
+    let Ok(other) = parse_script(alloc, OTHER) else {
+        return None;
+    };
     let table = other.setup.copy(alloc).ok();
     drop(other);
     table
@@ -227,7 +229,9 @@ fn both_on<R: Wait>(
     spoil: Spoil,
     at: usize,
 ) -> Option<Both> {
-    let script = parse_script(alloc, text).ok()?;
+    let Ok(script) = parse_script(alloc, text) else {
+        return None;
+    };
     let both = both_of(rt, alloc, number, &script, spoil, at);
     drop(script);
     both
@@ -358,11 +362,14 @@ fn shows_end<R: Wait + Abort>(
     Ok(())
 }
 
+fn differs(session: Session, place: usize) -> Option<CloseFault> {
+    Some(CloseFault::ReceiptDiffers { session, place })
+}
+
 #[test]
 fn spoiled_seats_are_told(rt: HostRuntime) -> Result<(), Fail> {
     let one = Session::new(1).ok_or("a session")?;
     let two = Session::new(2).ok_or("a session")?;
-    let differs = |session, place| Some(CloseFault::ReceiptDiffers { session, place });
     let missing = Some(CloseFault::SeatMissing { session: two });
     let repeated = Some(CloseFault::SeatRepeated { session: two });
     shows_end(&rt, rt.alloc(), Spoil::Nothing, 0, None)?;

@@ -143,7 +143,9 @@ fn answers<E: Engine + Drop>(
     session: Session,
     command: &Command,
 ) -> Option<bool> {
-    let receipt = bench.step(alloc, session, command).ok()?;
+    let Ok(receipt) = bench.step(alloc, session, command) else {
+        return None;
+    };
     let is_answered = is_answered(&receipt.outcome);
     drop(receipt);
     Some(is_answered)
@@ -160,14 +162,21 @@ fn submit<R: Wait, E: Engine + Drop>(
 ) -> Option<()>
     requires { place < length seats.old.items }
 {
-    let seat = lab.submit(rt, alloc, seats.remove(place), command).ok()?;
-    seats.insert(place, seat).ok()
+    match lab.submit(rt, alloc, seats.remove(place), command) {
+        Ok(seat) => seats.insert(place, seat).ok(),
+        Err((seat, _)) => {
+            drop(seat);
+            None
+        }
+    }
 }
 
 /// A new seat of the session at a place.
 fn spare(alloc: Global, place: usize) -> Option<Seat> {
     let engine = SnapshotEngine::new(alloc, Table::new(alloc));
-    let (lab, seats) = Lab::start(alloc, engine, 9).ok()?;
+    let Ok((lab, seats)) = Lab::start(alloc, engine, 9) else {
+        return None;
+    };
     drop(lab);
     let mut seats = seats;
     let seat = taken(&mut seats, place);

@@ -57,7 +57,13 @@ fn difference_of(
 }
 
 fn count_of(owners: &[Session], session: Session) -> usize {
-    owners.iter().filter(|owner| **owner == session).count()
+    let mut count = 0usize;
+    for owner in owners {
+        if *owner == session {
+            count = count.saturating_add(1);
+        }
+    }
+    count
 }
 
 /// Why a bench of this log isn't closed with these seats, whose sessions are `owners`; None where it is.

@@ -228,7 +228,9 @@ fn history_of(
     commits: &[TxnNo],
     rows: &[RowName],
 ) -> Option<History> {
-    let txns = txns(alloc, log, commits).ok()?;
+    let Ok(txns) = txns(alloc, log, commits) else {
+        return None;
+    };
     let initial = setup.copy(alloc).ok();
     let end_table = end_table(alloc, setup, &txns, commits, rows);
     let installed = installed(alloc, &txns, commits, rows);
