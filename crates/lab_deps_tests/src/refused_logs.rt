@@ -156,7 +156,9 @@ fn shows_recordings(
 
 /// The text of the history of a play of the script on a journal.
 fn text_of_play(alloc: Global, script: &Script) -> Option<Vec<u8>> {
-    let setup = script.setup.copy(alloc).ok()?;
+    let Ok(setup) = script.setup.copy(alloc) else {
+        return None;
+    };
     match play_script(alloc, LockEngine::new(alloc, setup), script) {
         Ok(played) => {
             let text = write_history(alloc, played.history()).ok();
