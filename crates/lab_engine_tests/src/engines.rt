@@ -3,11 +3,11 @@
 ghost use Rattle.std.specs.Prelude.{◌≡◌, []};
 
 use crate::alike::{alike_logs, alike_outcomes};
+use crate::compared::{Compared, level_alike};
 use crate::listings::{LISTINGS, listing};
 use crate::plain::PlainEngine;
 use crate::recordings::is_plain;
 use lab_engine::{Engine, Level, LogEvent, Outcome, Recording};
-use lab_levels::on_engine;
 use lab_script::{Line, Script, parse_script};
 use lab_session::play_script;
 use lab_table::{Command, NoMemory, Session, Table};
@@ -168,7 +168,7 @@ fn plain_engine(alloc: Global, level: Level, setup: &Table) -> Option<PlainEngin
 }
 
 /// The same of a script.
-fn runs_alike<E: Engine + Drop>(alloc: Global, engine: E, script: &Script) -> bool {
+pub fn runs_alike<E: Engine + Drop>(alloc: Global, engine: E, script: &Script) -> bool {
     let mut engine = engine;
     let Some(plain) = plain_engine(alloc, engine.level(), engine.setup()) else {
         drop(engine);
@@ -218,7 +218,7 @@ fn is_followed(alloc: Global, recording: &Recording) -> bool {
 }
 
 /// Whether it is so of the play of a script.
-fn plays_alike<E: Engine + Drop>(alloc: Global, engine: E, script: &Script) -> bool
+pub fn plays_alike<E: Engine + Drop>(alloc: Global, engine: E, script: &Script) -> bool
     requires { E.events engine ≡ [] }
 {
     match play_script(alloc, engine, script) {
@@ -242,38 +242,12 @@ fn script_of(alloc: Global, number: u32) -> Option<Script> {
     script
 }
 
-/// Whether the engine of a level runs a script as a plain one.
-fn level_runs_alike(alloc: Global, level: Level, script: &Script) -> bool {
-    match script.setup.copy(alloc) {
-        Ok(setup) => on_engine!(
-            level,
-            alloc,
-            setup,
-            |engine| runs_alike(alloc, engine, script)
-        ),
-        Err(_) => false,
-    }
-}
-
-/// Whether it plays it so.
-fn level_plays_alike(alloc: Global, level: Level, script: &Script) -> bool {
-    match script.setup.copy(alloc) {
-        Ok(setup) => on_engine!(
-            level,
-            alloc,
-            setup,
-            |engine| plays_alike(alloc, engine, script)
-        ),
-        Err(_) => false,
-    }
-}
-
-/// Whether both are so of the script of a number.
+/// Whether runs and plays are so of the script of a number.
 fn is_alike(alloc: Global, level: Level, number: u32) -> bool {
     match script_of(alloc, number) {
         Some(script) => {
-            let alike = level_runs_alike(alloc, level, &script)
-                && level_plays_alike(alloc, level, &script);
+            let alike = level_alike(alloc, level, &script, Compared::Run)
+                && level_alike(alloc, level, &script, Compared::Play);
             drop(script);
             alike
         }

@@ -2,11 +2,12 @@
 
 ghost use Rattle.std.specs.Prelude.{◌≡◌, []};
 
+use crate::compared::{Compared, level_alike};
 use crate::plain_recording::plain_history;
-use lab_engine::{Engine, Level, LogEvent};
+use lab_engine::{Engine, LogEvent};
 use lab_history::History;
 use lab_history_file::write_history;
-use lab_levels::{LEVELS, on_engine};
+use lab_levels::LEVELS;
 use lab_script::{Script, parse_script};
 use lab_session::play_script;
 use lab_table::{NoMemory, Table};
@@ -75,7 +76,7 @@ pub fn is_plain(
 }
 
 /// Whether it finds the history of a play in the play's log.
-fn plays_plain<E: Engine + Drop>(alloc: Global, engine: E, script: &Script) -> bool
+pub fn plays_plain<E: Engine + Drop>(alloc: Global, engine: E, script: &Script) -> bool
     requires { E.events engine ≡ [] }
 {
     match play_script(alloc, engine, script) {
@@ -90,19 +91,6 @@ fn plays_plain<E: Engine + Drop>(alloc: Global, engine: E, script: &Script) -> b
             drop(recording);
             plain
         }
-        Err(_) => false,
-    }
-}
-
-/// The same on the engine of a level.
-fn is_plain_at(alloc: Global, level: Level, script: &Script) -> bool {
-    match script.setup.copy(alloc) {
-        Ok(setup) => on_engine!(
-            level,
-            alloc,
-            setup,
-            |engine| plays_plain(alloc, engine, script)
-        ),
         Err(_) => false,
     }
 }
@@ -122,7 +110,7 @@ fn seed_plain(alloc: Global, seed: u32) -> bool {
     };
     let mut plain = true;
     for level in LEVELS {
-        plain = plain && is_plain_at(alloc, level, &script);
+        plain = plain && level_alike(alloc, level, &script, Compared::History);
     }
     drop(script);
     plain
