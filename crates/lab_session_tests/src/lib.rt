@@ -23,6 +23,8 @@ mod goes_on;
 #[cfg(test)]
 mod instrumented;
 #[cfg(test)]
+mod listings;
+#[cfg(test)]
 mod meeting;
 #[cfg(test)]
 #[cfg(test)]
