@@ -1,6 +1,6 @@
 -- Places of a list whose rows rise, outside which a statement matches nothing.
 use Rattle.std.proofs.{Common.{◌≡◌, ℕ, ℤ, zero, suc, ◌+◌, ◌≤◌, ◌<◌, Bool, true, false, cond, T, Some, List, [], ◌∷◌, length, take, drop, refl, sym, ap, ◌∙◌, subst, arith}, lemmas.{Bool.{false≢true, ltb-true, ltb-false, false_from_ne_true}, List.Sums.{prefix_len_passes, prefix_len_stops}}}
-use Rattle.std.specs.{Prelude.{nat_lt, slice_index_or, filter}, Ordering.{is_gt}, List.{prefix_len}, Cmp.Lexicographic.{nat_list_eq_equiv}, FinMap.{is_sorted}}
+use Rattle.std.specs.{Prelude.{nat_lt, slice_index_or, filter, find, option_map}, Ordering.{is_gt}, List.{prefix_len}, Cmp.Lexicographic.{nat_list_eq_equiv}, FinMap.{is_sorted}}
 use Rattle.lab_table.{specs.{Row.{Row, row_cmp}, TableName.{table_name_eq}, Running.{comes_after}, Statement.{may_match}, declared.statement.Statement.{Statement}}, proofs.{RowOrder.{in_one_table, behind_greater}, Searching.{parted}}}
 use Rattle.lab_history.specs.declared.operation.Op.{Op}
 use Rattle.lab_deps.{specs.{Broken.{is_unlisted}, FirstOf.{first_value}}, proofs.{OwnTable.{own_table}, RuledOut.{may_be_unlisted}}}
@@ -77,6 +77,15 @@ first_of_left {A = A} test weaker implied (e ∷ es) = at (weaker e.0) refl (fir
     at false is rest =
         rest
         ∙ sym (ap (λ b. cond b (Some e.0) (first_value test es)) (false_from_ne_true _ (λ passes. false≢true (sym is ∙ implied e.0 e.1 passes))))
+
+-- the row of the first entry that passes a test
+pub first_found : {A : Type 0} (test : Row → A → Bool) (es : List (Row × A)) → option_map (λ e. e.0) (find (λ e. test e.0 e.1) es) ≡ first_value test es
+first_found test [] = refl
+first_found test (e ∷ es) =
+    elim (test e.0 e.1) as (λ b. option_map (λ e. e.0) (cond b (Some e) (find (λ e. test e.0 e.1) es)) ≡ cond b (Some e.0) (first_value test es)) [
+      | true ↦ refl
+      | false ↦ first_found test es
+    ]
 
 -- the first row that is unlisted is found among the entries that may match
 pub unlisted_within : (op : Op) (part es : List (Row × ℤ)) → filter (λ e. may_match op.statement e.0) part ≡ filter (λ e. may_match op.statement e.0) es

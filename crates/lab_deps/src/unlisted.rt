@@ -13,8 +13,9 @@ ghost use Rattle.lab_deps.specs.FirstOf.{IsLeastRow, first_value};
 use crate::effect::is_same;
 use crate::lookup::{Near, listed_near, seen_near};
 use crate::near::entry_within;
-use crate::row::{first_entry, least};
+use crate::row::least;
 use crate::span::within;
+use lab_columns::first_matching;
 use lab_history::{History, Op};
 use lab_table::{RowName, Value};
 
@@ -34,7 +35,11 @@ fn first_unlisted(history: &History, op: &Op) -> Option<RowName>
 {
     let near = Near::new();
     let entries = within(&op.statement, history.initial().rows());
-    first_entry(entries, |row, value| is_unlisted(op, row, value, &near))
+    first_matching(
+        &op.statement,
+        entries,
+        |row, value| is_unlisted(op, row, value, &near),
+    )
 }
 
 /// The least of the rows with these numbers that is so.
