@@ -1,6 +1,6 @@
 //! A set of the numbers below a bound.
 
-ghost use Rattle.std.specs.Prelude.{◌≡◌, ◌<◌, ◌==◌, ◌||◌, ℕ, true, false, get_or, IfOk};
+ghost use Rattle.std.specs.Prelude.{◌≡◌, ◌<◌, ◌==◌, ◌||◌, ℕ, false, get_or, IfOk};
 ghost use Rattle.lab_sets.specs.Sets.{has, room, room_for};
 
 use std::alloc::{AllocError, Global};
@@ -31,15 +31,6 @@ impl NumberSet {
         Ok(NumberSet { words })
     }
 
-    /// A set with the same numbers. AllocError where the memory was refused.
-    pub fn copy(&self, alloc: Global) -> Result<NumberSet, AllocError>
-        ensures { IfOk result (λ set. set ≡ self.now) }
-    {
-        let mut words = Vec::new(alloc);
-        words.extend_from_slice(&self.words)?;
-        Ok(NumberSet { words })
-    }
-
     /// A word, or 0 where there is none.
     fn word(&self, place: usize) -> u64
         ensures { result ≡ get_or self.now place 0 }
@@ -52,18 +43,6 @@ impl NumberSet {
         ensures { result ≡ has self.now number }
     {
         (self.word(number as usize / 64) >> (number % 64)) & 1 == 1
-    }
-
-    /// Whether it is found to have no number, by 64 numbers at a time.
-    pub fn is_bare(&self) -> bool
-        ensures { result ≡ true → (n : ℕ) → has self.now n ≡ false }
-    {
-        for word in &self.words {
-            if *word != 0 {
-                return false;
-            }
-        }
-        true
     }
 
     /// Puts a number in.
