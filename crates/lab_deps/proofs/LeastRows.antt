@@ -3,7 +3,7 @@ use Rattle.std.proofs.{Common.{◌≡◌, Bool, true, false, cond, ◌⊎◌, in
 use Rattle.std.specs.{Prelude.{Contains, is_some}, FinMap.{FinMap, get, entries, get-entries}, List.{AllByRecursion, Sorted.{IsStrictlySortedBy}}, Ordering.{is_lt}, Cmp.{tied_itself}, declared.cmp.Ordering.TheVariants.{Less}}
 use Rattle.lab_table.{specs.Row.{Row, row_cmp, rows_total}, proofs.{Members.{no_member, first_member, later_member, only_member}, Orderings.{turned_back}, Tests.{some_of}}}
 use Rattle.lab_history.specs.declared.operation.Op.{Op}
-use Rattle.lab_deps.{specs.{LeastRow.{comes_before, first_row, least_at, IsLeastRow}, Passes.{first_entry, least}}, proofs.{Above.{Above, both_above}, Rows.{found_passes, found_has, above_in_map, least_is}}}
+use Rattle.lab_deps.{specs.{FirstOf.{first_entry, least}, LeastRow.{comes_before, first_row, least_at, IsLeastRow}}, proofs.{Above.{Above, both_above}, Rows.{found_passes, found_has, above_in_map, least_is}}}
 
 -- what a row comes before stands above it
 above_of : (o : Option Row) (row : Row) → comes_before row o ≡ true → Above o row

@@ -3,7 +3,7 @@ use Rattle.std.specs.Prelude.{◌≡◌, Bool, true, false, cond, Option, Some, 
 use Rattle.std.specs.Ordering.{is_lt}
 use Rattle.lab_table.specs.Row.{Row, row_cmp}
 use Rattle.lab_history.specs.declared.operation.Op.{Op}
-use Rattle.lab_deps.specs.Passes.{least}
+use Rattle.lab_deps.specs.FirstOf.{least}
 
 -- whether a row comes before one that there may be
 abbrev pub comes_before : Row → Option Row → Bool

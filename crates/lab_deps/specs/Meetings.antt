@@ -9,7 +9,7 @@ use Rattle.lab_history.specs.Version.{installers, place_in, new_state, viewed}
 use Rattle.lab_history.specs.declared.operation.Op.{Op}
 use Rattle.lab_deps.specs.Collected.{committed_ops}
 use Rattle.lab_deps.specs.Edges.{differ, place_of}
-use Rattle.lab_deps.specs.Passes.{state_after}
+use Rattle.lab_deps.specs.RowTests.{state_after}
 use Rattle.lab_deps.specs.declared.edge.Kind.{Kind}
 use Rattle.lab_deps.specs.declared.edge.Kind.TheVariants.{Write, ItemRead, PredicateRead, ItemAnti, PredicateAnti}
 

@@ -11,7 +11,7 @@ ghost use Rattle.lab_deps.specs.KindSets.{among};
 ghost use Rattle.lab_deps.specs.LeastEdge.{fits, least_kind, IsLeast};
 ghost use Rattle.lab_deps.specs.LeastRow.{first_row, least_at, IsLeastRow};
 ghost use Rattle.lab_deps.specs.Meetings.{installs_next, meets, Meets};
-ghost use Rattle.lab_deps.specs.Passes as pass;
+ghost use Rattle.lab_deps.specs.FirstOf.{first_entry};
 ghost use Rattle.lab_deps.specs.Scopes.{Allows, edges_in};
 ghost use Rattle.lab_deps.specs.Soundness.{Stands};
 ghost use Rattle.lab_deps.specs.declared.edge.Kind.{Kind as Way};
@@ -113,7 +113,7 @@ fn least_row(
 
 /// The least row that the first of two transactions wrote and of which the second installs the version after its own.
 fn least_step(history: &History, from: TxnNo, to: TxnNo) -> Option<RowName>
-    ensures { result ≡ least_at (λ op. pass.first_entry (installs_next history.now from to) (map.entries op.writes)) None (committed_ops history.now from) }
+    ensures { result ≡ least_at (λ op. first_entry (installs_next history.now from to) (map.entries op.writes)) None (committed_ops history.now from) }
 {
     let ops = committed_ops(history, from);
     let mut row = None;
@@ -125,7 +125,7 @@ fn least_step(history: &History, from: TxnNo, to: TxnNo) -> Option<RowName>
 
 /// The first row of an operation's writes of which the second of two transactions installs the version after the first's.
 fn first_step(history: &History, op: &Op, from: TxnNo, to: TxnNo) -> Option<RowName>
-    ensures { result ≡ pass.first_entry (installs_next history.now from to) (map.entries op.now.writes) }
+    ensures { result ≡ first_entry (installs_next history.now from to) (map.entries op.now.writes) }
 {
     first_next(history, op.writes.entries(), from, to)
 }

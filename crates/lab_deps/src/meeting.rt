@@ -6,7 +6,7 @@ ghost use Rattle.lab_history.specs.Version as version;
 ghost use Rattle.lab_history.specs.Version.{installers};
 ghost use Rattle.lab_deps.specs.LeastRow.{first_row};
 ghost use Rattle.lab_deps.specs.Meetings.{installs_next, turns, is_tied, tied_in, looks_for, meets};
-ghost use Rattle.lab_deps.specs.Passes as pass;
+ghost use Rattle.lab_deps.specs.FirstOf.{first_entry};
 
 use crate::edge::Kind;
 use crate::effect::state_after_near;
@@ -25,7 +25,7 @@ pub fn first_next<V>(
     from: TxnNo,
     to: TxnNo,
 ) -> Option<RowName>
-    ensures { result ≡ pass.first_entry (installs_next history.now from to) written.now }
+    ensures { result ≡ first_entry (installs_next history.now from to) written.now }
 {
     let mut near_first = Hint::new();
     let mut near_second = Hint::new();

@@ -1,5 +1,5 @@
 use Rattle.std.{proofs.Common.{◌≡◌, None, drop}, specs.FinMap.{entries}}
-use Rattle.lab_deps.specs.{LeastRow.{least_at}, Meetings.{installs_next}, Passes.{first_entry}}
+use Rattle.lab_deps.specs.{FirstOf.{first_entry}, LeastRow.{least_at}, Meetings.{installs_next}}
 use Rattle.lab_deps.proofs.least.least_step.Given as goal
 
 -- the row so far and the operations that are left give the least of all

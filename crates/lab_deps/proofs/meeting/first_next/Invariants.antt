@@ -1,5 +1,5 @@
 use Rattle.std.proofs.Common.{◌≡◌, drop}
-use Rattle.lab_deps.specs.{Meetings.{installs_next}, Passes.{first_entry}}
+use Rattle.lab_deps.specs.{FirstOf.{first_entry}, Meetings.{installs_next}}
 use Rattle.lab_deps.proofs.meeting.first_next.Given as goal
 
 -- the row is found among the entries that are left as among all
