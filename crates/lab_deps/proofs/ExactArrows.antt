@@ -1,5 +1,5 @@
 -- The kinds that cells tell of are those of some edges of a history.
-use Rattle.std.{proofs.{Common.{◌≡◌, ◌≢◌, ◌↔◌, ◌+◌, ◌*◌, ◌==◌, ℕ, true, false, cond, List, [], length, get_or, replicate, refl, sym, ap, ◌∙◌, arith}, lemmas.{Bool.{eqb-false, ne_eqb, false≢true}, List.{length-replicate}}}, specs.Prelude.{Contains}}
+use Rattle.std.{proofs.{Common.{◌≡◌, ◌≢◌, ◌↔◌, ◌<◌, ◌+◌, ◌*◌, ◌==◌, ℕ, true, false, cond, List, [], length, get_or, replicate, refl, sym, ap, ◌∙◌, arith, inl, inr}, lemmas.{Bool.{cases_eq, eqb-false, ne_eqb, false≢true}, List.{length-replicate}}}, specs.Prelude.{Contains}}
 use Rattle.lab_table.{specs.Row.{Row}, proofs.Members.{no_member}}
 use Rattle.lab_history.specs.{History.{History}, Version.{IsCommitted}, declared.transaction.Txn.{Txn}}
 use Rattle.lab_deps.{specs.{Edges.{IsEdge}, KindBits.{has_bit, place, cell_at, bits_of, edge_of, IsNumbering, Tells}, declared.edge.{Edge.{Edge}, Kind.{Kind, TheVariants.{Write, ItemRead, PredicateRead, ItemAnti, PredicateAnti}}}}, proofs.{Numbered.{zeros}, Readers.{committed_txn}}}
@@ -18,7 +18,7 @@ told_none ts ps k w cs numbering wide empty = record {
   square = ap length empty ∙ length-replicate (w * w) 0;
   below = λ n. omega (arith, wide, numbering.few n);
   apart = numbering.apart;
-  exact = λ from to kind a b. (
+  exact = λ from to kind d a b. (
     λ has. absurd (false≢true (sym (no_bit kind) ∙ (ap (λ c. has_bit c kind) (sym (ap (λ xs. get_or xs (cell_at ps w from to) 0) empty ∙ zeros (w * w) (cell_at ps w from to))) ∙ has))),
     λ (row, found). absurd (no_member (edge_of from to kind row) found),
   );
@@ -43,14 +43,18 @@ module _ (p q cell : ℕ) (kind : Kind) where
 
 -- cells that tell of some edges of a history tell of them exactly
 module _ (h : History) (es : List Edge) (are_edges : (e : Edge) → Contains es e → IsEdge h e) where
-  pub exact_of : (ps : List ℕ) (w : ℕ) (cs made : List ℕ) → Tells ps w cs made es → ((t : Txn) → Contains h.txns t → place made t.no ≢ 0)
+  pub exact_of : (ps : List ℕ) (w : ℕ) (cs made : List ℕ) → Tells ps w cs made es → ((n : ℕ) → n < w → get_or cs (n * w + n) 0 ≡ 0) → ((t : Txn) → Contains h.txns t → place made t.no ≢ 0)
       → (from to : ℕ) (kind : Kind) → (has_bit (bits_of ps w cs from to) kind ≡ true) ↔ ((row : Row) × Contains es (edge_of from to kind row))
-  exact_of ps w cs made told placed from to kind = (forth, back)
+  exact_of ps w cs made told own placed from to kind = (forth, back)
     where
       forth : has_bit (bits_of ps w cs from to) kind ≡ true → (row : Row) × Contains es (edge_of from to kind row)
       forth is =
           let parts = held (place ps from) (place ps to) (get_or cs (cell_at ps w from to) 0) kind is in
-          (told.exact from to kind parts.0 parts.1).0 parts.2
+          elim (cases_eq from to) [
+            | inl same ↦ absurd
+                (false≢true (sym (no_bit kind) ∙ (ap (λ c. has_bit c kind) (sym (own (place ps from) (told.below from)) ∙ ap (λ n. get_or cs (place ps from * w + place ps n) 0) same) ∙ parts.2)))
+            | inr apart ↦ (told.exact from to kind apart parts.0 parts.1).0 parts.2
+          ]
 
       has_place : (n : ℕ) → IsCommitted h n → place ps n ≢ 0
       has_place n committed none =
@@ -62,4 +66,4 @@ module _ (h : History) (es : List Edge) (are_edges : (e : Edge) → Contains es 
           let edge = are_edges (edge_of from to kind row) there in
           let a = has_place from edge.0 in
           let b = has_place to edge.1 in
-          hold (place ps from) (place ps to) (get_or cs (cell_at ps w from to) 0) kind a b ((told.exact from to kind a b).1 (row, there))
+          hold (place ps from) (place ps to) (get_or cs (cell_at ps w from to) 0) kind a b ((told.exact from to kind edge.2 a b).1 (row, there))

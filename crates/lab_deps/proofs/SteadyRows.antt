@@ -4,7 +4,7 @@ use Rattle.lab_table.specs.{Row.{Row}, Statement.{matches}, declared.statement.S
 use Rattle.lab_history.specs.{History.{History}, Version.{viewed}, declared.operation.Op.{Op}}
 use Rattle.lab_deps.specs.Edges.{differ, place_of}
 use Rattle.lab_deps.specs.Collected.{apart_in, read_by, passed_by}
-use Rattle.lab_deps.specs.EdgesByRow.{Chain, edges_by, along, walked_in, is_steady, looks_at, found_at_row}
+use Rattle.lab_deps.specs.EdgesByRow.{Chain, edges_by, walk, walked_in, is_steady, looks_at, found_at_row}
 use Rattle.lab_deps.specs.declared.{edge.{Edge.{Edge}, Kind.TheVariants.{ItemRead, ItemAnti}}, reading.Reading.{Reading}, versions.Version.{Version}}
 
 alike : (a b : Bool) → differ a b ≡ false → b ≡ a
@@ -23,15 +23,15 @@ module _ (s : Statement) (r : Reading) (unlisted : r.listed ≡ false) where
   unchanged p n =
       ap (λ b. apart_in (cond b (cond (r.place == suc p) (Some (read_by ItemRead r n)) (cond (r.place == p) (Some (passed_by ItemAnti r n)) None)) None) ++ []) unlisted
 
-  along_steady : (b : Bool) (p : ℕ) (vs : List Version) → list_all (λ v. not (differ b (matches s r.row v.value))) vs ≡ true → along (edges_by r) s r.row b p vs ≡ []
+  along_steady : (b : Bool) (p : ℕ) (vs : List Version) → list_all (λ v. not (differ b (matches s r.row v.value))) vs ≡ true → walk s r b p vs ≡ []
   along_steady b p [] all = refl
   along_steady b p (v ∷ vs) all =
       let now : Bool = matches s r.row v.value in
       let parts = and_parts (not (differ b now)) (list_all (λ u. not (differ b (matches s r.row u.value))) vs) all in
       let same : differ b now ≡ false = not-true (differ b now) parts.0 in
-      ap (λ d. edges_by r p v.installer d ++ along (edges_by r) s r.row now (p + 1) vs) same
-      ∙ (ap (λ es. es ++ along (edges_by r) s r.row now (p + 1) vs) (unchanged p v.installer)
-      ∙ (ap (λ c. along (edges_by r) s r.row c (p + 1) vs) (alike b now same) ∙ along_steady b (p + 1) vs parts.1))
+      ap (λ d. edges_by r p v.installer d ++ walk s r now (p + 1) vs) same
+      ∙ (ap (λ es. es ++ walk s r now (p + 1) vs) (unchanged p v.installer)
+      ∙ (ap (λ c. walk s r c (p + 1) vs) (alike b now same) ∙ along_steady b (p + 1) vs parts.1))
 
 -- an operation has nothing to do with such a row that it doesn't list
 pub steady_row : (h : History) (n : ℕ) (op : Op) (row : Row) (chain : Chain) → is_some (get op.rows row) ≡ false → is_steady op.statement row chain ≡ true → found_at_row h n op (row, chain) ≡ []

@@ -1,9 +1,9 @@
 -- Cells that tell which kinds of edges there are.
-use Rattle.std.proofs.Common.{◌≡◌, ◌≢◌, ◌⊎◌, ◌<◌, ◌==◌, ℕ, true, List, [], ◌∷◌, ◌++◌, length, get_or, set, refl, sym, ap, ◌∙◌, subst, inl, inr}
+use Rattle.std.proofs.Common.{◌≡◌, ◌≢◌, ◌⊎◌, ◌<◌, ◌==◌, ℕ, true, false, cond, List, [], ◌∷◌, ◌++◌, length, get_or, set, refl, sym, ap, ◌∙◌, subst, inl, inr}
 use Rattle.std.specs.Prelude.{Contains, bit_and, bit_or}
-use Rattle.std.proofs.lemmas.{Bool.{cases_eq, eq-eqb}, List.{get_or-set_same, get_or-set_other, length-set, Elements.{Contains-append_left, Contains-append_right, Contains-append_cases}}, Nat.{and_or_self, and_or_apart, mul-add-lt, same_from_place}}
+use Rattle.std.proofs.lemmas.{Bool.{cases_eq, eq-eqb, eqb-true}, List.{append-nil, get_or-set_same, get_or-set_other, length-set, Elements.{Contains-append_left, Contains-append_right, Contains-append_cases}}, Nat.{and_or_self, and_or_apart, mul-add-lt, same_from_place}}
 use Rattle.lab_table.{specs.Row.{Row}, proofs.Members.{first_member, only_member}}
-use Rattle.lab_deps.specs.{KindBits.{bit, has_bit, place, cell_at, edge_of, Tells}, declared.edge.{Edge.{Edge}, Kind.{Kind, TheVariants.{Write, ItemRead, PredicateRead, ItemAnti, PredicateAnti}}}}
+use Rattle.lab_deps.specs.{Collected.{apart}, KindBits.{bit, has_bit, place, cell_at, edge_of, Tells}, declared.edge.{Edge.{Edge}, Kind.{Kind, TheVariants.{Write, ItemRead, PredicateRead, ItemAnti, PredicateAnti}}}}
 
 -- two kinds are one, or share no bit
 pub kinds_apart : (a b : Kind) → (a ≡ b) ⊎ (bit_and (bit a) (bit b) ≡ 0)
@@ -85,8 +85,8 @@ module _ (ps : List ℕ) (w : ℕ) (cs made : List ℕ) (es : List Edge) (t : Te
       ap (λ f. edge_of f e.to e.kind e.row) (sym a) ∙ (ap (λ t. edge_of from t e.kind e.row) (sym b) ∙ ap (λ k. edge_of from to k e.row) c) in
       (e.row, subst (Contains (es ++ e ∷ [])) is (Contains-append_right es (e ∷ []) e (first_member e [])))
 
-  was_told : (from to : ℕ) (kind : Kind) → place ps from ≢ 0 → place ps to ≢ 0 → has_bit (get_or next (cell_at ps w from to) 0) kind ≡ true → Among (es ++ e ∷ []) from to kind
-  was_told from to kind a b has =
+  was_told : (from to : ℕ) (kind : Kind) → from ≢ to → place ps from ≢ 0 → place ps to ≢ 0 → has_bit (get_or next (cell_at ps w from to) 0) kind ≡ true → Among (es ++ e ∷ []) from to kind
+  was_told from to kind d a b has =
       elim (cases_eq (cell_at ps w from to) at) [
         | inl same ↦
             let places = same_from_place (place ps from) (place ps to) (place ps e.from) (place ps e.to) w (t.below to) (t.below e.to) same in
@@ -94,16 +94,16 @@ module _ (ps : List ℕ) (w : ℕ) (cs made : List ℕ) (es : List Edge) (t : Te
             sym (ap (λ c. has_bit c kind) here) ∙ subst (λ i. has_bit (get_or next i 0) kind ≡ true) same has in
             elim (kinds_apart e.kind kind) [
               | inl is ↦ last_is from to kind (t.apart from e.from places.0 a) (t.apart to e.to places.1 b) is
-              | inr off ↦ more from to kind ((t.exact from to kind a b).0
+              | inr off ↦ more from to kind ((t.exact from to kind d a b).0
                   (subst (λ i. has_bit (get_or cs i 0) kind ≡ true) (sym same) (sym (bit_other (get_or cs at 0) e.kind kind off) ∙ has_here)))
             ]
-        | inr other ↦ more from to kind ((t.exact from to kind a b).0 (sym (ap (λ c. has_bit c kind) (there (cell_at ps w from to) other)) ∙ has))
+        | inr other ↦ more from to kind ((t.exact from to kind d a b).0 (sym (ap (λ c. has_bit c kind) (there (cell_at ps w from to) other)) ∙ has))
       ]
 
-  is_told : (from to : ℕ) (kind : Kind) → place ps from ≢ 0 → place ps to ≢ 0 → Among (es ++ e ∷ []) from to kind → has_bit (get_or next (cell_at ps w from to) 0) kind ≡ true
-  is_told from to kind a b (row, found) =
+  is_told : (from to : ℕ) (kind : Kind) → from ≢ to → place ps from ≢ 0 → place ps to ≢ 0 → Among (es ++ e ∷ []) from to kind → has_bit (get_or next (cell_at ps w from to) 0) kind ≡ true
+  is_told from to kind d a b (row, found) =
       elim (Contains-append_cases es (e ∷ []) (edge_of from to kind row) found) [
-        | inl before ↦ kept (cell_at ps w from to) kind ((t.exact from to kind a b).1 (row, before))
+        | inl before ↦ kept (cell_at ps w from to) kind ((t.exact from to kind d a b).1 (row, before))
         | inr now ↦ subst (λ (f : Edge). has_bit (get_or next (cell_at ps w f.from f.to) 0) f.kind ≡ true) (only_member e (edge_of from to kind row) now) set_here
       ]
 
@@ -114,5 +114,44 @@ module _ (ps : List ℕ) (w : ℕ) (cs made : List ℕ) (es : List Edge) (t : Te
     square = length-set cs at (bit_or (get_or cs at 0) (bit e.kind)) ∙ t.square;
     below = t.below;
     apart = t.apart;
-    exact = λ from to kind a b. (was_told from to kind a b, is_told from to kind a b);
+    exact = λ from to kind d a b. (was_told from to kind d a b, is_told from to kind d a b);
   }
+
+  -- the bit of one from a transaction to itself tells nothing
+  pub told_apart : Tells ps w next made (es ++ apart e)
+  told_apart =
+      elim (e.from == e.to) as (λ b. (e.from == e.to) ≡ b → Tells ps w next made (es ++ cond b [] (e ∷ []))) [
+        | true ↦ λ own. record {
+            same = told_next.same;
+            square = told_next.square;
+            below = told_next.below;
+            apart = told_next.apart;
+            exact = λ from to kind d a b. (
+              λ has.
+                  let (row, found) = (told_next.exact from to kind d a b).0 has in
+                  elim (Contains-append_cases es (e ∷ []) (edge_of from to kind row) found) [
+                    | inl before ↦ (row, Contains-append_left es [] (edge_of from to kind row) before)
+                    | inr now ↦ absurd (d (subst (λ (f : Edge). f.from ≡ f.to) (only_member e (edge_of from to kind row) now) (eqb-true e.from e.to own)))
+                  ],
+              λ (row, found). (told_next.exact from to kind d a b).1 (more from to kind (row, subst (λ fs. Contains fs (edge_of from to kind row)) (append-nil es) found)),
+            );
+          }
+        | false ↦ λ _. told_next
+      ] refl
+
+module _ (ps : List ℕ) (w : ℕ) (cs made : List ℕ) (es : List Edge) (t : Tells ps w cs made es) where
+  -- what a cell has that stands for no two transactions tells nothing
+  pub told_off : (k cell : ℕ) → ((from to : ℕ) → from ≢ to → place ps from ≢ 0 → place ps to ≢ 0 → cell_at ps w from to ≢ k) → Tells ps w (set cs k cell) made es
+  told_off k cell off =
+      let same : (from to : ℕ) (kind : Kind) → from ≢ to → place ps from ≢ 0 → place ps to ≢ 0 → has_bit (get_or (set cs k cell) (cell_at ps w from to) 0) kind ≡ has_bit (get_or cs (cell_at ps w from to) 0) kind =
+      λ from to kind d a b. ap (λ c. has_bit c kind) (get_or-set_other cs k (cell_at ps w from to) cell 0 (off from to d a b)) in
+      record {
+        same = t.same;
+        square = length-set cs k cell ∙ t.square;
+        below = t.below;
+        apart = t.apart;
+        exact = λ from to kind d a b. (
+          λ has. (t.exact from to kind d a b).0 (sym (same from to kind d a b) ∙ has),
+          λ found. same from to kind d a b ∙ (t.exact from to kind d a b).1 found,
+        );
+      }

@@ -15,10 +15,10 @@ told_same ps w cs made es fs gs same told = record {
   square = told.square;
   below = told.below;
   apart = told.apart;
-  exact = λ from to kind a b. (
+  exact = λ from to kind d a b. (
     λ has.
-        let one = (told.exact from to kind a b).0 has in
+        let one = (told.exact from to kind d a b).0 has in
         (one.0, after_same es fs gs (λ e. (same e).0) (edge_of from to kind one.0) one.1),
-    λ (row, there). (told.exact from to kind a b).1 (row, after_same es gs fs (λ e. (same e).1) (edge_of from to kind row) there),
+    λ (row, there). (told.exact from to kind d a b).1 (row, after_same es gs fs (λ e. (same e).1) (edge_of from to kind row) there),
   );
 }

@@ -1,20 +1,19 @@
 //! Which kinds of dependencies there are between the transactions of a history.
 
-ghost use Rattle.std.specs.Prelude.{◌≡◌, ◌≢◌, ◌<◌, ◌+◌, ◌*◌, ◌++◌, ◌∷◌, [], true, ℕ, List, get_or, set, bit_or, Contains, IfOk};
+ghost use Rattle.std.specs.Prelude.{◌≡◌, ◌≢◌, ◌≤◌, ◌<◌, ◌+◌, ◌*◌, ◌++◌, ◌∷◌, [], true, ℕ, List, get_or, set, bit_or, Contains, IfOk, IfSome};
 ghost use Rattle.lab_history.specs.declared.transaction.Txn.{Txn as Transaction};
-ghost use Rattle.lab_deps.specs.CellGains.{CellsGain, IsBetween, IsOfSet, IsOfTable, IsOfTableAt};
-ghost use Rattle.lab_sets.specs.Sets.{has};
 ghost use Rattle.lab_deps.specs.KindBits.{bit, has_bit, place, bits_at, bits_of, Tells};
+ghost use Rattle.lab_deps.specs.Marks.{Reaches, turns_marked};
 ghost use Rattle.lab_deps.specs.Numbering.{HasPlaces};
+ghost use Rattle.lab_deps.specs.Turns.{AreMarks};
 ghost use Rattle.lab_deps.specs.declared.edge.Edge.{Edge as Spelled};
 
 mod row;
 
 use crate::edge::{Edge, Kind};
-use crate::set_table::SetTable;
+use crate::turns::Turns;
 use crate::txn_places::{place_in, places_of};
 use lab_history::History;
-use lab_sets::NumberSet;
 use lab_table::{NoMemory, TxnNo};
 use std::alloc::Global;
 
@@ -107,88 +106,50 @@ impl Arrows {
         self.width
     }
 
-    /// Sets the bit of a kind in the cells between each place and those that its set has, of which it is the first or the
-    /// second.
-    pub fn add_table(&mut self, table: &SetTable, kind: Kind, first: bool)
+    /// Whether there are cells between a place and all up to another one.
+    pub fn reaches(&self, place: u16, most: u16) -> bool
+        ensures { result ≡ true → Reaches self.now.width self.now.cells.items place most }
+    {
+        let width = self.width as usize;
+        place < self.width && (most < self.width && self.cells.len() == width * width)
+    }
+
+    /// Sets the bits between a reader of the version at a place of a row and the installers of those at which it turns.
+    pub fn mark_turns(&mut self, turns: &Turns, reader: u16, place: usize)
+        requires reach { Reaches self.old.width self.old.cells.items reader turns.now.most }
+        requires most { (k : ℕ) → get_or turns.now.installers.items k 0 ≤ turns.now.most }
+        requires marks { IfSome turns.now.marks (λ row. AreMarks turns.now.installers.items turns.now.most row.items) }
         ensures places { self.new.places.items ≡ self.old.places.items }
         ensures width { self.new.width ≡ self.old.width }
-        ensures cells { CellsGain self.old.width (IsOfTable kind first table.now self.old.width) self.old.cells.items self.new.cells.items }
+        ensures cells { self.new.cells.items ≡ turns_marked self.old.width reader place turns.now.installers.items self.old.cells.items }
     {
-        for one in 0..self.width {
-            self.add_at(table, one, kind, first);
+        let width = self.width;
+        turns.mark(&mut self.cells, width, reader, place);
+    }
+
+    /// Takes the bits between each transaction and itself away.
+    pub fn clear_own(&mut self)
+        ensures places { self.new.places.items ≡ self.old.places.items }
+        ensures width { self.new.width ≡ self.old.width }
+        ensures told { (made : List ℕ) (es : List Spelled) → Tells self.old.places.items self.old.width self.old.cells.items made es
+            → Tells self.old.places.items self.old.width self.new.cells.items made es }
+        ensures own { (n : ℕ) → n < self.old.width → get_or self.new.cells.items (n * self.old.width + n) 0 ≡ 0 }
+    {
+        for place in 0..self.width {
+            let at = self.at(place, place);
+            self.clear(at);
         }
     }
 
-    /// The same of one place.
-    fn add_at(&mut self, table: &SetTable, one: u16, kind: Kind, first: bool)
-        requires { one < self.old.width }
+    /// Takes all bits of a cell away.
+    fn clear(&mut self, at: usize)
         ensures places { self.new.places.items ≡ self.old.places.items }
         ensures width { self.new.width ≡ self.old.width }
-        ensures cells { CellsGain self.old.width (IsOfTableAt kind first table.now self.old.width one) self.old.cells.items self.new.cells.items }
+        ensures cells { self.new.cells.items ≡ set self.old.cells.items at 0 }
     {
-        match table.get(one) {
-            None => (),
-            Some(set) => self.add_set(set, one, kind, first),
+        if at < self.cells.len() {
+            self.cells[at] = 0;
         }
-    }
-
-    /// The same of one place and its set.
-    fn add_set(&mut self, set: &NumberSet, one: u16, kind: Kind, first: bool)
-        requires { one < self.old.width }
-        ensures places { self.new.places.items ≡ self.old.places.items }
-        ensures width { self.new.width ≡ self.old.width }
-        ensures cells { CellsGain self.old.width (IsOfSet kind first set.now self.old.width one) self.old.cells.items self.new.cells.items }
-    {
-        if set.is_bare() {
-            return;
-        }
-        for other in 0..self.width {
-            self.mark_in(set, one, other, kind, first);
-        }
-    }
-
-    /// The same of one place and another one.
-    fn mark_in(&mut self, set: &NumberSet, one: u16, other: u16, kind: Kind, first: bool)
-        requires one { one < self.old.width }
-        requires other { other < self.old.width }
-        ensures places { self.new.places.items ≡ self.old.places.items }
-        ensures width { self.new.width ≡ self.old.width }
-        ensures cells { CellsGain self.old.width (λ i j k. (has set.now other ≡ true) × IsBetween kind first one other i j k) self.old.cells.items self.new.cells.items }
-    {
-        if !set.has(other as u32) {
-            return;
-        }
-        self.mark_between(one, other, kind, first);
-    }
-
-    /// Sets the bit of a kind in the cell between two places, if these aren't the same. The one is the first or the second.
-    fn mark_between(&mut self, one: u16, other: u16, kind: Kind, first: bool)
-        requires one { one < self.old.width }
-        requires other { other < self.old.width }
-        ensures places { self.new.places.items ≡ self.old.places.items }
-        ensures width { self.new.width ≡ self.old.width }
-        ensures cells { CellsGain self.old.width (IsBetween kind first one other) self.old.cells.items self.new.cells.items }
-    {
-        if one == other {
-            return;
-        }
-        if first {
-            self.mark_pair(one, other, kind);
-            return;
-        }
-        self.mark_pair(other, one, kind);
-    }
-
-    /// Sets the bit of a kind in the cell of two places.
-    fn mark_pair(&mut self, from: u16, to: u16, kind: Kind)
-        requires from { from < self.old.width }
-        requires to { to < self.old.width }
-        ensures places { self.new.places.items ≡ self.old.places.items }
-        ensures width { self.new.width ≡ self.old.width }
-        ensures cells { CellsGain self.old.width (λ i j k. (k ≡ kind) × (i ≡ from) × (j ≡ to)) self.old.cells.items self.new.cells.items }
-    {
-        let at = self.at(from, to);
-        self.mark(at, kind);
     }
 
     /// Sets an edge's bit.

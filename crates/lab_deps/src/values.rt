@@ -1,258 +1,182 @@
-//! The values of a row, each once.
+//! The values of a row, each once, and what a statement answers for each.
 
-ghost use Rattle.std.specs.Prelude.{◌≡◌, ◌++◌, ℕ, true, Some, [], map, slice_get, OnOk, IfOk};
-ghost use Rattle.lab_deps.specs.Edges.{differ};
+ghost use Rattle.std.specs.Prelude.{◌≡◌, true, OnOk, IfOk, IfSome};
+ghost use Rattle.lab_table.specs.Row.{Row};
 ghost use Rattle.lab_table.specs.Statement.{matches};
-ghost use Rattle.lab_table.specs.Table.{State};
-ghost use Rattle.lab_deps.specs.EdgesByRow.{answers_of, AreValuesOf};
+ghost use Rattle.lab_deps.specs.Turns.{alike, asked, Heeds, IsNumber, AreNumbers};
 
 use crate::effect::is_same;
+use crate::kept::FEWEST;
 use crate::reading::differ;
 use crate::versions::Version;
-use indexmap::IndexMap;
 use lab_table::{NoMemory, RowName, Statement, Value};
 use std::alloc::Global;
 
-/// The value that a row has at first, and those of the first of its versions, up to 256 values. A version has one byte
-/// here, so that a walk reads little.
+/// By what the versions of a row are told apart.
 #[derive(Drop)]
 pub struct Values {
-    /// Each value, None for an absent row. The first one is that which the row has at first.
-    values: Vec<Option<Value>>,
-    /// For each of the versions the place of its value.
-    places: Vec<u8>,
+    /// Whether by their values, of which there are few; else by whether the row is there.
+    pub exact: bool,
+    /// The values beside the one that the row has at first, None for an absent row; one, where only that matters.
+    pub others: Vec<Option<Value>>,
 }
 
+/// So many values beside the first one aren't told apart.
+const MANY: usize = 32;
+
 impl Values {
-    /// The value that a row has at first, and those of these versions; of the versions none where no value comes twice.
-    /// NoMemory where an allocation was refused.
+    /// By what these versions of a row are told apart, which has the value that is given at first. NoMemory where an
+    /// allocation was refused.
     pub fn of(
         alloc: Global,
         before: &Option<Value>,
         versions: &[Version],
-    ) -> Result<Values, NoMemory>
-        ensures first { IfOk result (λ found. slice_get found.values.items 0 ≡ Some before.now) }
-        ensures values { IfOk result (λ found. AreValuesOf found.values.items found.places.items versions.now) }
-    {
-        let found = Values::found(alloc, before, versions)?;
-        if found.values.len() <= found.places.len()
-            && (found.is_first(before) && found.fit(versions))
-        {
-            Ok(found)
-        } else {
-            Values::none(alloc, before)
+    ) -> Result<Values, NoMemory> {
+        let mut others = Vec::new(alloc);
+        if versions.len() < FEWEST {
+            return Ok(Values {
+                exact: false,
+                others,
+            });
         }
-    }
-
-    /// The numbers of the versions' values.
-    pub fn numbers(&self) -> &[u8]
-        ensures { result.now ≡ self.now.places.items }
-    {
-        &self.places
-    }
-
-    /// How many values there are.
-    pub fn count(&self) -> usize {
-        self.values.len()
-    }
-
-    /// Whether the value with a number comes before the one with another, as an absent row does before all.
-    pub fn is_before(&self, number: usize, other: usize) -> bool {
-        match (self.values.get(number), self.values.get(other)) {
-            (Some(Some(value)), Some(Some(other))) => value.number() < other.number(),
-            (Some(None), Some(Some(_))) => true,
-            _ => false,
+        for version in versions {
+            if others.len() < MANY && number_of(true, before, &others, &version.value).is_none() {
+                others.push(version.value)?;
+            }
         }
+        let exact = others.len() < MANY && 2 * others.len() < versions.len();
+        if !exact {
+            others.clear();
+            others.push(other_presence(*before))?;
+        }
+        Ok(Values { exact, others })
     }
 
-    /// Asks a statement whether it takes each value otherwise than the first one. NoMemory where an allocation was
-    /// refused.
+    /// For each of these versions the place of its value among the others, or their count where it is the first one; None
+    /// where one isn't found. NoMemory where an allocation was refused.
+    pub fn numbers(
+        &self,
+        alloc: Global,
+        before: &Option<Value>,
+        versions: &[Version],
+    ) -> Result<Option<Vec<usize>>, NoMemory>
+        ensures { IfOk result (λ found. IfSome found (λ numbers. AreNumbers self.now.exact before.now self.now.others.items versions.now numbers.items)) }
+    {
+        let mut numbers = Vec::with_capacity(alloc, versions.len())?;
+        for version in versions {
+            let Some(number) = number_of(self.exact, before, &self.others, &version.value) else {
+                return Ok(None);
+            };
+            numbers.push(number)?;
+        }
+        Ok(Some(numbers))
+    }
+
+    /// Whether a statement answers the same for all values that aren't told apart.
+    pub fn suit(&self, statement: &Statement) -> bool
+        ensures { result ≡ true → (row : Row) → Heeds self.now.exact (matches statement.now row) }
+    {
+        if self.exact {
+            return true;
+        }
+        !statement.tests_values()
+    }
+
+    /// Asks a statement whether it takes each value otherwise than the first one, which is given. NoMemory where an
+    /// allocation was refused.
     pub fn ask(
         &self,
         answers: &mut Vec<bool>,
         statement: &Statement,
         row: RowName,
+        before: &Option<Value>,
     ) -> Result<(), NoMemory>
-        ensures { OnOk result ((first : State) → slice_get self.now.values.items 0 ≡ Some first → answers.new.items ≡ map (λ value. differ (matches statement.now row first) (matches statement.now row value)) self.now.values.items) }
+        ensures { OnOk result (answers.new.items ≡ asked (matches statement.now row) before.now self.now.others.items) }
     {
         answers.clear();
-        match self.values.split_first() {
-            None => Ok(()),
-            Some((value, others)) => {
-                answers.push(false)?;
-                ask_others(
-                    answers,
-                    statement,
-                    row,
-                    statement.matches(row, *value),
-                    others,
-                )
-            }
+        let first = statement.matches(row, *before);
+        for value in &self.others {
+            answers.push(differ(first, statement.matches(row, *value)))?;
         }
+        Ok(())
     }
 
-    /// The value that a row has at first alone. NoMemory where an allocation was refused.
-    fn none(alloc: Global, before: &Option<Value>) -> Result<Values, NoMemory>
-        ensures first { IfOk result (λ none. slice_get none.values.items 0 ≡ Some before.now) }
-        ensures none { IfOk result (λ none. none.places.items ≡ []) }
-    {
-        let mut values = Vec::with_capacity(alloc, 1)?;
-        values.push(*before)?;
-        Ok(Values {
-            values,
-            places: Vec::new(alloc),
-        })
-    }
-
-    fn found(
-        alloc: Global,
-        before: &Option<Value>,
-        versions: &[Version],
-    ) -> Result<Values, NoMemory> {
-        let mut seen = IndexMap::new(alloc);
-        seen.insert(key_of(before), 0)?;
-        let mut found = Values::none(alloc, before)?;
-        for version in versions {
-            if !found.add(&mut seen, version.value)? {
-                return Ok(found);
-            }
-        }
-        Ok(found)
-    }
-
-    /// Adds a version of a value, and says whether there was a place for it.
-    fn add(
-        &mut self,
-        seen: &mut IndexMap<i64, u8>,
-        value: Option<Value>,
-    ) -> Result<bool, NoMemory> {
-        let key = key_of(&value);
-        if let Some(place) = seen.get(&key) {
-            self.places.push(*place)?;
-            return Ok(true);
-        }
-        let Ok(place) = u8::try_from(self.values.len()) else {
-            return Ok(false);
-        };
-        seen.insert(key, place)?;
-        self.values.push(value)?;
-        self.places.push(place)?;
-        Ok(true)
-    }
-
-    /// Whether this is the first value.
-    fn is_first(&self, before: &Option<Value>) -> bool
-        ensures { result ≡ true → slice_get self.now.values.items 0 ≡ Some before.now }
-    {
-        match self.values.first() {
-            None => false,
-            Some(value) => is_same(*value, *before),
-        }
-    }
-
-    /// Whether these versions have these values.
-    fn fit(&self, versions: &[Version]) -> bool
-        ensures { result ≡ true → AreValuesOf self.now.values.items self.now.places.items versions.now }
-    {
-        for (place, version) in versions.iter().enumerate() {
-            if !self.fits_at(place, version) {
-                return false;
-            }
-        }
-        true
-    }
-
-    fn fits_at(&self, place: usize, version: &Version) -> bool
-        ensures { result ≡ true → (g : ℕ) → slice_get self.now.places.items place ≡ Some g → slice_get self.now.values.items g ≡ Some version.now.value }
-    {
-        match self.places.get(place) {
-            None => true,
-            Some(at) => match self.values.get(*at as usize) {
-                None => false,
-                Some(value) => is_same(*value, version.value),
-            },
-        }
-    }
-
-    /// Whether each of the versions matches a statement, which is asked once for each value. NoMemory where an
-    /// allocation was refused.
-    pub fn answers(
+    /// One of the ways to tell them apart: a value from all others, or those below one from the others. For each value
+    /// whether it is told from the first one. NoMemory where an allocation was refused.
+    pub fn way(
         &self,
         alloc: Global,
-        statement: &Statement,
-        row: RowName,
-        versions: &[Version],
-    ) -> Result<Vec<bool>, NoMemory>
-        requires { AreValuesOf self.now.values.items self.now.places.items versions.now }
-        ensures { IfOk result (λ answers. answers.items ≡ answers_of statement.now row versions.now) }
-    {
-        let asked = self.asked(alloc, statement, row)?;
-        let mut answers = vec![in alloc; false; versions.len()]?;
-        for (place, version) in versions.iter().enumerate() {
-            answers[place] = self.answer(&asked, statement, row, place, version);
+        before: &Option<Value>,
+        index: usize,
+    ) -> Result<Vec<bool>, NoMemory> {
+        let wanted = self.others.get(index / 2).unwrap_or(before);
+        let first = is_within(before, wanted, index);
+        let mut answers = Vec::with_capacity(alloc, self.others.len())?;
+        for value in &self.others {
+            answers.push(differ(first, is_within(value, wanted, index)))?;
         }
         Ok(answers)
     }
 
-    /// Whether a row of each value matches a statement.
-    fn asked(
-        &self,
-        alloc: Global,
-        statement: &Statement,
-        row: RowName,
-    ) -> Result<Vec<bool>, NoMemory>
-        ensures { IfOk result (λ asked. asked.items ≡ map (matches statement.now row) self.now.values.items) }
-    {
-        let mut asked = Vec::with_capacity(alloc, self.values.len())?;
-        for value in &self.values {
-            asked.push(statement.matches(row, *value))?;
-        }
-        Ok(asked)
-    }
-
-    /// Whether the version at a place matches a statement.
-    fn answer(
-        &self,
-        asked: &[bool],
-        statement: &Statement,
-        row: RowName,
-        place: usize,
-        version: &Version,
-    ) -> bool
-        requires asked { asked.now ≡ map (matches statement.now row) self.now.values.items }
-        requires value { (g : ℕ) → slice_get self.now.places.items place ≡ Some g → slice_get self.now.values.items g ≡ Some version.now.value }
-        ensures { result ≡ matches statement.now row version.now.value }
-    {
-        match self.places.get(place) {
-            None => statement.matches(row, version.value),
-            Some(at) => match asked.get(*at as usize) {
-                None => statement.matches(row, version.value),
-                Some(answer) => *answer,
-            },
+    /// How many ways there are; none where no values are told apart.
+    pub fn ways(&self) -> usize {
+        if self.others.is_empty() {
+            0
+        } else {
+            2 * self.others.len() + 2
         }
     }
 }
 
-/// A number that no other value has.
-fn key_of(value: &Option<Value>) -> i64 {
-    match value {
-        None => i64::MIN,
-        Some(value) => value.number(),
-    }
-}
-
-/// Asks a statement whether it takes each of these values otherwise than is said.
-fn ask_others(
-    answers: &mut Vec<bool>,
-    statement: &Statement,
-    row: RowName,
-    first: bool,
-    values: &[Option<Value>],
-) -> Result<(), NoMemory>
-    ensures { OnOk result (answers.new.items ≡ answers.old.items ++ map (λ value. differ first (matches statement.now row value)) values.now) }
+/// The place of a value among others, or their count where it is the first one; None where it is neither.
+fn number_of(
+    exact: bool,
+    before: &Option<Value>,
+    others: &[Option<Value>],
+    value: &Option<Value>,
+) -> Option<usize>
+    ensures { IfSome result (IsNumber exact before.now others.now value.now) }
 {
-    for value in values {
-        answers.push(differ(first, statement.matches(row, *value)))?;
+    if are_alike(exact, *before, *value) {
+        return Some(others.len());
     }
-    Ok(())
+    for (place, other) in others.iter().enumerate() {
+        if are_alike(exact, *other, *value) {
+            return Some(place);
+        }
+    }
+    None
+}
+
+/// Whether two values are the same, or, where these don't matter, both absent or both there.
+fn are_alike(exact: bool, value: Option<Value>, other: Option<Value>) -> bool
+    ensures { result ≡ alike exact value other }
+{
+    if exact {
+        is_same(value, other)
+    } else {
+        !differ(value.is_some(), other.is_some())
+    }
+}
+
+/// A value of a row that is there where it isn't with this one, or the other way round.
+fn other_presence(value: Option<Value>) -> Option<Value> {
+    match value {
+        None => Value::new(0),
+        Some(_) => None,
+    }
+}
+
+/// Whether a value is one that is wanted, or below it, by turns of an index. An absent row is below all.
+fn is_within(value: &Option<Value>, wanted: &Option<Value>, index: usize) -> bool {
+    if index % 2 == 0 {
+        return is_same(*value, *wanted);
+    }
+    match wanted {
+        None => false,
+        Some(wanted) => match value {
+            None => true,
+            Some(value) => value.number() < wanted.number(),
+        },
+    }
 }
