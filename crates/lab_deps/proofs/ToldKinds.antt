@@ -122,20 +122,20 @@ module _ (ps : List ℕ) (w : ℕ) (cs made : List ℕ) (es : List Edge) (t : Te
   told_apart =
       elim (e.from == e.to) as (λ b. (e.from == e.to) ≡ b → Tells ps w next made (es ++ cond b [] (e ∷ []))) [
         | true ↦ λ own. record {
-            same = told_next.same;
-            square = told_next.square;
-            below = told_next.below;
-            apart = told_next.apart;
-            exact = λ from to kind d a b. (
-              λ has.
-                  let (row, found) = (told_next.exact from to kind d a b).0 has in
-                  elim (Contains-append_cases es (e ∷ []) (edge_of from to kind row) found) [
-                    | inl before ↦ (row, Contains-append_left es [] (edge_of from to kind row) before)
-                    | inr now ↦ absurd (d (subst (λ (f : Edge). f.from ≡ f.to) (only_member e (edge_of from to kind row) now) (eqb-true e.from e.to own)))
-                  ],
-              λ (row, found). (told_next.exact from to kind d a b).1 (more from to kind (row, subst (λ fs. Contains fs (edge_of from to kind row)) (append-nil es) found)),
-            );
-          }
+          same = told_next.same;
+          square = told_next.square;
+          below = told_next.below;
+          apart = told_next.apart;
+          exact = λ from to kind d a b. (
+            λ has.
+                let (row, found) = (told_next.exact from to kind d a b).0 has in
+                elim (Contains-append_cases es (e ∷ []) (edge_of from to kind row) found) [
+                  | inl before ↦ (row, Contains-append_left es [] (edge_of from to kind row) before)
+                  | inr now ↦ absurd (d (subst (λ (f : Edge). f.from ≡ f.to) (only_member e (edge_of from to kind row) now) (eqb-true e.from e.to own)))
+                ],
+            λ (row, found). (told_next.exact from to kind d a b).1 (more from to kind (row, subst (λ fs. Contains fs (edge_of from to kind row)) (append-nil es) found)),
+          );
+        }
         | false ↦ λ _. told_next
       ] refl
 

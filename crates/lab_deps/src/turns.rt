@@ -170,7 +170,11 @@ fn mark_each(cells: &mut [u8], first: u32, step: u16, numbers: &[u16], bits: u8)
     ensures { cells.new ≡ marked first step bits numbers.now cells.old }
 {
     for number in numbers {
-        mark_at(cells, first as usize + *number as usize * step as usize, bits);
+        mark_at(
+            cells,
+            first as usize + *number as usize * step as usize,
+            bits,
+        );
     }
 }
 
