@@ -110,7 +110,7 @@ module _ (P : ℕ → Type 0) (ns : List ℕ) (all : (k : ℕ) → P (get_or ns 
 -- where a reader sees the row as it was at first, all marks are those of the turns
 pub first_marked : (w reader most : ℕ) (ns marks cs : List ℕ) → ((k : ℕ) → get_or ns k 0 ≤ most) → AreMarks ns most marks → all_marked (reader * w) marks cs ≡ turns_marked w reader 0 ns cs
 first_marked w reader most ns marks cs low is =
-    let long : length (replicate (most + 1) 0) ≡ most + 1 = length-replicate (most + 1) 0 in
+    let long : length {A = ℕ} (replicate (most + 1) 0) ≡ most + 1 = length-replicate (most + 1) 0 in
     ap (λ ms. all_marked (reader * w) ms cs) is
     ∙ (all_of_marked ns (replicate (most + 1) 0) cs (reader * w) 16 (λ k. omega (arith, low k, long)) ∙ ap (marked (reader * w) 1 16 ns) (all_of_none (most + 1) cs (reader * w)))
 

@@ -1,4 +1,4 @@
-use Rattle.std.proofs.{Common.{◌≡◌, ◌+◌, ◌∷◌, length, drop, refl, sym, ap, ◌∙◌, arith}, lemmas.List.{drop_all, drop_more}}
+use Rattle.std.proofs.{Common.{◌≡◌, ◌+◌, ◌∷◌, length, get_or, drop, refl, sym, ap, ◌∙◌, arith}, lemmas.List.{drop_all, drop_more}}
 use Rattle.lab_deps.{specs.Marks.{or_at, all_marked}, proofs.MarkedCells.{or_set, length_or}}
 use Rattle.lab_deps.proofs.turns.mark_all.Goals as goal
 
@@ -14,10 +14,10 @@ pub loop-index-preserved : goal.loop-index-preserved
 loop-index-preserved c =
     let ms = c.args.marks.now in
     let i = c.loop-index.index in
-    let m = c.index-marks-index.result in
+    let m = get_or ms i 0 in
     let cs = c.loop-index.cells in
     let k = c.args.first + i in
-    let left : drop i ms ≡ m ∷ drop (i + 1) ms = drop_more ms i m c.loop-index-test.true ∙ ap (λ n. n ∷ drop (i + 1) ms) (sym c.index-marks-index.is) in
+    let left : drop i ms ≡ m ∷ drop (i + 1) ms = drop_more ms i 0 c.loop-index-test.true in
     let on : c.args.first + (i + 1) ≡ k + 1 = omega arith in
     let next : c.mark_at.new.cells ≡ or_at cs k m = c.mark_at.ensures ∙ or_set cs k m in (
       ap length next ∙ (length_or cs k m ∙ c.loop-index.invariant.0),

@@ -9,8 +9,8 @@ mark_each-requires c k =
     let front = c.split_at.ensures.front ∙ (ap (λ n. take n ns) c.min.ensures ∙ take_min place ns) in
     subst (λ ms. c.args.reader + get_or ms k 0 * c.args.width < length c.args.cells.now) (sym front) (each_taken (λ n. c.args.reader + n * c.args.width < length c.args.cells.now) ns c.requires.column place k)
 
-pub mark_each-2-requires : goal.mark_each-2-requires
-mark_each-2-requires c k =
+pub mark_each-requires-2 : goal.mark_each-requires-2
+mark_each-requires-2 c k =
     let ns = c.args.installers.now in
     let place = c.args.place in
     let first = c.args.reader * c.args.width in

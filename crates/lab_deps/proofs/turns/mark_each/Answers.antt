@@ -1,24 +1,22 @@
-use Rattle.std.proofs.{Common.{◌≡◌, ◌<◌, ◌+◌, ◌*◌, ◌∷◌, length, drop, get_or, sym, ap, ◌∙◌, subst}, lemmas.List.{drop_all, drop_more, get_or_read}}
+use Rattle.std.proofs.{Common.{◌≡◌, ◌<◌, ◌+◌, ◌*◌, ◌∷◌, length, drop, get_or, sym, ap, ◌∙◌, subst}, lemmas.List.{drop_all, drop_more}}
 use Rattle.lab_deps.{specs.Marks.{or_at, marked}, proofs.MarkedCells.{or_set, length_or}}
 use Rattle.lab_deps.proofs.turns.mark_each.Goals as goal
 
 pub mark_at-requires : goal.mark_at-requires
 mark_at-requires c =
     let i = c.loop-number.number-index in
-    let n = c.number-item.result in
-    let is : get_or c.args.numbers.now i 0 ≡ n = sym (get_or_read c.args.numbers.now i n c.loop-number-test.true c.number-item.is 0) in
-    subst (λ l. c.args.first + n * c.args.step < l) (sym c.loop-number.invariant.0) (subst (λ m. c.args.first + m * c.args.step < length c.args.cells.now) is (c.requires i))
+    subst (λ l. c.args.first + get_or c.args.numbers.now i 0 * c.args.step < l) (sym c.loop-number.invariant.0) (c.requires i)
 
 pub loop-number-preserved : goal.loop-number-preserved
 loop-number-preserved c =
     let ns = c.args.numbers.now in
     let i = c.loop-number.number-index in
-    let n = c.number-item.result in
+    let n = get_or ns i 0 in
     let cs = c.loop-number.cells in
     let first = c.args.first in
     let step = c.args.step in
     let bits = c.args.bits in
-    let left : drop i ns ≡ n ∷ drop (i + 1) ns = drop_more ns i n c.loop-number-test.true ∙ ap (λ m. m ∷ drop (i + 1) ns) (sym c.number-item.is) in
+    let left : drop i ns ≡ n ∷ drop (i + 1) ns = drop_more ns i 0 c.loop-number-test.true in
     let next : c.mark_at.new.cells ≡ or_at cs (first + n * step) bits = c.mark_at.ensures ∙ or_set cs (first + n * step) bits in (
       ap length next ∙ (length_or cs (first + n * step) bits ∙ c.loop-number.invariant.0),
       ap (marked first step bits (drop (i + 1) ns)) next ∙ (sym (ap (λ ms. marked first step bits ms cs) left) ∙ c.loop-number.invariant.1),

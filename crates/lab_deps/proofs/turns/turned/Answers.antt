@@ -12,15 +12,15 @@ loop-place-preserved c =
     let vs = c.args.versions.now in
     let p = c.loop-place.place in
     let v = c.index-versions-place.result in
-    let g = c.index-numbers-place.result in
+    let g = get_or gs p 0 in
     let before = c.loop-place.before in
     let after = get_or bs g false in
     let found = c.loop-place.found.items in
     let rest = turned after (classes_of bs (drop (p + 1) gs)) (drop (p + 1) vs) in
-    let left_numbers : drop p gs ≡ g ∷ drop (p + 1) gs = drop_more gs p g (subst (λ n. p < n) (sym c.requires) c.loop-place-test.true) ∙ ap (λ h. h ∷ drop (p + 1) gs) (sym c.index-numbers-place.is) in
+    let left_numbers : drop p gs ≡ g ∷ drop (p + 1) gs = drop_more gs p 0 (subst (λ n. p < n) (sym c.requires) c.loop-place-test.true) in
     let left : drop p vs ≡ v ∷ drop (p + 1) vs = drop_more vs p v c.loop-place-test.true ∙ ap (λ u. u ∷ drop (p + 1) vs) (sym c.index-versions-place.is) in
-    let here = c.installer_if.ensures ∙ ap (λ b. cond b v.place 0) (c.differ.ensures ∙ ap (differ before) c.answer_at.ensures) in
-    ap (λ b. c.push.new.self.items ++ turned b (classes_of bs (drop (p + 1) gs)) (drop (p + 1) vs)) c.answer_at.ensures
+    let here = c.installer_if.ensures ∙ ap (λ b. cond b v.place 0) (c.differ.ensures ∙ ap (differ before) c.answer_at-after.ensures) in
+    ap (λ b. c.push.new.self.items ++ turned b (classes_of bs (drop (p + 1) gs)) (drop (p + 1) vs)) c.answer_at-after.ensures
     ∙ (ap (λ ns. ns ++ rest) (c.in_ok-push.ensures.items ∙ ap (λ n. found ++ n ∷ []) here)
     ∙ (append_assoc found (cond (differ before after) v.place 0 ∷ []) rest
     ∙ (sym (ap (λ hs. found ++ turned before (classes_of bs hs) (drop p vs)) left_numbers ∙ ap (λ us. found ++ turned before (after ∷ classes_of bs (drop (p + 1) gs)) us) left) ∙ c.loop-place.invariant)))
