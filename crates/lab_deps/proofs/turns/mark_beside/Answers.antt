@@ -14,8 +14,10 @@ mark_each-requires-2 c k =
     let ns = c.args.installers.now in
     let place = c.args.place in
     let first = c.args.reader * c.args.width in
+    let front = c.split_at.ensures.front ∙ (ap (λ n. take n ns) c.min.ensures ∙ take_min place ns) in
     let back = c.split_at.ensures.back ∙ (ap (λ n. drop n ns) c.min.ensures ∙ drop_min place ns) in
-    let same : length c.mark_each.new.cells ≡ length c.args.cells.now = ap length c.mark_each.ensures ∙ length_marked _ c.args.cells.now c.args.reader c.args.width 4 in
+    let marks : c.mark_each.new.cells ≡ marked c.args.reader c.args.width 4 (take place ns) c.args.cells.now = c.mark_each.ensures ∙ ap (λ ms. marked c.args.reader c.args.width 4 ms c.args.cells.now) front in
+    let same : length c.mark_each.new.cells ≡ length c.args.cells.now = ap length marks ∙ length_marked (take place ns) c.args.cells.now c.args.reader c.args.width 4 in
     subst (λ ms. first + get_or ms k 0 * 1 < length c.mark_each.new.cells) (sym back)
     (subst (λ l. first + get_or (drop place ns) k 0 * 1 < l) (sym same) (each_dropped (λ n. first + n * 1 < length c.args.cells.now) ns c.requires.row place k))
 

@@ -1,9 +1,9 @@
-use Rattle.std.{proofs.Common.{◌≤◌, ℕ, get_or, subst}, specs.Prelude.{IfSome}}
+use Rattle.std.{proofs.Common.{◌≤◌, ℕ, get_or, sym, ◌∙◌, subst}, specs.Prelude.{IfSome}}
 use Rattle.lab_deps.specs.Turns.{AreMarks}
 use Rattle.lab_deps.proofs.turns.Turns.of.Goals as goal
 
 pub marks_of-requires : goal.marks_of-requires
-marks_of-requires c k = c.greatest-most.ensures k
+marks_of-requires c k = subst (λ ns. get_or ns k 0 ≤ c.greatest-most.result) (c.deref.ensures.value ∙ sym c.deref-2.ensures.value) (c.greatest-most.ensures k)
 
 pub returns : goal.returns
 returns c = record {
