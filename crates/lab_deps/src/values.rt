@@ -123,7 +123,7 @@ impl Values {
         if self.others.is_empty() {
             0
         } else {
-            2 * self.others.len() + 2
+            (2 * self.others.len()).saturating_add(2)
         }
     }
 }

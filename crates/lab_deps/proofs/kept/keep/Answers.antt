@@ -1,9 +1,9 @@
-use Rattle.std.proofs.Common.{sym, subst}
+use Rattle.std.proofs.Common.{false, sym, subst}
 use Rattle.lab_deps.{specs.Turns.{classes_of, AreTurns, AreKept}, proofs.NumberedStates.{kept_more}}
 use Rattle.lab_deps.proofs.kept.keep.Goals as goal
 
-pub returns-in_ok-push : goal.returns-in_ok-push
-returns-in_ok-push c exact before others are so_far =
+pub returns : goal.returns
+returns c exact before others are so_far =
     let vs = c.args.versions.now in
     let numbers = c.args.numbers.now in
     subst (AreKept exact before others vs) (sym c.in_ok-push.ensures.items)

@@ -2,15 +2,15 @@ use Rattle.std.{proofs.Common.{◌≡◌, length, sym, ap, ◌∙◌, subst}, sp
 use Rattle.lab_deps.{specs.Turns.{AreKept, AreNumbers}, proofs.NumberedStates.{as_many, none_kept}}
 use Rattle.lab_deps.proofs.kept.kept_of.Goals as goal
 
-pub returns-in-None : goal.returns-in-None
-returns-in-None c =
+pub returns-in_default : goal.returns-in_default
+returns-in_default c =
     let values = c.args.values.now in
-    subst (AreKept values.exact c.args.before.now values.others.items c.args.versions.now) (sym c.new.ensures.items) (none_kept values.exact c.args.before.now values.others.items c.args.versions.now)
+    subst (AreKept values.exact c.args.before.now values.others.items c.args.versions.now) (sym c.new-kept.ensures.items) (none_kept values.exact c.args.before.now values.others.items c.args.versions.now)
 
 pub loop-index-init : goal.loop-index-init
 loop-index-init c =
     let values = c.args.values.now in
-    subst (AreKept values.exact c.args.before.now values.others.items c.args.versions.now) (sym c.new.ensures.items) (none_kept values.exact c.args.before.now values.others.items c.args.versions.now)
+    subst (AreKept values.exact c.args.before.now values.others.items c.args.versions.now) (sym c.new-kept.ensures.items) (none_kept values.exact c.args.before.now values.others.items c.args.versions.now)
 
 pub keep-requires : goal.keep-requires
 keep-requires c =

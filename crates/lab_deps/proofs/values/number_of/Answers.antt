@@ -9,4 +9,4 @@ pub returns-then-are_alike-2 : goal.returns-then-are_alike-2
 returns-then-are_alike-2 c =
     let other = c.index-others-place.result in
     other_number c.args.exact c.args.before.now c.args.others.now c.args.value.now c.loop-place.place other c.loop-place-test.true
-    (ap (λ x. alike c.args.exact x c.args.value.now) (sym c.index-others-place.is) ∙ (sym c.are_alike-2.ensures ∙ c.if-are_alike-2.true))
+    (ap (λ x. alike c.args.exact x c.args.value.now) (sym c.index-others-place.is) ∙ (sym c.are_alike-in-loop-place.ensures ∙ c.if-are_alike-2.true))
