@@ -1,8 +1,8 @@
 -- The kinds that cells tell of are those of some edges of a history.
 use Rattle.std.{proofs.{Common.{◌≡◌, ◌≢◌, ◌↔◌, ◌<◌, ◌+◌, ◌*◌, ◌==◌, ℕ, true, false, cond, List, [], length, get_or, replicate, refl, sym, ap, ◌∙◌, arith, inl, inr}, lemmas.{Bool.{cases_eq, eqb-false, ne_eqb, false≢true}, List.{length-replicate}}}, specs.Prelude.{Contains}}
 use Rattle.lab_table.{specs.Row.{Row}, proofs.Members.{no_member}}
-use Rattle.lab_history.specs.{History.{History}, Version.{IsCommitted}, declared.transaction.Txn.{Txn}}
-use Rattle.lab_deps.{specs.{Edges.{IsEdge}, KindBits.{has_bit, place, cell_at, bits_of, edge_of, IsNumbering, Tells}, declared.edge.{Edge.{Edge}, Kind.{Kind, TheVariants.{Write, ItemRead, PredicateRead, ItemAnti, PredicateAnti}}}}, proofs.{Numbered.{zeros}, Readers.{committed_txn}}}
+use Rattle.lab_history.specs.{History.{History}, Version.{IsCommitted}}
+use Rattle.lab_deps.{specs.{Edges.{IsEdge}, KindBits.{has_bit, place, cell_at, bits_of, edge_of, Tells}, Numbering.{IsNumbering}, declared.edge.{Edge.{Edge}, Kind.{Kind, TheVariants.{Write, ItemRead, PredicateRead, ItemAnti, PredicateAnti}}}}, proofs.NumberedNodes.{zeros}}
 
 pub no_bit : (k : Kind) → has_bit 0 k ≡ false
 no_bit Write = refl
@@ -12,8 +12,8 @@ no_bit ItemAnti = refl
 no_bit PredicateAnti = refl
 
 -- empty cells tell of no edges
-pub told_none : (ts : List Txn) (ps : List ℕ) (k w : ℕ) (cs : List ℕ) → IsNumbering ts ps k → w ≡ k + 1 → cs ≡ replicate (w * w) 0 → Tells ps w cs ps []
-told_none ts ps k w cs numbering wide empty = record {
+pub told_none : (ns ps : List ℕ) (w : ℕ) (cs : List ℕ) → IsNumbering ns ps → w ≡ length ns + 1 → cs ≡ replicate (w * w) 0 → Tells ps w cs ps []
+told_none ns ps w cs numbering wide empty = record {
   same = refl;
   square = ap length empty ∙ length-replicate (w * w) 0;
   below = λ n. omega (arith, wide, numbering.few n);
@@ -43,7 +43,7 @@ module _ (p q cell : ℕ) (kind : Kind) where
 
 -- cells that tell of some edges of a history tell of them exactly
 module _ (h : History) (es : List Edge) (are_edges : (e : Edge) → Contains es e → IsEdge h e) where
-  pub exact_of : (ps : List ℕ) (w : ℕ) (cs made : List ℕ) → Tells ps w cs made es → ((n : ℕ) → n < w → get_or cs (n * w + n) 0 ≡ 0) → ((t : Txn) → Contains h.txns t → place made t.no ≢ 0)
+  pub exact_of : (ps : List ℕ) (w : ℕ) (cs made : List ℕ) → Tells ps w cs made es → ((n : ℕ) → n < w → get_or cs (n * w + n) 0 ≡ 0) → ((n : ℕ) → IsCommitted h n → place made n ≢ 0)
       → (from to : ℕ) (kind : Kind) → (has_bit (bits_of ps w cs from to) kind ≡ true) ↔ ((row : Row) × Contains es (edge_of from to kind row))
   exact_of ps w cs made told own placed from to kind = (forth, back)
     where
@@ -57,9 +57,7 @@ module _ (h : History) (es : List Edge) (are_edges : (e : Edge) → Contains es 
           ]
 
       has_place : (n : ℕ) → IsCommitted h n → place ps n ≢ 0
-      has_place n committed none =
-          let one = committed_txn h n committed in
-          placed one.txn one.is_there (ap (place made) one.number_is ∙ (ap (λ xs. place xs n) (sym told.same) ∙ none))
+      has_place n committed none = placed n committed (ap (λ xs. place xs n) (sym told.same) ∙ none)
 
       back : (row : Row) × Contains es (edge_of from to kind row) → has_bit (bits_of ps w cs from to) kind ≡ true
       back (row, there) =

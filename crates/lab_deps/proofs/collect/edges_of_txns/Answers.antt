@@ -17,7 +17,7 @@ loop-txn-preserved c =
     let left : drop c.loop-txn.txn-index h.txns ≡ txn ∷ behind = drop_more h.txns c.loop-txn.txn-index txn within ∙ ap (λ it. it ∷ behind) (sym is) in
     let so_far = subst (λ txns. HasMembersOf (old ++ flat_map f txns) all) left c.loop-txn.invariant in
     let found = c.in_ok-found.found.items in
-    let has = members_of found (flat_map (found_by h txn.no) c.committed_ops-ops.result.now) (f txn) (c.in_ok-found.ensures c.in_ok-rows.ensures.places.0 c.in_ok-rows.ensures.places.1) (ap (flat_map (found_by h txn.no)) c.committed_ops-ops.ensures) in
+    let has = members_of found (flat_map (found_by h txn.no) c.committed_ops-ops.result.now) (f txn) (c.in_ok-found.ensures c.in_ok-places.places.items (has_places c)) (ap (flat_map (found_by h txn.no)) c.committed_ops-ops.ensures) in
     let grown : c.extend_from_slice.new.self.items ≡ old ++ found = c.in_ok-extend_from_slice.ensures.items ∙ ap (λ es. old ++ es) c.deref.ensures.value in
     subst (λ es. HasMembersOf (es ++ flat_map f behind) all) (sym grown) (next_members old found (f txn) (flat_map f behind) all has so_far)
 

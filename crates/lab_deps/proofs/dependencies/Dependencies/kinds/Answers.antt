@@ -1,6 +1,6 @@
 use Rattle.std.{proofs.Common.{◌≡◌, ◌↔◌, true, sym, subst}, specs.Prelude.{Contains}}
 use Rattle.lab_table.specs.Row.{Row}
-use Rattle.lab_deps.specs.KindBits.{has_bit, bits_of, edge_of}
+use Rattle.lab_deps.specs.{KindBits.{has_bit, bits_of, edge_of}, KindsBetween.{KindsBetween}}
 use Rattle.lab_deps.proofs.dependencies.Dependencies.kinds.Goals as goal
 
 pub returns : goal.returns
@@ -9,5 +9,5 @@ returns c kind =
     let to = c.args.to in
     let a = c.self.inside.arrows in
     let bits = bits_of a.places.items a.width a.cells.items from to in
-    subst (λ b. (has_bit b kind ≡ true) ↔ ((row : Row) × Contains c.args.self.now (edge_of from to kind row))) (sym c.bits.ensures)
-    (subst (λ es. (has_bit bits kind ≡ true) ↔ ((row : Row) × Contains es (edge_of from to kind row))) c.self.view_is (c.self.invariant.exact from to kind))
+    subst (λ b. (has_bit b kind ≡ true) ↔ ((row : Row) × Contains c.args.self.now.edges (edge_of from to kind row))) (sym c.bits.ensures)
+    (subst (λ (v : KindsBetween). (has_bit bits kind ≡ true) ↔ ((row : Row) × Contains v.edges (edge_of from to kind row))) c.self.view_is (c.self.invariant.told.exact from to kind))

@@ -1,13 +1,16 @@
 -- The numbers of the committed transactions, each once.
-use Rattle.std.{proofs.{Common.{◌≡◌, ℕ, ◌≤◌, ◌==◌, Bool, true, false, cond, Some, List, [], ◌∷◌, map, refl, sym, ap, ◌∙◌, subst, arith, inl, inr}, lemmas.{Bool.{eqb-true, cases_lt, false≢true}, List.Elements.{All-map, All-contains, filter_passes}}}, specs.{Prelude.{Contains, filter, option_map}, List.{All, Sorted.{IsStrictlyIncreasing}}}}
+use Rattle.std.{proofs.{Common.{◌≡◌, ℕ, ◌≤◌, ◌==◌, Bool, true, false, cond, Some, List, [], ◌∷◌, length, map, refl, sym, ap, ◌∙◌, subst, arith, inl, inr}, lemmas.{Bool.{eqb-true, cases_lt, false≢true}, List.{length-map, Sums.{length-filter, count_by-le-length}, Elements.{All-map, All-contains, filter_passes}}}}, specs.{Prelude.{Contains, count_by, filter, option_map}, List.{All, Sorted.{IsStrictlyIncreasing}}}}
 use Rattle.lab_history.specs.{History.{History}, Version.{outcome_of, find_txn}, declared.transaction.Txn.{Txn}}
-use Rattle.lab_deps.{specs.Soundness.{has_committed}, proofs.Places.{times, times_count, times_here, times_more}}
-use Rattle.lab_judge.{specs.Runs.{HoldsEachOnce}, proofs.Numbers.{contained, contains_it, at_most_once}}
+use Rattle.lab_deps.{specs.Soundness.{has_committed}, proofs.{Places.{times, times_count, times_here, times_more}, RisingNumbers.{contained, contains_it, at_most_once}}}
 
 module _ (test : ℕ → Bool) where
   -- the numbers of the transactions whose number passes a test
   abbrev pub numbers_that : List Txn → List ℕ
   numbers_that ts = map (λ t. t.no) (filter (λ t. test t.no) ts)
+
+  -- there are no more of them than transactions
+  pub few_numbers : (ts : List Txn) → length (numbers_that ts) ≤ length ts
+  few_numbers ts = omega (arith, length-map (filter (λ t. test t.no) ts) (λ t. t.no), length-filter (λ t. test t.no) ts, count_by-le-length (λ t. test t.no) ts)
 
   -- each passes it
   passes : (ts : List Txn) → All (λ n. test n ≡ true) (numbers_that ts)
@@ -36,7 +39,7 @@ is_committed h n = has_committed (outcome_of h n)
 
 -- rising numbers that are those of the committed transactions hold each once
 pub each_once : (h : History) (ns kept : List ℕ) → IsStrictlyIncreasing ns → kept ≡ numbers_that (is_committed h) h.txns
-    → ((n : ℕ) → Contains ns n → Contains kept n) → ((n : ℕ) → Contains kept n → Contains ns n) → HoldsEachOnce h ns
+    → ((n : ℕ) → Contains ns n → Contains kept n) → ((n : ℕ) → Contains kept n → Contains ns n) → (n : ℕ) → count_by (λ m. m == n) ns ≡ cond (is_committed h n) 1 0
 each_once h ns kept up is from into n = sym (times_count n ns) ∙ at (is_committed h n) refl
   where
     at : (b : Bool) → is_committed h n ≡ b → times n ns ≡ cond b 1 0

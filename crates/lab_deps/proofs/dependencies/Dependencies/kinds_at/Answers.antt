@@ -1,0 +1,16 @@
+use Rattle.std.proofs.{Common.{◌≡◌, ◌∙◌, ◌<◌, ap, length, get_or, slice_index, sym, subst}, lemmas.Option.{slice_get-get_or}}
+use Rattle.lab_deps.{specs.KindsBetween.{KindsBetween, AreKinds}, proofs.NodeCells.{kinds_are}}
+use Rattle.lab_deps.proofs.dependencies.Dependencies.kinds_at.Goals as goal
+
+pub returns-clause-kinds : goal.returns-clause-kinds
+returns-clause-kinds c =
+    let d = c.self.inside in
+    let a = d.arrows in
+    let ns = d.numbers.items in
+    let i = c.args.from in
+    let j = c.args.to in
+    let low : i < length ns = subst (λ (v : KindsBetween). i < length v.numbers) (sym c.self.view_is) c.requires.from in
+    let high : j < length ns = subst (λ (v : KindsBetween). j < length v.numbers) (sym c.self.view_is) c.requires.to in
+    subst (λ (v : KindsBetween). AreKinds v.edges (slice_index v.numbers i) (slice_index v.numbers j) (record { bits = c.cell.result })) c.self.view_is
+    (kinds_are _ ns a.places.items a.width a.cells.items c.self.invariant.told i j (slice_index ns i) (slice_index ns j) (slice_get-get_or ns i 0 low) (slice_get-get_or ns j 0 high)
+    c.cell.result (c.cell.ensures ∙ ap (λ k. get_or a.cells.items k 0) c.at-at.ensures))

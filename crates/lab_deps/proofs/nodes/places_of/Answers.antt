@@ -1,0 +1,25 @@
+use Rattle.std.proofs.{Common.{◌≡◌, ◌+◌, ◌∷◌, ℕ, drop, get_or, sym, ap, ◌∙◌}, lemmas.List.{drop_all, drop_more}}
+use Rattle.lab_deps.{specs.{KindBits.{place}, Numbering.{placed_behind}}, proofs.NumberedNodes.{numbering, places_in_order}}
+use Rattle.lab_deps.proofs.nodes.places_of.Goals as goal
+
+pub loop-index-preserved : goal.loop-index-preserved
+loop-index-preserved c n =
+    let xs = c.args.numbers.now in
+    let i = c.loop-index.index in
+    let ps = c.loop-index.places.items in
+    let left : drop i xs ≡ get_or xs i 0 ∷ drop (i + 1) xs = drop_more xs i 0 c.loop-index-test.true in
+    ap (λ x. placed_behind x (i + 1) (drop (i + 1) xs) n) (c.in_ok-put.ensures n) ∙ (sym (ap (λ ms. placed_behind (place ps n) i ms n) left) ∙ c.loop-index.invariant n)
+
+pub returns-clause-numbered : goal.returns-clause-numbered
+returns-clause-numbered c =
+    let xs = c.args.numbers.now in
+    let ps = c.loop-index.places.items in
+    let i = c.loop-index.index in
+    numbering xs ps c.requires.rising (λ n. sym (ap (λ ms. placed_behind (place ps n) i ms n) (drop_all i xs c.loop-index-test.false)) ∙ c.loop-index.invariant n)
+
+pub returns-clause-places : goal.returns-clause-places
+returns-clause-places c =
+    let xs = c.args.numbers.now in
+    let ps = c.loop-index.places.items in
+    let i = c.loop-index.index in
+    places_in_order xs ps c.requires.rising (λ n. sym (ap (λ ms. placed_behind (place ps n) i ms n) (drop_all i xs c.loop-index-test.false)) ∙ c.loop-index.invariant n)
