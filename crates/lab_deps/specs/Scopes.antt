@@ -1,6 +1,6 @@
 -- The dependencies that are meant, and what is known of them.
 use Rattle.std.specs.Prelude.{◌≤◌, ℕ, List, length}
-use Rattle.std.specs.List.{flat_map}
+use Rattle.std.specs.List.{flat_map, Sorted.{IsStrictlyIncreasing}}
 use Rattle.std.specs.FinMap as map
 use Rattle.lab_table.specs.Row.{Row}
 use Rattle.lab_history.specs.History.{History}
@@ -26,5 +26,6 @@ edges_in Writes h = flat_map neighbours_at (map.entries h.installed)
 -- cells tell of these transactions which kinds of edges there are
 pub record IsKnown (scope : Scope) (h : History) (ns ps : List ℕ) (w : ℕ) (cs : List ℕ) : Type 0 where
   pub allowed : Allows scope h
+  pub rising : IsStrictlyIncreasing ns
   pub few : length ns ≤ max_transactions
   pub told : IsTold (edges_in scope h) ns ps w cs

@@ -32,7 +32,6 @@ pub enum Call {
     Edges,
     DependenciesOf,
     DependenciesOfWrites,
-    DependenciesTable,
 }
 
 /// Whether a copy lists what its original lists.
@@ -226,7 +225,6 @@ pub fn is_right(alloc: Global, growth: u16, call: Call, inputs: &Inputs) -> Resu
         Call::CheckLocal
         | Call::Edges
         | Call::DependenciesOf
-        | Call::DependenciesOfWrites
-        | Call::DependenciesTable => is_right_of_dependencies(alloc, call, inputs),
+        | Call::DependenciesOfWrites => is_right_of_dependencies(alloc, call, inputs),
     }
 }

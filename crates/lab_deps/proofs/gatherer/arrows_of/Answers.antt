@@ -2,8 +2,8 @@ use Rattle.std.proofs.Common.{[], ◌<◌, ◌+◌, ◌*◌, ◌≡◌, ℕ, get
 use Rattle.lab_deps.{specs.{KindBits.{place, Tells}, Numbering.{HasPlaces}, Scopes.{edges_in}}, proofs.{ExactArrows.{exact_of}, NumberedNodes.{has_place}, ScopedEdges.{are_edges}}}
 use Rattle.lab_deps.proofs.gatherer.arrows_of.Goals as goal
 
-pub versions_of_rows-rows-requires : goal.versions_of_rows-rows-requires
-versions_of_rows-rows-requires c =
+pub versions_of_rows-requires : goal.versions_of_rows-requires
+versions_of_rows-requires c =
     let h = c.args.history.now in
     subst (HasPlaces h) (sym c.places.ensures) (c.in_ok-arrows.ensures.places h c.requires.nodes)
 
