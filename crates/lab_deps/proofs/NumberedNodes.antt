@@ -1,21 +1,15 @@
 -- Committed transactions that have places by rising number.
-use Rattle.std.{proofs.{Common.{◌≡◌, ◌≢◌, ◌⊎◌, ◌≤◌, ◌+◌, ◌==◌, ℕ, zero, suc, Bool, true, false, cond, Some, List, [], ◌∷◌, ◌++◌, length, get_or, replicate, refl, sym, ap, ◌∙◌, arith, inl, inr}, lemmas.{Bool.{cases_lt, eq-eqb, ne_eqb}, Map.Keys.{sorted_from_strictly_increasing}, Option.{none-some, same_Some, slice_get_within}}}, specs.{Prelude.{slice_get}, List.Sorted.{IsStrictlyIncreasing}}}
+use Rattle.std.{proofs.{Common.{◌≡◌, ◌≢◌, ◌⊎◌, ◌≤◌, ◌+◌, ◌==◌, ℕ, zero, suc, Bool, true, false, cond, Some, List, [], ◌∷◌, length, get_or, replicate, refl, sym, ap, ◌∙◌, arith, inl, inr}, lemmas.{Bool.{cases_lt, eq-eqb, ne_eqb}, Map.Keys.{sorted_from_strictly_increasing}, Option.{none-some, same_Some, slice_get_within}}}, specs.{Prelude.{slice_get}, List.Sorted.{IsStrictlyIncreasing}}}
 use Rattle.lab_history.specs.{History.{History}, Version.{IsCommitted, outcome_of}}
 use Rattle.lab_deps.specs.{KindBits.{place}, Numbering.{AreNodes, committed_below, placed_behind, IsNumbering, HasPlaces}, Soundness.{has_committed}}
 use Rattle.lab_deps.proofs.{Places.{times, times_count, times_here, times_more, placed}, RisingNumbers.{at_most_once, below, below_none, below_next, below_is}}
 
--- a table of nothing but 0, and one with more of them behind
+-- a table of nothing but 0
 pub zeros : (k m : ℕ) → ◌≡◌ {A = ℕ} (get_or (replicate k 0) m 0) 0
 zeros zero zero = refl
 zeros zero (suc m) = refl
 zeros (suc k) zero = refl
 zeros (suc k) (suc m) = zeros k m
-
-pub padded : (xs : List ℕ) (k m : ℕ) → get_or (xs ++ replicate k 0) m 0 ≡ get_or xs m 0
-padded [] k zero = zeros k zero
-padded [] k (suc m) = zeros k (suc m)
-padded (x ∷ xs) k zero = refl
-padded (x ∷ xs) k (suc m) = padded xs k m
 
 -- what isn't among some keeps the place that it has
 behind_none : (ns : List ℕ) (n : ℕ) → times n ns ≡ 0 → (found k : ℕ) → placed_behind found k ns n ≡ found

@@ -1,10 +1,10 @@
 //! Which kinds of dependencies there are between the committed transactions of a history.
 
-ghost use Rattle.std.specs.Prelude.{◌≡◌, ◌≤◌, ◌<◌, ◌+◌, ◌*◌, ◌++◌, ◌∷◌, [], ℕ, List, drop, get_or, length, set, bit_or, IfOk, IfSome};
+ghost use Rattle.std.specs.Prelude.{◌≡◌, ◌≤◌, ◌+◌, ◌*◌, ◌++◌, ◌∷◌, [], ℕ, List, drop, get_or, length, set, bit_or, IfOk, IfSome};
 ghost use Rattle.std.specs.List.Sorted.{IsStrictlyIncreasing};
 ghost use Rattle.lab_history.specs.History.{History as Recorded};
 ghost use Rattle.lab_history.specs.Limits.{max_transactions};
-ghost use Rattle.lab_deps.specs.KindBits.{bit, has_bit, place, bits_of, Tells};
+ghost use Rattle.lab_deps.specs.KindBits.{bit, has_bit, place, bits_at, bits_of, Tells};
 ghost use Rattle.lab_deps.specs.Marks.{Reaches, turns_marked};
 ghost use Rattle.lab_deps.specs.Numbering.{AreNodes, HasPlaces, IsNumbering};
 ghost use Rattle.lab_deps.specs.Turns.{AreMarks};
@@ -23,7 +23,8 @@ pub struct Arrows {
     places: Vec<u16>,
     /// One more than there are places.
     width: u16,
-    /// For each two places the bits of the kinds, one row of cells after another.
+    /// For each two places the bits of the kinds, one row of cells after another. Those of a place and itself, and those of
+    /// place 0, say nothing.
     cells: Vec<u8>,
 }
 
@@ -51,19 +52,26 @@ impl Arrows {
         *self.cells.allocator()
     }
 
+    /// The bits of the kinds from one place to another.
+    pub fn bits_at(&self, from: u16, to: u16) -> u8
+        ensures { result ≡ bits_at self.now.width self.now.cells.items from to }
+    {
+        if from == to {
+            0
+        } else if from == 0 {
+            0
+        } else if to == 0 {
+            0
+        } else {
+            self.cell(self.at(from, to))
+        }
+    }
+
     /// The bits of the kinds from one transaction to another.
     pub fn bits(&self, from: TxnNo, to: TxnNo) -> u8
         ensures { result ≡ bits_of self.now.places.items self.now.width self.now.cells.items from to }
     {
-        let i = self.place(from);
-        let j = self.place(to);
-        if i == 0 {
-            0
-        } else if j == 0 {
-            0
-        } else {
-            self.cell(self.at(i, j))
-        }
+        self.bits_at(self.place(from), self.place(to))
     }
 
     /// The cells from a place to the others.
@@ -88,14 +96,13 @@ impl Arrows {
     }
 
     /// Where the cell of two places stands.
-    pub fn at(&self, from: u16, to: u16) -> usize
+    fn at(&self, from: u16, to: u16) -> usize
         ensures { result ≡ from * self.now.width + to }
     {
         from as usize * self.width as usize + to as usize
     }
 
-    /// The bits in a cell.
-    pub fn cell(&self, at: usize) -> u8
+    fn cell(&self, at: usize) -> u8
         ensures { result ≡ get_or self.now.cells.items at 0 }
     {
         self.cells.get(at).copied().unwrap_or(0)
@@ -120,31 +127,6 @@ impl Arrows {
     {
         let width = self.width;
         turns.mark(&mut self.cells, width, reader, place);
-    }
-
-    /// Takes the bits between each transaction and itself away.
-    pub fn clear_own(&mut self)
-        ensures places { self.new.places.items ≡ self.old.places.items }
-        ensures width { self.new.width ≡ self.old.width }
-        ensures told { (made : List ℕ) (es : List Spelled) → Tells self.old.places.items self.old.width self.old.cells.items made es
-            → Tells self.old.places.items self.old.width self.new.cells.items made es }
-        ensures own { (n : ℕ) → n < self.old.width → get_or self.new.cells.items (n * self.old.width + n) 0 ≡ 0 }
-    {
-        for place in 0..self.width {
-            let at = self.at(place, place);
-            self.clear(at);
-        }
-    }
-
-    /// Takes all bits of a cell away.
-    fn clear(&mut self, at: usize)
-        ensures places { self.new.places.items ≡ self.old.places.items }
-        ensures width { self.new.width ≡ self.old.width }
-        ensures cells { self.new.cells.items ≡ set self.old.cells.items at 0 }
-    {
-        if at < self.cells.len() {
-            self.cells[at] = 0;
-        }
     }
 
     /// Sets an edge's bit.

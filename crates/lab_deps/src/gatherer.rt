@@ -43,9 +43,7 @@ pub fn arrows_of(
     let answers = Vec::new(alloc);
     let mut gatherer = Gatherer { arrows, answers };
     add_edges(&mut gatherer, history, scope, &rows)?;
-    let mut arrows = gatherer.arrows;
-    arrows.clear_own();
-    Ok(arrows)
+    Ok(gatherer.arrows)
 }
 
 /// Keeps of each edge its kind.

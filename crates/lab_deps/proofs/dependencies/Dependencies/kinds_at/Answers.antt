@@ -1,4 +1,4 @@
-use Rattle.std.proofs.{Common.{◌≡◌, ◌∙◌, ◌<◌, ap, length, get_or, slice_index, sym, subst}, lemmas.Option.{slice_get-get_or}}
+use Rattle.std.proofs.{Common.{◌<◌, length, slice_index, sym, subst}, lemmas.Option.{slice_get-get_or}}
 use Rattle.lab_deps.{specs.KindsBetween.{KindsBetween, AreKinds}, proofs.NodeCells.{kinds_are}}
 use Rattle.lab_deps.proofs.dependencies.Dependencies.kinds_at.Goals as goal
 
@@ -11,6 +11,6 @@ returns-clause-kinds c =
     let j = c.args.to in
     let low : i < length ns = subst (λ (v : KindsBetween). i < length v.numbers) (sym c.self.view_is) c.requires.from in
     let high : j < length ns = subst (λ (v : KindsBetween). j < length v.numbers) (sym c.self.view_is) c.requires.to in
-    subst (λ (v : KindsBetween). AreKinds v.edges (slice_index v.numbers i) (slice_index v.numbers j) (record { bits = c.cell.result })) c.self.view_is
+    subst (λ (v : KindsBetween). AreKinds v.edges (slice_index v.numbers i) (slice_index v.numbers j) (record { bits = c.bits_at.result })) c.self.view_is
     (kinds_are _ ns a.places.items a.width a.cells.items c.self.invariant.told i j (slice_index ns i) (slice_index ns j) (slice_get-get_or ns i 0 low) (slice_get-get_or ns j 0 high)
-    c.cell.result (c.cell.ensures ∙ ap (λ k. get_or a.cells.items k 0) c.at-at.ensures))
+    c.bits_at.result c.bits_at.ensures)
