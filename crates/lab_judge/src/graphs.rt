@@ -11,7 +11,11 @@ use std::alloc::Global;
 
 /// The graph of the nodes with an arrow for each two of which one depends on the other in an allowed way. NoMemory where
 /// an allocation was refused.
-pub(crate) fn graph_of(alloc: Global, net: &Dependencies<'_>, allowed: Kinds) -> Result<Graph, NoMemory>
+pub(crate) fn graph_of(
+    alloc: Global,
+    net: &Dependencies<'_>,
+    allowed: Kinds,
+) -> Result<Graph, NoMemory>
     ensures { IfOk result (IsGraphOf (among allowed) net.now) }
 {
     let mut graph = Graph::new(alloc, net.len())?;

@@ -17,7 +17,11 @@ use std::alloc::Global;
 
 /// The graph of the starts and commits of these transactions, by the graph of all dependencies. NoMemory where an
 /// allocation was refused.
-pub(crate) fn place_graph(alloc: Global, net: &Dependencies<'_>, all: &Graph) -> Result<Graph, NoMemory>
+pub(crate) fn place_graph(
+    alloc: Global,
+    net: &Dependencies<'_>,
+    all: &Graph,
+) -> Result<Graph, NoMemory>
     requires { IsGraphOf (among Kinds.ALL) net.now all.now }
     ensures { IfOk result (IsPlaceGraph net.now) }
 {
