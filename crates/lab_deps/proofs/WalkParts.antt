@@ -54,7 +54,7 @@ module _ (r : Reading) where
       ] refl h
 
   -- what is found by the listing of each version
-  listed_along : ℕ → List Version → List Edge
+  abbrev listed_along : ℕ → List Version → List Edge
   listed_along p [] = []
   listed_along p (v ∷ vs) = item p v.installer ++ listed_along (p + 1) vs
 
