@@ -1,4 +1,4 @@
-use Rattle.std.proofs.{Common.{◌≡◌, ◌≢◌, ◌<◌, ◌+◌, ◌*◌, ℕ, get_or, set, refl, sym, ap, ◌∙◌, subst, arith, inl, inr}, lemmas.{Bool.{cases_eq}, Nat.{same_from_place}}}
+use Rattle.std.proofs.{Common.{◌≡◌, ◌<◌, ◌+◌, ◌*◌, get_or, set, refl, sym, ap, ◌∙◌, subst, arith, inl, inr}, lemmas.{Bool.{cases_eq}, Nat.{same_from_place}}}
 use Rattle.lab_deps.{specs.KindBits.{place, Tells}, proofs.{MarkedCells.{cleared}, ToldKinds.{told_off}}}
 use Rattle.lab_deps.proofs.arrows.Arrows.clear_own.Goals as goal
 

@@ -1,5 +1,5 @@
 use Rattle.std.{proofs.{Common.{◌++◌, sym, ap, ◌∙◌, subst}, lemmas.Result.{on_ok_weaker}}, specs.Prelude.{IfSome}}
-use Rattle.lab_deps.{specs.{EdgesByRow.{walked, unlisted}, KindBits.{Tells}, Marks.{turns_marked}, Numbering.{FitsVersions}, Sinks.{Grows}, Turns.{TurnsFor}}, proofs.{MarkedTurns.{told_turns}}}
+use Rattle.lab_deps.{specs.{EdgesByRow.{walked, unlisted}, KindBits.{Tells}, Marks.{turns_marked}, Numbering.{FitsVersions}, Turns.{TurnsFor}}, proofs.{MarkedTurns.{told_turns}}}
 use Rattle.lab_deps.proofs.gatherer.Gatherer.take_unlisted.Goals as goal
 
 pub returns-in-None : goal.returns-in-None
