@@ -1,5 +1,5 @@
 -- Cells that are marked by the versions at which a row turns tell of what a reader has to do with them.
-use Rattle.std.{proofs.{Common.{◌≡◌, ◌≢◌, ◌≤◌, ◌<◌, ◌+◌, ◌*◌, ℕ, zero, suc, Bool, true, false, cond, List, [], ◌∷◌, ◌++◌, get_or, set, map, take, drop, refl, sym, ap, ◌∙◌, subst, append_assoc, arith, inl, inr}, lemmas.{Bool.{lt-ltb, le-ltb}, List.{append-nil, take_all, drop_all}, Nat.{same_from_place}}}, specs.Prelude.{Contains, bit_or}}
+use Rattle.std.{proofs.{Common.{◌≡◌, ◌≢◌, ◌≤◌, ◌<◌, ◌+◌, ◌*◌, ℕ, zero, suc, Bool, true, false, cond, List, [], ◌∷◌, ◌++◌, get_or, set, map, take, refl, sym, ap, ◌∙◌, subst, append_assoc, arith, inl, inr}, lemmas.{Bool.{lt-ltb, le-ltb}, List.{append-nil, take_all, drop_all}, Nat.{same_from_place}}}, specs.Prelude.{Contains, bit_or}}
 use Rattle.lab_table.{specs.{Statement.{matches}, Table.{State}, declared.statement.Statement.{Statement}}, proofs.Members.{first_member, later_member}}
 use Rattle.lab_deps.specs.{Collected.{apart, read_by, passed_by}, Edges.{differ}, EdgesByRow.{Chain, edges_by, walk, unlisted, walked}, KindBits.{bit, place, cell_at, Tells}, Marks.{or_at, marked, turns_marked}, Numbering.{FitsVersions}, Turns.{states, turned, TurnsFor}}
 use Rattle.lab_deps.specs.declared.{edge.{Edge.{Edge}, Kind.{Kind, TheVariants.{PredicateRead, PredicateAnti}}}, reading.Reading.{Reading}, turns.Turns.{Turns}, versions.Version.{Version}}

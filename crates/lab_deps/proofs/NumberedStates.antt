@@ -1,5 +1,5 @@
 -- Numbers of states tell what a test answers.
-use Rattle.std.{proofs.{Common.{◌≡◌, ◌≤◌, ◌<◌, ℕ, zero, suc, Bool, true, false, Some, None, List, [], ◌∷◌, ◌++◌, length, map, get_or, refl, sym, ap, ◌∙◌, subst, append_assoc, arith, inl, inr}, lemmas.{Bool.{false≢true, or_parts}, List.{length-map, map-append, get_or-map, get_or_past, Elements.{Contains-append_cases}}}}, specs.{Prelude.{Contains}, List.{list_any}, Cmp.{signed_Decides}}}
+use Rattle.std.{proofs.{Common.{◌≡◌, ◌<◌, ℕ, zero, suc, Bool, true, false, Some, None, List, [], ◌∷◌, ◌++◌, length, get_or, refl, sym, ap, ◌∙◌, subst, append_assoc, arith, inl, inr}, lemmas.{Bool.{false≢true, or_parts}, List.{length-map, map-append, get_or-map, get_or_past, Elements.{Contains-append_cases}}}}, specs.{Prelude.{Contains}, List.{list_any}, Cmp.{signed_Decides}}}
 use Rattle.lab_table.{specs.Table.{State}, proofs.Members.{no_member, only_member}}
 use Rattle.lab_deps.specs.{Edges.{differ}, Turns.{states, alike, Heeds, asked, classes_of, IsNumber, AreNumbers, AreTurns, AreKept}, declared.{kept.Kept.{Kept}, versions.Version.{Version}}}
 

@@ -1,5 +1,5 @@
 -- What is found along a row's versions is what is found by the listing of the row, and without it.
-use Rattle.std.proofs.{Common.{◌≡◌, ◌⊎◌, ℕ, zero, suc, ◌+◌, ◌-◌, ◌==◌, Bool, true, false, cond, Option, Some, None, List, [], ◌∷◌, ◌++◌, refl, sym, ap, ◌∙◌, subst, arith, inl, inr}, lemmas.{Bool.{eqb-true}, List.Elements.{Contains-append_left, Contains-append_right, Contains-append_cases}, Option.{none-some, same_Some}}}
+use Rattle.std.proofs.{Common.{◌≡◌, ◌⊎◌, ℕ, zero, suc, ◌+◌, ◌-◌, ◌==◌, Bool, true, false, cond, Option, Some, None, List, [], ◌∷◌, ◌++◌, refl, sym, subst, arith, inl, inr}, lemmas.{Bool.{eqb-true}, List.Elements.{Contains-append_left, Contains-append_right, Contains-append_cases}, Option.{none-some, same_Some}}}
 use Rattle.std.specs.Prelude.{Contains, slice_get}
 use Rattle.lab_table.{specs.{Statement.{matches}, declared.statement.Statement.{Statement}}, proofs.Members.{no_member}}
 use Rattle.lab_deps.specs.{Edges.{differ}, Collected.{apart_in, read_by, passed_by, item_edge}, EdgesByRow.{Chain, HasMembersOf, edges_by, walk, walked, unlisted}, Turns.{item_in, items_of}}
@@ -54,7 +54,7 @@ module _ (r : Reading) where
       ] refl h
 
   -- what is found by the listing of each version
-  listed_along : ℕ → List Version → List Edge
+  abbrev listed_along : ℕ → List Version → List Edge
   listed_along p [] = []
   listed_along p (v ∷ vs) = item p v.installer ++ listed_along (p + 1) vs
 

@@ -1,4 +1,4 @@
-use Rattle.std.{proofs.Common.{◌≡◌, length, sym, ap, ◌∙◌, subst}, specs.Prelude.{IfSome}}
+use Rattle.std.{proofs.Common.{length, sym, ap, ◌∙◌, subst}, specs.Prelude.{IfSome}}
 use Rattle.lab_deps.{specs.Turns.{AreKept, AreNumbers}, proofs.NumberedStates.{as_many, none_kept}}
 use Rattle.lab_deps.proofs.kept.kept_of.Goals as goal
 

@@ -1,4 +1,4 @@
-use Rattle.std.proofs.{Common.{◌≡◌, length, sym, ap, ◌∙◌, subst}, lemmas.List.{with_items_is}}
+use Rattle.std.proofs.{Common.{length, sym, ap, ◌∙◌, subst}, lemmas.List.{with_items_is}}
 use Rattle.lab_deps.{specs.{Marks.{turns_marked, Reaches}}, proofs.MarkedCells.{length_turns}}
 use Rattle.lab_deps.proofs.arrows.Arrows.mark_turns.Goals as goal
 

@@ -1,5 +1,5 @@
 use Rattle.std.{proofs.{Common.{◌++◌, sym, ap, ◌∙◌, subst}, lemmas.Result.{on_ok_weaker}}, specs.Prelude.{IfSome}}
-use Rattle.lab_deps.{specs.{EdgesByRow.{walked, unlisted}, KindBits.{Tells}, Marks.{turns_marked}, Numbering.{FitsVersions}, Sinks.{Grows}, Turns.{TurnsFor}}, proofs.{MarkedTurns.{told_turns}}}
+use Rattle.lab_deps.{specs.{EdgesByRow.{walked, unlisted}, KindBits.{Tells}, Marks.{turns_marked}, Numbering.{FitsVersions}, Turns.{TurnsFor}}, proofs.{MarkedTurns.{told_turns}}}
 use Rattle.lab_deps.proofs.gatherer.Gatherer.take_unlisted.Goals as goal
 
 pub returns-in-None : goal.returns-in-None
@@ -8,11 +8,11 @@ returns-in-None c =
     (λ grows made es so_far fit. subst (λ r. Tells c.add_edges.new.sink.arrows.places.items c.add_edges.new.sink.arrows.width c.add_edges.new.sink.arrows.cells.items made (es ++ walked c.args.statement.now r c.args.versions.now))
     c.unlisted.ensures (grows made es (so_far fit))) c.add_edges.ensures
 
-pub returns-then-not-reaches-in-Some : goal.returns-then-not-reaches-in-Some
-returns-then-not-reaches-in-Some c =
-    on_ok_weaker c.add_edges-2.result
-    (λ grows made es so_far fit. subst (λ r. Tells c.add_edges-2.new.sink.arrows.places.items c.add_edges-2.new.sink.arrows.width c.add_edges-2.new.sink.arrows.cells.items made (es ++ walked c.args.statement.now r c.args.versions.now))
-    c.unlisted-2.ensures (grows made es (so_far fit))) c.add_edges-2.ensures
+pub returns-then-not-reaches : goal.returns-then-not-reaches
+returns-then-not-reaches c =
+    on_ok_weaker c.add_edges-then-not-reaches.result
+    (λ grows made es so_far fit. subst (λ r. Tells c.add_edges-then-not-reaches.new.sink.arrows.places.items c.add_edges-then-not-reaches.new.sink.arrows.width c.add_edges-then-not-reaches.new.sink.arrows.cells.items made (es ++ walked c.args.statement.now r c.args.versions.now))
+    c.unlisted-then-not-reaches.ensures (grows made es (so_far fit))) c.add_edges-then-not-reaches.ensures
 
 pub mark_turns-requires-clause-most : goal.mark_turns-requires-clause-most
 mark_turns-requires-clause-most c =
@@ -24,8 +24,8 @@ mark_turns-requires-clause-marks c =
     let turns = subst (λ o. IfSome o (λ kept. TurnsFor c.args.statement.now c.args.reading.row c.args.versions.now kept.now.turns)) c.in-Some.is c.in_ok-turns.ensures in
     turns.marks
 
-pub returns-in-Some : goal.returns-in-Some
-returns-in-Some c made es so_far fit =
+pub returns-else-not-reaches : goal.returns-else-not-reaches
+returns-else-not-reaches c made es so_far fit =
     let s = c.args.statement.now in
     let r = c.args.reading in
     let chain = c.args.versions.now in
@@ -36,6 +36,6 @@ returns-in-Some c made es so_far fit =
     let all = es ++ walked s (unlisted r) chain in
     let turns = subst (λ o. IfSome o (λ kept. TurnsFor s r.row chain kept.now.turns)) c.in-Some.is c.in_ok-turns.ensures in
     let turned = told_turns ps a.width made s r chain c.in-Some.kept.now.turns turns (subst (FitsVersions chain.items) (sym told.same) fit) a.cells.items es told in
-    let cells = c.mark_turns.ensures.cells ∙ ap (λ n. turns_marked a.width n r.place c.in-Some.kept.now.turns.installers.items a.cells.items) c.place.ensures in
+    let cells = c.mark_turns.ensures.cells ∙ ap (λ n. turns_marked a.width n r.place c.in-Some.kept.now.turns.installers.items a.cells.items) c.place-reader.ensures in
     subst (λ p. Tells p next.width next.cells.items made all) (sym c.mark_turns.ensures.places)
     (subst (λ w. Tells ps w next.cells.items made all) (sym c.mark_turns.ensures.width) (subst (λ xs. Tells ps a.width xs made all) (sym cells) turned))

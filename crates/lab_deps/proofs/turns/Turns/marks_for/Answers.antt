@@ -1,4 +1,4 @@
-use Rattle.std.{proofs.Common.{◌≡◌, sym, ap, ◌∙◌, subst}, specs.Prelude.{IfSome}}
+use Rattle.std.{proofs.Common.{◌∙◌, subst}, specs.Prelude.{IfSome}}
 use Rattle.lab_deps.specs.Turns.{AreMarks}
 use Rattle.lab_deps.proofs.turns.Turns.marks_for.Goals as goal
 

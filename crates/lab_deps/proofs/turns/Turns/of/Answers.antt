@@ -1,4 +1,4 @@
-use Rattle.std.{proofs.Common.{◌≤◌, ℕ, get_or, sym, ◌∙◌, subst}, specs.Prelude.{IfSome}}
+use Rattle.std.{proofs.Common.{◌≤◌, get_or, sym, ◌∙◌, subst}, specs.Prelude.{IfSome}}
 use Rattle.lab_deps.specs.Turns.{AreMarks}
 use Rattle.lab_deps.proofs.turns.Turns.of.Goals as goal
 

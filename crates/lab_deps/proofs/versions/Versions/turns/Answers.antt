@@ -1,6 +1,6 @@
-use Rattle.std.{proofs.{Common.{◌≡◌, sym, ap, ◌∙◌, subst}, lemmas.Option.{IfSome_then}}, specs.Prelude.{Contains}}
+use Rattle.std.{proofs.{Common.{sym, ap, ◌∙◌, subst}, lemmas.Option.{IfSome_then}}, specs.Prelude.{Contains}}
 use Rattle.lab_table.specs.Statement.{matches}
-use Rattle.lab_deps.specs.{EdgesByRow.{Chain}, Turns.{asked, AreKept, TurnsFor}, declared.kept.Kept.{Kept}}
+use Rattle.lab_deps.specs.{EdgesByRow.{Chain}, Turns.{asked, AreKept}}
 use Rattle.lab_deps.proofs.versions.Versions.turns.Goals as goal
 
 pub returns : goal.returns
