@@ -1,5 +1,5 @@
 -- The numbers of the committed transactions, each once.
-use Rattle.std.{proofs.{Common.{◌≡◌, ℕ, ◌≤◌, ◌==◌, Bool, true, false, cond, Some, List, [], ◌∷◌, length, map, refl, sym, ap, ◌∙◌, subst, arith, inl, inr}, lemmas.{Bool.{eqb-true, cases_lt, false≢true}, List.{length-map, Sums.{length-filter, count_by-le-length}, Elements.{All-map, All-contains, filter_passes}}}}, specs.{Prelude.{Contains, count_by, filter, option_map}, List.{All, Sorted.{IsStrictlyIncreasing}}}}
+use Rattle.std.{proofs.{Common.{◌≡◌, ℕ, ◌+◌, ◌≤◌, ◌==◌, Bool, true, false, cond, Some, List, [], ◌∷◌, length, map, refl, sym, ap, ◌∙◌, subst, arith, inl, inr}, lemmas.{Bool.{eqb-true, cases_Bool, cases_lt, false≢true}, List.{length-map, Sums.{length-filter, count_by-le-length}, Elements.{All-map, All-contains, filter_passes}}}}, specs.{Prelude.{Contains, count_by, filter, option_map}, List.{All, dedup, dedup_from, Sorted.{IsStrictlyIncreasing}}}}
 use Rattle.lab_history.specs.{History.{History}, Version.{outcome_of, find_txn}, declared.transaction.Txn.{Txn}}
 use Rattle.lab_deps.{specs.Soundness.{has_committed}, proofs.{Places.{times, times_count, times_here, times_more}, RisingNumbers.{contained, contains_it, at_most_once}}}
 
@@ -32,6 +32,18 @@ module _ (test : ℕ → Bool) where
               | false ↦ rest
             ]
       ] refl h
+
+-- where doubles are taken out, there is no more
+fewer_from : {A : Type 0} (same : A → A → Bool) (k : A) (xs : List A) → length (dedup_from same k xs) ≤ length xs + 1
+fewer_from same k [] = omega arith
+fewer_from same k (x ∷ xs) = elim (cases_Bool (same x k)) [
+  | inl dropped ↦ rw dropped (omega (arith, fewer_from same k xs))
+  | inr kept ↦ rw kept (omega (arith, fewer_from same x xs))
+]
+
+pub no_more_left : {A : Type 0} (same : A → A → Bool) (xs ys : List A) → ys ≡ dedup same xs → length ys ≤ length xs
+no_more_left same [] ys is = omega (arith, ap length is)
+no_more_left same (x ∷ xs) ys is = omega (arith, ap length is, fewer_from same x xs)
 
 -- whether a number is a committed transaction's
 abbrev pub is_committed : History → ℕ → Bool

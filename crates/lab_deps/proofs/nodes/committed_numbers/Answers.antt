@@ -1,5 +1,5 @@
 use Rattle.std.{proofs.{Common.{length, sym, ap, ◌∙◌, subst, arith}, lemmas.{List.{Filters.{dedup_is}, Kept.{Contains-dedup_nat, Contains-from_dedup}, Sorted.{Contains-permutation, IsPermutation-sym, length_permutation}}, Map.Keys.{IsStrictlyIncreasing-dedup}}}, specs.{Prelude.{Contains}, List.Sorted.{IsStrictlyIncreasing}}}
-use Rattle.lab_deps.proofs.CommittedNumbers.{numbers_that, few_numbers, is_committed, each_once}
+use Rattle.lab_deps.proofs.CommittedNumbers.{numbers_that, few_numbers, no_more_left, is_committed, each_once}
 use Rattle.lab_deps.proofs.nodes.committed_numbers.Goals as goal
 
 pub returns : goal.returns
@@ -14,5 +14,5 @@ returns c =
           (λ n there. Contains-permutation _ _ n (IsPermutation-sym _ _ moved) (Contains-from_dedup _ _ n (subst (λ l. Contains l n) is there)))
           (λ n there. subst (λ l. Contains l n) (sym is) (Contains-dedup_nat _ n (Contains-permutation _ _ n moved there)));
       rising = rising;
-      few = omega (arith, c.dedup.ensures.bound, length_permutation _ _ moved, ap length kept, few_numbers (is_committed h) h.txns, c.txns.ensures.keeps.transactions);
+      few = omega (arith, no_more_left _ _ _ is, length_permutation _ _ moved, ap length kept, few_numbers (is_committed h) h.txns, c.txns.ensures.keeps.transactions);
     }
