@@ -19,7 +19,7 @@ pub(crate) fn graph_of(
     ensures { IfOk result (IsGraphOf (among allowed) net.now) }
 {
     let mut graph = Graph::new(alloc, net.len())?;
-    add_arrows(alloc, &mut graph, net, allowed, Joining::Transactions)?;
+    add_arrows(alloc, &mut graph, net, allowed)?;
     Ok(graph)
 }
 

@@ -54,13 +54,12 @@ pub(crate) fn add_arrows(
     graph: &mut Graph,
     net: &Dependencies<'_>,
     kinds: Kinds,
-    joining: Joining,
 ) -> Result<(), NoMemory>
-    requires { nodes_of graph.old ≡ nodes_for joining (length net.now.numbers) }
-    ensures { IfOk result (λ _. Grows (among kinds) joining net.now (λ p q. ⊤) graph.old graph.new) }
+    requires { nodes_of graph.old ≡ length net.now.numbers }
+    ensures { IfOk result (λ _. Grows (among kinds) Joining.Transactions net.now (λ p q. ⊤) graph.old graph.new) }
 {
     for from in 0..net.len() {
-        add_arrows_from(alloc, graph, net, kinds, joining, from)?;
+        add_arrows_from(alloc, graph, net, kinds, from)?;
     }
     Ok(())
 }
@@ -71,18 +70,17 @@ fn add_arrows_from(
     graph: &mut Graph,
     net: &Dependencies<'_>,
     kinds: Kinds,
-    joining: Joining,
     from: u32,
 ) -> Result<(), NoMemory>
-    requires size { nodes_of graph.old ≡ nodes_for joining (length net.now.numbers) }
+    requires size { nodes_of graph.old ≡ length net.now.numbers }
     requires from { from < length net.now.numbers }
-    ensures { IfOk result (λ _. Grows (among kinds) joining net.now (λ p q. p ≡ from) graph.old graph.new) }
+    ensures { IfOk result (λ _. Grows (among kinds) Joining.Transactions net.now (λ p q. p ≡ from) graph.old graph.new) }
 {
     let count = net.len();
     for block in 0..count / 64 + 1 {
         let first = 64 * block;
         let beyond = count.min(first + 64);
-        add_arrows_between(alloc, graph, net, kinds, joining, from, first, beyond)?;
+        add_arrows_between(alloc, graph, net, kinds, from, first, beyond)?;
     }
     Ok(())
 }
@@ -94,21 +92,20 @@ fn add_arrows_between(
     graph: &mut Graph,
     net: &Dependencies<'_>,
     kinds: Kinds,
-    joining: Joining,
     from: u32,
     first: u32,
     beyond: u32,
 ) -> Result<(), NoMemory>
-    requires size { nodes_of graph.old ≡ nodes_for joining (length net.now.numbers) }
+    requires size { nodes_of graph.old ≡ length net.now.numbers }
     requires from { from < length net.now.numbers }
     requires beyond { beyond ≤ length net.now.numbers }
-    ensures { IfOk result (λ _. Grows (among kinds) joining net.now (λ p q. (p ≡ from) × (first ≤ q) × (q < beyond)) graph.old graph.new) }
+    ensures { IfOk result (λ _. Grows (among kinds) Joining.Transactions net.now (λ p q. (p ≡ from) × (first ≤ q) × (q < beyond)) graph.old graph.new) }
 {
     if net.is_bare(from, first, beyond) {
         return Ok(());
     }
     for to in first..beyond {
-        add_arrow(alloc, graph, net, kinds, joining, from, to)?;
+        add_arrow(alloc, graph, net, kinds, Joining::Transactions, from, to)?;
     }
     Ok(())
 }
