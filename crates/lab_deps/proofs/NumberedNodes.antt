@@ -1,5 +1,5 @@
 -- Committed transactions that have places by rising number.
-use Rattle.std.{proofs.{Common.{◌≡◌, ◌≢◌, ◌⊎◌, ◌≤◌, ◌+◌, ◌==◌, ℕ, zero, suc, Bool, true, false, cond, Some, List, [], ◌∷◌, length, get_or, replicate, refl, sym, ap, ◌∙◌, arith, inl, inr}, lemmas.{Bool.{cases_lt, eq-eqb, ne_eqb}, Map.Keys.{sorted_from_strictly_increasing}, Option.{none-some, same_Some, slice_get_within}}}, specs.{Prelude.{slice_get}, List.Sorted.{IsStrictlyIncreasing}}}
+use Rattle.std.{proofs.{Common.{◌≡◌, ◌≢◌, ◌⊎◌, ◌≤◌, ◌+◌, ◌==◌, ℕ, zero, suc, Bool, true, false, cond, Some, List, [], ◌∷◌, get_or, replicate, refl, sym, ap, ◌∙◌, arith, inl, inr}, lemmas.{Bool.{cases_lt, eq-eqb, ne_eqb}, Map.Keys.{sorted_from_strictly_increasing}, Option.{none-some, same_Some, slice_get_within}}}, specs.{Prelude.{slice_get}, List.Sorted.{IsStrictlyIncreasing}}}
 use Rattle.lab_history.specs.{History.{History}, Version.{IsCommitted, outcome_of}}
 use Rattle.lab_deps.specs.{KindBits.{place}, Numbering.{AreNodes, committed_below, placed_behind, IsNumbering, HasPlaces}, Soundness.{has_committed}}
 use Rattle.lab_deps.proofs.{Places.{times, times_count, times_here, times_more, placed}, RisingNumbers.{at_most_once, below, below_none, below_next, below_is}}

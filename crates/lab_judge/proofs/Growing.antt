@@ -1,5 +1,5 @@
 -- Graphs that grow by the arrows of dependencies.
-use Rattle.std.{proofs.Common.{◌≡◌, ◌⊎◌, ℕ, ◌*◌, ◌<◌, ◌==◌, ◌&&◌, ◌||◌, Bool, true, false, Some, List, length, slice_index, refl, sym, ap, ◌∙◌, subst, inl, inr}, specs.Prelude.{◌↔◌, Contains, Decides, ⊤}}
+use Rattle.std.{proofs.Common.{◌≡◌, ◌⊎◌, ℕ, ◌*◌, ◌<◌, ◌==◌, ◌&&◌, ◌||◌, Bool, true, false, length, slice_index, refl, sym, ap, ◌∙◌, inl, inr}, specs.Prelude.{◌↔◌, Contains, Decides, ⊤}}
 use Rattle.std.proofs.lemmas.{Bool.{both_ways, and_parts, and_from, or_cases, or_left, or_right, eqb-true, eq-eqb, Decides.{Decides-and, Decides-below_or, Decides-eqb}}, Option.{slice_get-get_or, get_or_from_slice_get}}
 use Rattle.lab_table.specs.Row.{Row}
 use Rattle.lab_order.specs.Arrows.{Arrows, nodes_of, has_arrow, IsArrow}

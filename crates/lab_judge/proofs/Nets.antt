@@ -1,9 +1,9 @@
 -- The committed transactions of a history as nodes, and its edges as what ties them.
-use Rattle.std.{proofs.{Common.{◌≡◌, ℕ, ◌<◌, Bool, true, false, cond, Some, None, Option, Ok, Err, Result, IfOk, List, length, slice_index, refl, sym, ap, ◌∙◌, subst, arith}, lemmas.{Map.Keys.{below_from_sorted, sorted_from_strictly_increasing}, Option.{slice_get-get_or}}}, specs.{Prelude.{Contains, IfSome, slice_get}, List.Sorted.{IsStrictlyIncreasing}, Ordering.{is_lt}}}
+use Rattle.std.{proofs.{Common.{◌≡◌, ℕ, ◌<◌, Bool, true, false, cond, Some, None, Option, Ok, Err, Result, IfOk, List, length, slice_index, refl, sym, ap, ◌∙◌, arith}, lemmas.{Map.Keys.{below_from_sorted, sorted_from_strictly_increasing}, Option.{slice_get-get_or}}}, specs.{Prelude.{Contains, IfSome, slice_get}, List.Sorted.{IsStrictlyIncreasing}, Ordering.{is_lt}}}
 use Rattle.lab_order.specs.{Arrows.{Arrows}, Order.{position}}
 use Rattle.lab_history.specs.{History.{History}, Version.{IsCommitted}}
 use Rattle.lab_deps.{specs.{Edges.{IsEdge}, EdgeOrder.{edge_cmp}, KindSets.{is_any}, KindsBetween.{KindsBetween}, Soundness.{has_committed}, declared.edge.{Edge.{Edge}, Kind.{Kind}}}, proofs.Places.{times, times_count, at_times}}
-use Rattle.lab_judge.{specs.{Graphs.{Tie, IsLeastTie, IsGraphOf, IsNetOf}, LeastWalks.{AreCommitted, HasEdgeAt, IsEdgeGraph, IsLeastEdge}, Runs.{HoldsEachOnce}}, proofs.{Lists.{of_both}, Numbers.{contains_it, stands, read, at_its_place, position_within}, Orders.{committed_in}}}
+use Rattle.lab_judge.{specs.{Graphs.{Tie, IsLeastTie, IsGraphOf, IsNetOf}, LeastWalks.{HasEdgeAt, IsEdgeGraph, IsLeastEdge}, Runs.{HoldsEachOnce}}, proofs.{Lists.{of_both}, Numbers.{contains_it, stands, read, at_its_place, position_within}, Orders.{committed_in}}}
 
 module _ (ns : List ℕ) (up : IsStrictlyIncreasing ns) where
   -- a greater node has a greater number

@@ -1,7 +1,7 @@
 -- The places of nodes in an order.
-use Rattle.std.proofs.Common.{◌≡◌, ℕ, zero, suc, ◌+◌, ◌<◌, ◌≤◌, ◌==◌, Bool, true, false, cond, Some, List, [], ◌∷◌, length, nat_lt, get_or, set, slice_index, refl, sym, ap, ◌∙◌, subst, arith, inl, inr}
+use Rattle.std.proofs.Common.{◌≡◌, ℕ, zero, suc, ◌+◌, ◌<◌, ◌≤◌, ◌==◌, Bool, true, false, cond, Some, List, [], ◌∷◌, length, get_or, set, slice_index, refl, sym, ap, ◌∙◌, subst, arith, inl, inr}
 use Rattle.std.specs.{Prelude.{Contains}, List.{All, count_by}}
-use Rattle.std.proofs.lemmas.{Bool.{eqb-true, eq-eqb, both_ways, cases_lt, le-ltb, lt-ltb, Decides.{nat_tests}}, List.Elements.{All-head, All-tail}, Option.{slice_get-get_or, get_or_from_slice_get}}
+use Rattle.std.proofs.lemmas.{Bool.{eqb-true, eq-eqb, both_ways, cases_lt, lt-ltb}, List.Elements.{All-head, All-tail}, Option.{slice_get-get_or, get_or_from_slice_get}}
 use Rattle.lab_order.{proofs.Writes.{set_read}, specs.Order.{position}}
 use Rattle.lab_judge.proofs.{Lists.{one_place}, Numbers.{stands, position_within}}
 use Rattle.lab_deps.proofs.{Places.{times, times_count}, RisingNumbers.{below, below_none, below_next}}

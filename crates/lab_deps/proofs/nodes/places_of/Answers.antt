@@ -1,4 +1,4 @@
-use Rattle.std.proofs.{Common.{◌≡◌, ◌+◌, ◌∷◌, ℕ, drop, get_or, sym, ap, ◌∙◌}, lemmas.List.{drop_all, drop_more}}
+use Rattle.std.proofs.{Common.{◌≡◌, ◌+◌, ◌∷◌, drop, get_or, sym, ap, ◌∙◌}, lemmas.List.{drop_all, drop_more}}
 use Rattle.lab_deps.{specs.{KindBits.{place}, Numbering.{placed_behind}}, proofs.NumberedNodes.{numbering, places_in_order}}
 use Rattle.lab_deps.proofs.nodes.places_of.Goals as goal
 
