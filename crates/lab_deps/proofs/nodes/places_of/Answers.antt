@@ -1,4 +1,4 @@
-use Rattle.std.proofs.{Common.{◌≡◌, ◌+◌, ◌∷◌, drop, get_or, sym, ap, ◌∙◌}, lemmas.List.{drop_all, drop_more}}
+use Rattle.std.proofs.{Common.{◌≡◌, ◌+◌, ◌∷◌, ℕ, drop, get_or, sym, ap, ◌∙◌}, lemmas.List.{drop_all, drop_more}}
 use Rattle.lab_deps.{specs.{KindBits.{place}, Numbering.{placed_behind}}, proofs.NumberedNodes.{numbering, places_in_order}}
 use Rattle.lab_deps.proofs.nodes.places_of.Goals as goal
 
@@ -10,16 +10,10 @@ loop-index-preserved c n =
     let left : drop i xs ≡ get_or xs i 0 ∷ drop (i + 1) xs = drop_more xs i 0 c.loop-index-test.true in
     ap (λ x. placed_behind x (i + 1) (drop (i + 1) xs) n) (c.in_ok-put.ensures n) ∙ (sym (ap (λ ms. placed_behind (place ps n) i ms n) left) ∙ c.loop-index.invariant n)
 
-pub returns-clause-numbered : goal.returns-clause-numbered
-returns-clause-numbered c =
+pub returns : goal.returns
+returns c =
     let xs = c.args.numbers.now in
     let ps = c.loop-index.places.items in
     let i = c.loop-index.index in
-    numbering xs ps c.requires.rising (λ n. sym (ap (λ ms. placed_behind (place ps n) i ms n) (drop_all i xs c.loop-index-test.false)) ∙ c.loop-index.invariant n)
-
-pub returns-clause-places : goal.returns-clause-places
-returns-clause-places c =
-    let xs = c.args.numbers.now in
-    let ps = c.loop-index.places.items in
-    let i = c.loop-index.index in
-    places_in_order xs ps c.requires.rising (λ n. sym (ap (λ ms. placed_behind (place ps n) i ms n) (drop_all i xs c.loop-index-test.false)) ∙ c.loop-index.invariant n)
+    let exact : (n : ℕ) → place ps n ≡ placed_behind 0 0 xs n = λ n. sym (ap (λ ms. placed_behind (place ps n) i ms n) (drop_all i xs c.loop-index-test.false)) ∙ c.loop-index.invariant n in
+    record { numbered = numbering xs ps c.requires.rising exact; places = places_in_order xs ps c.requires.rising exact }
