@@ -2,14 +2,10 @@
 use Rattle.std.{proofs.{Common.{◌≡◌, ◌≢◌, ◌↔◌, ◌+◌, ◌*◌, ◌==◌, ℕ, Bool, true, false, cond, List, [], length, get_or, replicate, refl, sym, ap, ◌∙◌, arith}, lemmas.{Bool.{eqb-false, ne_eqb, false≢true}, List.{length-replicate}}}, specs.Prelude.{Contains}}
 use Rattle.lab_table.{specs.Row.{Row}, proofs.Members.{no_member}}
 use Rattle.lab_history.specs.{History.{History}, Version.{IsCommitted}}
-use Rattle.lab_deps.{specs.{Edges.{IsEdge}, KindBits.{has_bit, place, cell_at, bits_of, edge_of, Tells}, Numbering.{IsNumbering}, declared.edge.{Edge.{Edge}, Kind.{Kind, TheVariants.{Write, ItemRead, PredicateRead, ItemAnti, PredicateAnti}}}}, proofs.NumberedNodes.{zeros}}
+use Rattle.lab_deps.{specs.{Edges.{IsEdge}, KindBits.{has_bit, place, cell_at, bits_of, edge_of, Tells}, Numbering.{IsNumbering}, declared.edge.{Edge.{Edge}, Kind.{Kind}}}, proofs.{EachKind.{each_kind}, NumberedNodes.{zeros}}}
 
 pub no_bit : (k : Kind) → has_bit 0 k ≡ false
-no_bit Write = refl
-no_bit ItemRead = refl
-no_bit PredicateRead = refl
-no_bit ItemAnti = refl
-no_bit PredicateAnti = refl
+no_bit = each_kind (λ k. has_bit 0 k ≡ false) refl refl refl refl refl
 
 -- empty cells tell of no edges
 pub told_none : (ns ps : List ℕ) (w : ℕ) (cs : List ℕ) → IsNumbering ns ps → w ≡ length ns + 1 → cs ≡ replicate (w * w) 0 → Tells ps w cs ps []

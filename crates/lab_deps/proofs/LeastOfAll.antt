@@ -11,7 +11,7 @@ use Rattle.lab_deps.specs.LeastRow.{comes_before, IsLeastRow}
 use Rattle.lab_deps.specs.Scopes.{Allows, edges_in}
 use Rattle.lab_deps.specs.Soundness.{Stands}
 use Rattle.lab_deps.specs.declared.{edge.{Edge.{Edge}, Kind.{Kind, TheVariants.{Write, ItemRead, PredicateRead, ItemAnti, PredicateAnti}}}, fault.LocalFault.TheVariants.{InstallOrder}, scope.Scope.{Scope, TheVariants.{All, Writes}}}
-use Rattle.lab_deps.proofs.{CollectedEdges.{edge_is_collected}, EdgeOrders.{same_kind}, ScopedEdges.{are_edges}, WriteEdges.{are_writes, writes_are}}
+use Rattle.lab_deps.proofs.{CollectedEdges.{edge_is_collected}, EachKind.{each_kind}, EdgeOrders.{same_kind}, LeastOfTwo.{fits_ends}, ScopedEdges.{are_edges}, WriteEdges.{are_writes, writes_are}}
 
 -- what five tests say of the kinds
 abbrev tells : Bool → Bool → Bool → Bool → Bool → Kind → Bool
@@ -58,11 +58,8 @@ told_least false false false false false PredicateAnti has = absurd (false≢tru
 
 module _ (a b : Kind → Bool) where
   told_both : (kind : Kind) → tells (both_have a b Write) (both_have a b ItemRead) (both_have a b PredicateRead) (both_have a b ItemAnti) (both_have a b PredicateAnti) kind ≡ both_have a b kind
-  told_both Write = refl
-  told_both ItemRead = refl
-  told_both PredicateRead = refl
-  told_both ItemAnti = refl
-  told_both PredicateAnti = refl
+  told_both =
+      each_kind (λ kind. tells (both_have a b Write) (both_have a b ItemRead) (both_have a b PredicateRead) (both_have a b ItemAnti) (both_have a b PredicateAnti) kind ≡ both_have a b kind) refl refl refl refl refl
 
   -- the first kind that two sets have is in both
   first_in_both : (kind : Kind) → least_kind a b ≡ Some kind → both_have a b kind ≡ true
@@ -107,16 +104,9 @@ not_less e f from to behind rows =
 
 module _ (scope : Scope) (h : History) (allowed : Allows scope h) (n m : ℕ) (there kinds : Kind → Bool)
     (exact : (kind : Kind) → (there kind ≡ true) ↔ ((row : Row) × Contains (edges_in scope h) (edge_of n m kind row))) where
-  -- what an edge that fits has
-  ends : (e : Edge) → fits n m kinds e ≡ true → (e.from ≡ n) × (e.to ≡ m) × (kinds e.kind ≡ true)
-  ends e fit =
-      let first = and_parts (e.from == n) (e.to == m && kinds e.kind) fit in
-      let second = and_parts (e.to == m) (kinds e.kind) first.1 in
-      (eqb-true e.from n first.0, eqb-true e.to m second.0, second.1)
-
   fits_both : (e : Edge) → Contains (edges_in scope h) e → fits n m kinds e ≡ true → both_have there kinds e.kind ≡ true
   fits_both e has fit =
-      let w = ends e fit in
+      let w = fits_ends n m kinds e fit in
       and_from (there e.kind) (kinds e.kind) ((exact e.kind).1 (e.row, subst (Contains (edges_in scope h)) (λ i. edge_of (w.0 i) (w.1 i) e.kind e.row) has)) w.2
 
   -- where no kind is among both, no edge fits
@@ -166,5 +156,5 @@ module _ (scope : Scope) (h : History) (allowed : Allows scope h) (n m : ℕ) (t
         at None is e has fit =
             absurd (false≢true (sym (l.least some_edge.0 is_edge.3) ∙ ap (comes_before some_edge.0) is))
         at (Some r) is e has fit =
-            let w = ends e fit in
+            let w = fits_ends n m kinds e fit in
             not_less e (edge_of n m kind r) w.0 w.1 (behind e has fit) (λ same. sym (ap (comes_before e.row) is) ∙ l.least e.row (depends_of e has w.0 w.1 same))
