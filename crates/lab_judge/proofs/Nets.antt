@@ -1,9 +1,9 @@
 -- The committed transactions of a history as nodes, and its edges as what ties them.
-use Rattle.std.{proofs.{Common.{◌≡◌, ℕ, ◌<◌, Bool, true, false, cond, Some, None, Option, Ok, Err, Result, IfOk, List, length, slice_index, refl, sym, ap, ◌∙◌, arith}, lemmas.{Map.Keys.{below_from_sorted, sorted_from_strictly_increasing}, Option.{slice_get-get_or}}}, specs.{Prelude.{Contains, IfSome, slice_get}, List.Sorted.{IsStrictlyIncreasing}, Ordering.{is_lt}}}
+use Rattle.std.{proofs.{Common.{◌≡◌, ℕ, ◌<◌, Bool, true, false, Some, None, Option, Ok, Err, Result, IfOk, List, length, slice_index, refl, sym, ap, ◌∙◌, arith}, lemmas.{Map.Keys.{below_from_sorted, sorted_from_strictly_increasing}, Option.{slice_get-get_or}}}, specs.{Prelude.{Contains, IfSome, slice_get}, List.Sorted.{IsStrictlyIncreasing}, Ordering.{is_lt}}}
 use Rattle.lab_order.specs.{Arrows.{Arrows}, Order.{position}}
 use Rattle.lab_history.specs.{History.{History}, Version.{IsCommitted}}
-use Rattle.lab_deps.{specs.{Edges.{IsEdge}, EdgeOrder.{edge_cmp}, KindSets.{is_any}, KindsBetween.{KindsBetween}, Soundness.{has_committed}, declared.edge.{Edge.{Edge}, Kind.{Kind}}}, proofs.Places.{times, times_count, at_times}}
-use Rattle.lab_judge.{specs.{Graphs.{Tie, IsLeastTie, IsGraphOf, IsNetOf}, LeastWalks.{HasEdgeAt, IsEdgeGraph, IsLeastEdge}, Runs.{HoldsEachOnce}}, proofs.{Lists.{of_both}, Numbers.{contains_it, stands, read, at_its_place, position_within}, Orders.{committed_in}}}
+use Rattle.lab_deps.{specs.{Edges.{IsEdge}, EdgeOrder.{edge_cmp}, KindSets.{is_any}, KindsBetween.{KindsBetween}, declared.edge.{Edge.{Edge}, Kind.{Kind}}}, proofs.Places.{at_times}}
+use Rattle.lab_judge.{specs.{Graphs.{Tie, IsLeastTie, IsGraphOf, IsNetOf}, LeastWalks.{HasEdgeAt, IsEdgeGraph, IsLeastEdge}, Runs.{HoldsEachOnce}}, proofs.{Lists.{of_both}, Numbers.{contains_it, stands, read, at_its_place, position_within}, Orders.{committed_once, committed_in}}}
 
 module _ (ns : List ℕ) (up : IsStrictlyIncreasing ns) where
   -- a greater node has a greater number
@@ -17,9 +17,7 @@ module _ (ns : List ℕ) (up : IsStrictlyIncreasing ns) where
 module _ (h : History) (ns : List ℕ) (once : HoldsEachOnce h ns) where
   -- a committed transaction is a node
   is_node : (n : ℕ) → IsCommitted h n → Contains ns n
-  is_node n c =
-      let one : times n ns ≡ 1 = times_count n ns ∙ once n ∙ ap (λ o. cond (has_committed o) 1 0) c in
-      contains_it ns n (omega (arith, one))
+  is_node n c = contains_it ns n (omega (arith, committed_once h ns once n c))
 
   -- and stands there
   pub stands_at : (n : ℕ) → IsCommitted h n → slice_get ns (position ns n) ≡ Some n
