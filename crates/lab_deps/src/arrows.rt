@@ -4,7 +4,7 @@ ghost use Rattle.std.specs.Prelude.{◌≡◌, ◌≤◌, ◌+◌, ◌*◌, ◌+
 ghost use Rattle.std.specs.List.Sorted.{IsStrictlyIncreasing};
 ghost use Rattle.lab_history.specs.History.{History as Recorded};
 ghost use Rattle.lab_history.specs.Limits.{max_transactions};
-ghost use Rattle.lab_deps.specs.KindBits.{bit, has_bit, place, bits_at, bits_of, Tells};
+ghost use Rattle.lab_deps.specs.KindBits.{bit, has_bit, place, bits_at, Tells};
 ghost use Rattle.lab_deps.specs.Marks.{Reaches, turns_marked};
 ghost use Rattle.lab_deps.specs.Numbering.{AreNodes, HasPlaces, IsNumbering};
 ghost use Rattle.lab_deps.specs.Turns.{AreMarks};
@@ -47,11 +47,6 @@ impl Arrows {
         })
     }
 
-    /// What its memory is from.
-    pub fn allocator(&self) -> Global {
-        *self.cells.allocator()
-    }
-
     /// The bits of the kinds from one place to another.
     pub fn bits_at(&self, from: u16, to: u16) -> u8
         ensures { result ≡ bits_at self.now.width self.now.cells.items from to }
@@ -65,13 +60,6 @@ impl Arrows {
         } else {
             self.cell(self.at(from, to))
         }
-    }
-
-    /// The bits of the kinds from one transaction to another.
-    pub fn bits(&self, from: TxnNo, to: TxnNo) -> u8
-        ensures { result ≡ bits_of self.now.places.items self.now.width self.now.cells.items from to }
-    {
-        self.bits_at(self.place(from), self.place(to))
     }
 
     /// The cells from a place to the others.

@@ -11,6 +11,6 @@ returns-clause-kinds c =
     let j = c.args.to in
     let low : i < length ns = subst (λ (v : KindsBetween). i < length v.numbers) (sym c.self.view_is) c.requires.from in
     let high : j < length ns = subst (λ (v : KindsBetween). j < length v.numbers) (sym c.self.view_is) c.requires.to in
-    subst (λ (v : KindsBetween). AreKinds v.edges (slice_index v.numbers i) (slice_index v.numbers j) (record { bits = c.bits_at.result })) c.self.view_is
+    subst (λ (v : KindsBetween). AreKinds v.edges (slice_index v.numbers i) (slice_index v.numbers j) (record { bits = c.bits_at-bits.result })) c.self.view_is
     (kinds_are _ ns a.places.items a.width a.cells.items c.self.invariant.told i j (slice_index ns i) (slice_index ns j) (slice_get-get_or ns i 0 low) (slice_get-get_or ns j 0 high)
-    c.bits_at.result c.bits_at.ensures)
+    c.bits_at-bits.result c.bits_at-bits.ensures)
