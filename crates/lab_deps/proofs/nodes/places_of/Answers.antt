@@ -1,4 +1,4 @@
-use Rattle.std.proofs.{Common.{◌≡◌, ◌+◌, ◌∷◌, ℕ, drop, get_or, sym, ap, ◌∙◌}, lemmas.List.{drop_all, drop_more}}
+use Rattle.std.proofs.{Common.{◌≡◌, ◌+◌, ◌∷◌, ℕ, drop, sym, ap, ◌∙◌}, lemmas.List.{drop_all, drop_more}}
 use Rattle.lab_deps.{specs.{KindBits.{place}, Numbering.{placed_behind}}, proofs.NumberedNodes.{numbering, places_in_order}}
 use Rattle.lab_deps.proofs.nodes.places_of.Goals as goal
 
@@ -7,7 +7,8 @@ loop-index-preserved c n =
     let xs = c.args.numbers.now in
     let i = c.loop-index.index in
     let ps = c.loop-index.places.items in
-    let left : drop i xs ≡ get_or xs i 0 ∷ drop (i + 1) xs = drop_more xs i 0 c.loop-index-test.true in
+    let m = c.index-numbers-index.result in
+    let left : drop i xs ≡ m ∷ drop (i + 1) xs = drop_more xs i m c.loop-index-test.true ∙ ap (λ k. k ∷ drop (i + 1) xs) (sym c.index-numbers-index.is) in
     ap (λ x. placed_behind x (i + 1) (drop (i + 1) xs) n) (c.in_ok-put.ensures n) ∙ (sym (ap (λ ms. placed_behind (place ps n) i ms n) left) ∙ c.loop-index.invariant n)
 
 pub returns : goal.returns
