@@ -9,10 +9,12 @@ returns c =
     let moved = c.sort_unstable.ensures.permutation in
     let rising = subst IsStrictlyIncreasing (sym is) (IsStrictlyIncreasing-dedup _ c.sort_unstable.ensures.sorted) in
     let kept = c.in_ok-numbers.ensures ∙ ap (numbers_that (is_committed h)) (c.as_slice-txns.ensures ∙ c.txns.ensures.value) in
+    let fewer = no_more_left _ _ _ is in
+    let many = length_permutation _ _ moved in
     record {
       each_once = each_once h c.dedup.new.self.items c.in_ok-numbers.numbers.items rising kept
           (λ n there. Contains-permutation _ _ n (IsPermutation-sym _ _ moved) (Contains-from_dedup _ _ n (subst (λ l. Contains l n) is there)))
           (λ n there. subst (λ l. Contains l n) (sym is) (Contains-dedup_nat _ n (Contains-permutation _ _ n moved there)));
       rising = rising;
-      few = omega (arith, no_more_left _ _ _ is, length_permutation _ _ moved, ap length kept, few_numbers (is_committed h) h.txns, c.txns.ensures.keeps.transactions);
+      few = omega (arith, fewer, many, ap length kept, few_numbers (is_committed h) h.txns, c.txns.ensures.keeps.transactions);
     }
