@@ -1,6 +1,11 @@
-use Rattle.std.{proofs.{Common.{subst}, lemmas.Result.{IfOk-weaker}}, specs.Prelude.{IfOk}}
-use Rattle.lab_deps.{specs.{KindSets.{among}, KindsBetween.{KindsBetween}, LeastEdge.{fits, IsLeast}}, proofs.LeastOfTwo.{found_there, found_from, found_to, found_kind, found_least, found_none}}
+use Rattle.std.{proofs.{Common.{◌≡◌, ◌↔◌, true, sym, subst}, lemmas.Result.{IfOk-weaker}}, specs.Prelude.{Contains, IfOk}}
+use Rattle.lab_table.specs.Row.{Row}
+use Rattle.lab_deps.{specs.{KindBits.{edge_of}, KindSets.{among}, KindsBetween.{KindsBetween}, LeastEdge.{fits, IsLeast}}, proofs.LeastOfTwo.{found_there, found_from, found_to, found_kind, found_least, found_none}}
 use Rattle.lab_deps.proofs.dependencies.Dependencies.least.Goals as goal
+
+pub least_of_two-requires-clause-there : goal.least_of_two-requires-clause-there
+least_of_two-requires-clause-there c kind =
+    subst (λ (v : KindsBetween). (among c.kinds-there.result kind ≡ true) ↔ ((row : Row) × Contains v.edges (edge_of c.args.from c.args.to kind row))) (sym c.self.view_is) (c.kinds-there.ensures kind)
 
 pub returns : goal.returns
 returns c =
