@@ -23,7 +23,7 @@ loop-txn-preserved c =
     let so_far = subst (λ txns. HasMembersOf (old ++ flat_map f txns) all) left c.loop-txn.invariant in
     let found = c.in_ok-found.found.items in
     let has = members_of found (flat_map (found_by h txn.no) c.committed_ops-ops.result.now) (f txn) (c.in_ok-found.ensures c.in_ok-places.places.items (c.in_ok-places.ensures.places h (subst (AreNodes h) (sym c.deref.ensures.value) c.in_ok-numbers.ensures))) (ap (flat_map (found_by h txn.no)) c.committed_ops-ops.ensures) in
-    let grown : c.extend_from_slice.new.self.items ≡ old ++ found = c.in_ok-extend_from_slice.ensures.items ∙ ap (λ es. old ++ es) c.deref-3.ensures.value in
+    let grown : c.extend_from_slice.new.self.items ≡ old ++ found = c.in_ok-extend_from_slice.ensures.items ∙ ap (λ es. old ++ es) c.deref-in-loop-txn.ensures.value in
     subst (λ es. HasMembersOf (es ++ flat_map f behind) all) (sym grown) (next_members old found (f txn) (flat_map f behind) all has so_far)
 
 pub returns : goal.returns
