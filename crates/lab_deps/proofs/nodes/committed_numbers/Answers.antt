@@ -1,11 +1,11 @@
-use Rattle.std.{proofs.{Common.{length, sym, ap, ◌∙◌, subst, arith}, lemmas.{List.{Filters.{dedup_is}, Kept.{Contains-dedup_nat, Contains-from_dedup}, Sorted.{Contains-permutation, IsPermutation-sym, length_permutation}}, Map.Keys.{IsStrictlyIncreasing-dedup}}}, specs.{Prelude.{Contains}, List.Sorted.{IsStrictlyIncreasing}}}
+use Rattle.std.{proofs.{Common.{◌==◌, length, sym, ap, ◌∙◌, subst, arith}, lemmas.{List.{Filters.{dedup_is}, Kept.{Contains-dedup_nat, Contains-from_dedup}, Sorted.{Contains-permutation, IsPermutation-sym, length_permutation}}, Map.Keys.{IsStrictlyIncreasing-dedup}}}, specs.{Prelude.{Contains}, List.Sorted.{IsStrictlyIncreasing}}}
 use Rattle.lab_deps.proofs.CommittedNumbers.{numbers_that, few_numbers, no_more_left, is_committed, each_once}
 use Rattle.lab_deps.proofs.nodes.committed_numbers.Goals as goal
 
 pub returns : goal.returns
 returns c =
     let h = c.args.history.now in
-    let is = dedup_is _ _ _ c.dedup.ensures.filtered in
+    let is = dedup_is (λ x y. x == y) _ _ c.dedup.ensures.filtered in
     let moved = c.sort_unstable.ensures.permutation in
     let rising = subst IsStrictlyIncreasing (sym is) (IsStrictlyIncreasing-dedup _ c.sort_unstable.ensures.sorted) in
     let kept = c.in_ok-numbers.ensures ∙ ap (numbers_that (is_committed h)) (c.as_slice-txns.ensures ∙ c.txns.ensures.value) in
