@@ -1,5 +1,5 @@
 -- The numbers of the committed transactions, each once.
-use Rattle.std.{proofs.{Common.{◌≡◌, ℕ, ◌+◌, ◌≤◌, ◌==◌, Bool, true, false, cond, Some, List, [], ◌∷◌, length, map, refl, sym, ap, ◌∙◌, subst, arith, inl, inr}, lemmas.{Bool.{eqb-true, cases_Bool, cases_lt, false≢true}, List.{length-map, Sums.{length-filter, count_by-le-length}, Elements.{All-map, All-contains, filter_passes}}}}, specs.{Prelude.{Contains, count_by, filter, option_map}, List.{All, dedup, dedup_from, Sorted.{IsStrictlyIncreasing}}}}
+use Rattle.std.{proofs.{Common.{◌≡◌, ℕ, ◌+◌, ◌≤◌, ◌==◌, Bool, true, false, cond, Some, List, [], ◌∷◌, length, map, refl, sym, ap, ◌∙◌, subst, arith, inl, inr}, lemmas.{Bool.{eqb-true, cases_Bool, cases_lt, false≢true}, List.{length-map, Sums.{length-filter, count_by-le-length}, Elements.{All-map, All-contains, filter_passes}, Sorted.{length_permutation}}}}, specs.{Prelude.{Contains, count_by, filter, option_map}, List.{All, dedup, dedup_from, Sorted.{IsStrictlyIncreasing, IsPermutation}}}}
 use Rattle.lab_history.specs.{History.{History}, Version.{outcome_of, find_txn}, declared.transaction.Txn.{Txn}}
 use Rattle.lab_deps.{specs.Soundness.{has_committed}, proofs.{Places.{times, times_count, times_here, times_more}, RisingNumbers.{contained, contains_it, at_most_once}}}
 
@@ -41,9 +41,13 @@ fewer_from same k (x ∷ xs) = elim (cases_Bool (same x k)) [
   | inr kept ↦ rw kept (omega (arith, fewer_from same x xs))
 ]
 
-pub no_more_left : {A : Type 0} (same : A → A → Bool) (xs ys : List A) → ys ≡ dedup same xs → length ys ≤ length xs
+no_more_left : {A : Type 0} (same : A → A → Bool) (xs ys : List A) → ys ≡ dedup same xs → length ys ≤ length xs
 no_more_left same [] ys is = omega (arith, ap length is)
 no_more_left same (x ∷ xs) ys is = omega (arith, ap length is, fewer_from same x xs)
+
+-- nor where they were put in order before
+pub few_left : (kept xs ys : List ℕ) → IsPermutation kept xs → ys ≡ dedup (λ x y. x == y) xs → length ys ≤ length kept
+few_left kept xs ys moved is = omega (arith, no_more_left (λ x y. x == y) xs ys is, length_permutation kept xs moved)
 
 -- whether a number is a committed transaction's
 abbrev pub is_committed : History → ℕ → Bool
