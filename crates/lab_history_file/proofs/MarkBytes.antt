@@ -1,6 +1,6 @@
 -- Brackets, braces, commas, strings and null as tokens of JSON.
-use Rattle.std.{proofs.{Common.{ℤ, ◌≡◌, ℕ, suc, ◌+◌, ◌≤◌, ◌&&◌, ◌||◌, ◌==◌, Bool, true, false, cond, not, nat_le, List, [], ◌∷◌, ◌++◌, length, take, drop, Option, Some, None, option_map, refl, sym, ap, ap₂, subst, ◌∙◌, arith}, lemmas.{Bool.{eqb-true, le-ltb}, List.{take-append-drop}}}, specs.{Prelude.{⊤}, List.{prefix_len}}}
-use Rattle.json.specs.{Token.{Token}, Text.{content, plain, prepend}, Lex.{Lexeme, token, comma, colon, Place, fresh, after_value, after_comma, after_key, may_begin, may_close, begins_colon, between, in_word, in_string, class, quote, operator, space, other, lex_byte, lex, punctuate}, Word.{is_operator, is_space, ends_word, word}}
+use Rattle.std.{proofs.{Common.{ℤ, ◌≡◌, ℕ, suc, ◌+◌, ◌≤◌, ◌||◌, ◌==◌, Bool, true, false, cond, List, [], ◌∷◌, ◌++◌, take, drop, Some, refl, sym, ap, ap₂, subst, ◌∙◌, arith}, lemmas.{Bool.{eqb-true, le-ltb}, List.{take-append-drop}}}, specs.{Prelude.{⊤}, List.{prefix_len}}}
+use Rattle.json.specs.{Token.{Token}, Text.{content, plain}, Lex.{Lexeme, token, colon, Place, fresh, after_value, after_comma, after_key, may_begin, may_close, begins_colon, between, in_word, in_string, class, operator, space, other, lex_byte, lex, punctuate}, Word.{is_operator, is_space, ends_word, word}}
 use Rattle.lab_history_file.specs.Bytes.{is_mark, is_plain, tokens_at, WholeAt, IntegerAt, IsWhole, IsInteger}
 use Rattle.lab_history_file.proofs.NumberBytes.{word_ends}
 

@@ -1,10 +1,10 @@
 -- What the tokens of a list's members spell.
-use Rattle.std.{proofs.Common.{◌≡◌, ◌≢◌, ℕ, ℤ, ◌+◌, ◌<◌, ◌≤◌, ◌≤ℤ◌, pos, negsuc, List, [], ◌∷◌, ◌++◌, length, Option, Some, None, option_and_then, if◌then◌else◌, true, refl, sym, ap, subst, ◌∙◌, arith, le-leb, option_map, suc}, specs.Prelude.{◌&&◌, nat_le, int_le}}
+use Rattle.std.{proofs.Common.{◌≡◌, ◌≢◌, ℕ, ℤ, ◌≤◌, ◌≤ℤ◌, pos, negsuc, List, [], ◌∷◌, ◌++◌, Some, None, option_and_then, if◌then◌else◌, true, refl, ap, ◌∙◌, arith, le-leb, option_map, suc}, specs.Prelude.{◌&&◌, int_le}}
 use Rattle.json.specs.Token.{Token}
 use Rattle.serde_json.specs.{Data.{Data, null, number, string, array, unsigned}, Find.{as_i64}, Read.{number_of}, View.{items_of}}
 use Rattle.lab_table.specs.{Row.{Row, in_test, numbered}, TableName.{is_table_name}}
-use Rattle.lab_history.{specs.declared.operation.{State.{State, TheVariants.{Absent, Present}}, VersionName.{VersionName, TheVariants.{Of}}}, proofs.Steps.{both_some}}
-use Rattle.lab_history_file.specs.{Bytes.{IsWhole, IsInteger}, Entries.{txn_in_number, op_in_number, value_in, state_in}, FileOf.{IsListOf, IsKey, IsPair, IsValue, IsVersion, IsInstalled}, Member.{id_in}, Reads.{WholeTo, KeyTaken, IsWritten}, Spelled.{Spells, SpellItems, Spelled, Passes}, Whole.{whole_in}}
+use Rattle.lab_history.{specs.declared.operation.{State.{TheVariants.{Absent, Present}}, VersionName.{TheVariants.{Of}}}, proofs.Steps.{both_some}}
+use Rattle.lab_history_file.specs.{Bytes.{IsWhole, IsInteger}, Entries.{txn_in_number, value_in, state_in}, FileOf.{IsListOf, IsPair, IsValue, IsVersion, IsInstalled}, Reads.{WholeTo, KeyTaken, IsWritten}, Spelled.{Spells, SpellItems, Spelled}}
 use Rattle.lab_history_file.specs.declared.file_version.FileVersion.{FileVersion, TheVariants.{One, Two}}
 use Rattle.lab_history_file.proofs.TokensSpell.{number_spelled, string_spelled, null_spelled, deeper, no_items_more, one_item_more, list_spelled}
 

@@ -1,6 +1,6 @@
 -- Digits as tokens of JSON.
-use Rattle.std.{proofs.{Common.{◌⊎◌, inl, inr, ap₂, ◌≡◌, ◌≢◌, ℕ, zero, suc, ◌+◌, ◌-◌, ◌*◌, ◌^◌, ◌<◌, ◌≤◌, ◌||◌, ◌==◌, Bool, true, false, cond, List, [], ◌∷◌, ◌++◌, length, take, drop, get_or, Option, Some, None, option_and_then, pos, negsuc, ◌-ℤ◌, to_z, of_z, w64, nat_lt, if◌then◌else◌, refl, sym, ap, subst, ◌∙◌, arith, lt-ltb, le-leb, ne_eqb, append-nil}, lemmas.{Bool.{eqb-true}, Float.Parse.{scan_numeral-text_of}, Int.{ints, to_z_pos}, List.{length-append, take_at, drop_at, nil_from_length}}}, specs.{Char.{digit_value, is_ascii_digit}, Float.Numeral.{Parts, scan_numeral, IsWellFormed}, List.{prefix_len}, Str.Parse.{AllDigits, digits_value, digits_value_after}}}
-use Rattle.json.specs.{Token.{Token}, Lex.{Lexeme, token, Mode, between, in_word, class, other, operator, space, lex}, Word.{head, is_operator, is_space, ends_word, after_digits, after_whole, after_fraction, after_exponent, after_number, number_before, word}}
+use Rattle.std.{proofs.{Common.{◌⊎◌, inl, inr, ap₂, ◌≡◌, ◌≢◌, ℕ, zero, suc, ◌+◌, ◌-◌, ◌*◌, ◌^◌, ◌<◌, ◌≤◌, ◌||◌, ◌==◌, Bool, true, false, cond, List, [], ◌∷◌, ◌++◌, length, Some, option_and_then, pos, negsuc, ◌-ℤ◌, to_z, of_z, w64, if◌then◌else◌, refl, sym, ap, subst, ◌∙◌, arith, lt-ltb, le-leb, ne_eqb, append-nil}, lemmas.{Bool.{eqb-true}, Float.Parse.{scan_numeral-text_of}, Int.{ints, to_z_pos}, List.{length-append, take_at, drop_at, nil_from_length}}}, specs.{Char.{digit_value, is_ascii_digit}, Float.Numeral.{Parts, scan_numeral, IsWellFormed}, List.{prefix_len}, Str.Parse.{AllDigits, digits_value, digits_value_after}}}
+use Rattle.json.specs.{Token.{Token}, Lex.{token, between, in_word, class, other, operator, space, lex}, Word.{is_operator, is_space, ends_word, after_whole, after_fraction, after_exponent, after_number, number_before, word}}
 use Rattle.serde_json.specs.{Data.{unsigned, negative}, Read.{number_of, number_from}}
 use Rattle.serde_json.specs.Find.{as_i64}
 use Rattle.lab_history_file.specs.Bytes.{digits_on, NumberIn, WholeAt, IntegerAt}

@@ -1,13 +1,12 @@
 -- What the tokens of operations, of transactions and of the whole spell.
-use Rattle.std.{proofs.Common.{◌≡◌, ℕ, ℤ, ◌≤◌, List, [], ◌∷◌, ◌++◌, length, T, Option, Some, Ok, codes, option_and_then, refl, sym, ap, subst, ◌∙◌, arith}, specs.{Prelude.{IsUtf8}}}
+use Rattle.std.{proofs.Common.{◌≡◌, ℕ, ℤ, ◌≤◌, List, [], ◌∷◌, length, T, Option, Some, Ok, codes, refl, sym, ap, subst, ◌∙◌, arith}, specs.{Prelude.{IsUtf8}}}
 use Rattle.std.specs.FinMap as finite
 use Rattle.std.specs.FinMap.{FinMap}
 use Rattle.json.specs.{Token.{Token}, Lex.{tokens}}
-use Rattle.serde_json.specs.{Data.{Data, string, number, unsigned}, Find.{as_number, as_u64}}
+use Rattle.serde_json.specs.{Data.{Data, string, unsigned}}
 use Rattle.lab_table.specs.Row.{Row, row_cmp}
-use Rattle.lab_table.specs.declared.statement.Statement.{Statement}
 use Rattle.lab_history.{specs.{History.{History}, VersionName.{new_states}, declared.{operation.{Op.{Op}, State.{State}, VersionName.{VersionName}}, transaction.{Outcome.{Outcome}, Txn.{Txn}}}}, proofs.NewStates.{new_states_sorted}}
-use Rattle.lab_history_file.specs.{Behind.{AllStand, Stands}, Bytes.{IsWhole}, Entries.{txn_in_number}, FileOf.{IsListOf, IsMapOf, IsPair, IsValue, IsState, IsVersion, IsInstalled, SpellsIn, IsOperation, outcome_text, IsTransaction, HoldsIn}, FileVersion.{version_number}, Format.{parts_in}, Reads.{WholeTo, IsWritten, PartsIn}, Spelled.{Spelled}}
+use Rattle.lab_history_file.specs.{Behind.{AllStand, Stands}, Bytes.{IsWhole}, FileOf.{IsListOf, IsMapOf, IsPair, IsValue, IsState, IsVersion, IsInstalled, SpellsIn, IsOperation, outcome_text, IsTransaction, HoldsIn}, FileVersion.{version_number}, Format.{parts_in}, Reads.{WholeTo, IsWritten, PartsIn}, Spelled.{Spelled}}
 use Rattle.lab_history_file.specs.declared.file_version.FileVersion.{FileVersion}
 use Rattle.lab_history_file.proofs.{PartsRead.{parts_are_read}, PlainWrites.{plain_writes}, TokensSpell.{number_spelled, string_spelled, deeper, no_members_more, one_member_more, object_spelled, text_spelled}}
 

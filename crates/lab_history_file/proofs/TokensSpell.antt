@@ -1,8 +1,8 @@
 -- What tokens spell, value by value.
-use Rattle.std.{proofs.Common.{◌≡◌, ℕ, zero, suc, ◌+◌, ◌-◌, ◌<◌, ◌≤◌, List, [], ◌∷◌, ◌++◌, length, Option, Some, None, Ok, option_map, option_and_then, refl, sym, ap, subst, ◌∙◌, arith, append-nil, append_assoc}, specs.{Prelude.{⊤, IsUtf8}, Cmp.Lexicographic.{slice_cmp}}}
+use Rattle.std.{proofs.Common.{◌≡◌, ℕ, suc, ◌-◌, ◌<◌, ◌≤◌, List, [], ◌∷◌, ◌++◌, length, Option, Some, None, option_map, option_and_then, refl, sym, ap, subst, ◌∙◌, arith, append-nil, append_assoc}, specs.{Prelude.{IsUtf8}}}
 use Rattle.json.{specs.{Token.{Token}, Lex.{tokens}, Json.{Json, Parse, parse_map, after_end_array, read_key, items, members, value, if_last}}, proofs.Grammar.{left, value_is, value-begin_array, value-begin_object, items_end, items_more, members_end, members_more, skip_value-shorter}}
 use Rattle.json.specs.Json as json
-use Rattle.serde_json.specs.{Data.{put, Num, Data, null, number, string, array, object, Items, no_items, item, Members, no_members}, Read.{number_of, of_json, of_items, of_members, read}, View.{items_of}}
+use Rattle.serde_json.specs.{Data.{put, Num, Data, null, number, string, array, object, item, no_members}, Read.{number_of, of_json, of_items, of_members}, View.{items_of}}
 use Rattle.lab_history_file.specs.{FileOf.{AreEach, IsListOf}, FileRead.{IsTextOf}, Spelled.{Spells, SpellItems, SpellMembers, put_all, Spelled, Passes, PassesEach}}
 
 -- ---- values that are one token

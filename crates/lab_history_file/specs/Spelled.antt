@@ -3,7 +3,7 @@ use Rattle.std.specs.Prelude.{◌≡◌, ℕ, ◌≤◌, List, [], ◌∷◌, �
 use Rattle.json.specs.Token.{Token}
 use Rattle.json.specs.Json.{items, members, value}
 use Rattle.json.specs.Json as json
-use Rattle.serde_json.specs.Data.{Data, Items, Members, no_members, put}
+use Rattle.serde_json.specs.Data.{Data, Members, put}
 use Rattle.serde_json.specs.Read.{of_json, of_items, of_members}
 use Rattle.serde_json.specs.View.{items_of}
 use Rattle.lab_history_file.specs.FileOf.{AreEach}

@@ -1,6 +1,5 @@
-use Rattle.std.{proofs.Common.{◌≡◌, List, [], ◌∷◌, ◌++◌, T, true, Some, refl, sym, ap, subst, ◌∙◌, arith}, specs.FinMap.{is_sorted}}
+use Rattle.std.{proofs.Common.{◌≡◌, [], ◌∷◌, T, true, sym, ap, subst, ◌∙◌, arith}}
 use Rattle.json.specs.Token.{Token}
-use Rattle.lab_table.specs.Row.{row_cmp}
 use Rattle.lab_history.{specs.RowOrder.{follows}, proofs.Rising.{rises_all}}
 use Rattle.lab_history_file.specs.{Behind.{AllStand}, Entries.{last_row}, Spelled.{PassesEach, Spelled}}
 use Rattle.lab_history_file.proofs.{ItemsRead.{stand_more}, ListsRead.{Follows, follow_rise, last_pushed}, TokensSpell.{each_none, each_more, each_listed, each_smaller}}

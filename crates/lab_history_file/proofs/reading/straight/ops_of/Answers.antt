@@ -1,4 +1,4 @@
-use Rattle.std.proofs.Common.{◌≡◌, ◌≤◌, List, [], ◌∷◌, ◌++◌, length, sym, ap, subst, ◌∙◌, arith, length-append}
+use Rattle.std.proofs.Common.{◌≡◌, ◌≤◌, [], ◌∷◌, length, sym, ap, subst, arith, length-append}
 use Rattle.json.specs.Token.{Token}
 use Rattle.lab_history_file.{specs.{FileOf.{IsListOf, IsOperation}, Spelled.{PassesEach, Spelled}}, proofs.TokensSpell.{each_none, each_more, each_listed, each_smaller}}
 use Rattle.lab_history_file.proofs.reading.straight.ops_of.Goals as goal

@@ -1,4 +1,4 @@
-use Rattle.std.proofs.Common.{◌≡◌, ◌+◌, ◌≤◌, List, [], ◌∷◌, ◌++◌, length, refl, sym, ap, subst, ◌∙◌, arith, length-append}
+use Rattle.std.proofs.Common.{◌≡◌, ◌+◌, [], ◌∷◌, ◌++◌, length, sym, ap, subst, ◌∙◌, arith, length-append}
 use Rattle.json.specs.Token.{Token}
 use Rattle.lab_history_file.specs.{Behind.{AllStand, Stands}, FileOf.{IsTransaction}, Spelled.{PassesEach, Spelled}}
 use Rattle.lab_history_file.proofs.{ItemsRead.{stand_more}, TokensSpell.{each_none, each_more, each_listed, each_smaller}}
