@@ -71,24 +71,40 @@ fn plain_command<'a>(alloc: Global, name: &'a str, about: &'a str, whole: &'a st
         .after_help(help::STATUSES)
 }
 
+/// A command with one more argument, where there was memory for both.
+fn with_arg<'a>(
+    command: Result<Command<'a>, AllocError>,
+    arg: Result<Arg<'a>, AllocError>,
+) -> Result<Command<'a>, AllocError> {
+    command?.arg(arg?)
+}
+
+/// The flag that has a run written with the rows that are committed.
+fn rows<'a>(alloc: Global) -> Result<Arg<'a>, AllocError> {
+    flag(alloc, "rows", help::ROWS)
+        .conflicts_with("history")?
+        .conflicts_with("as")
+}
+
+/// The flag that has a run's report written as JSON.
+fn json_of_run<'a>(alloc: Global) -> Result<Arg<'a>, AllocError> {
+    flag(alloc, "json", help::JSON)
+        .conflicts_with("history")?
+        .conflicts_with("as")?
+        .conflicts_with("rows")
+}
+
 /// The subcommand `run`. NoMemory where an allocation was refused.
 fn run_command<'a>(alloc: Global, names: &'a Names) -> Result<Command<'a>, AllocError> {
     let engine = choice(alloc, "engine", help::ENGINE, names.engines.as_slice()).required(true);
     let telling = choice(alloc, "as", help::AS, names.tellings.as_slice());
-    let rows = flag(alloc, "rows", help::ROWS);
-    let json = flag(alloc, "json", help::JSON);
-    plain_command(alloc, "run", help::RUN, help::RUN_WHOLE)
-        .arg(engine)?
-        .arg(flag(alloc, "free", help::FREE))?
-        .arg(flag(alloc, "history", help::HISTORY))?
-        .arg(telling.conflicts_with("history")?)?
-        .arg(rows.conflicts_with("history")?.conflicts_with("as")?)?
-        .arg(requirement(alloc, names))?
-        .arg(
-            json.conflicts_with("history")?
-                .conflicts_with("as")?
-                .conflicts_with("rows")?,
-        )
+    let command = plain_command(alloc, "run", help::RUN, help::RUN_WHOLE).arg(engine);
+    let command = with_arg(command, Ok(flag(alloc, "free", help::FREE)));
+    let command = with_arg(command, Ok(flag(alloc, "history", help::HISTORY)));
+    let command = with_arg(command, telling.conflicts_with("history"));
+    let command = with_arg(command, rows(alloc));
+    let command = with_arg(command, Ok(requirement(alloc, names)));
+    with_arg(command, json_of_run(alloc))
 }
 
 /// The option that names an engine, any number of times.
@@ -98,6 +114,11 @@ fn engines<'a>(alloc: Global, help: &'a str, names: &'a Names) -> Arg<'a> {
         .help(help)
         .action(ArgAction::Append)
         .value_parser(names.engines.as_slice())
+}
+
+/// The option that names a phenomenon.
+fn phenomenon<'a>(alloc: Global, help: &'a str, names: &'a Names) -> Arg<'a> {
+    choice(alloc, "phenomenon", help, names.phenomena.as_slice())
 }
 
 /// The subcommand `compare`. NoMemory where an allocation was refused.
@@ -111,9 +132,27 @@ fn compare_command<'a>(alloc: Global, names: &'a Names) -> Result<Command<'a>, A
 
 /// The subcommand `judge`. NoMemory where an allocation was refused.
 fn judge_command<'a>(alloc: Global, names: &'a Names) -> Result<Command<'a>, AllocError> {
-    plain_command(alloc, "judge", help::JUDGE, help::JUDGE_WHOLE)
-        .arg(requirement(alloc, names))?
-        .arg(flag(alloc, "json", help::JSON))
+    let command = plain_command(alloc, "judge", help::JUDGE, help::JUDGE_WHOLE);
+    let command = command.arg(requirement(alloc, names));
+    with_arg(command, Ok(flag(alloc, "json", help::JSON)))
+}
+
+/// The files of a subcommand over files: at least one, unless a list names them.
+fn files<'a>(alloc: Global) -> Result<Arg<'a>, AllocError> {
+    Arg::new(alloc, "FILE")
+        .help(help::FILE)
+        .num_args(1..)
+        .action(ArgAction::Append)
+        .required_unless_present("files-from")?
+        .conflicts_with("files-from")
+}
+
+/// The flag that has NULs end the names of a list.
+fn null<'a>(alloc: Global) -> Result<Arg<'a>, AllocError> {
+    flag(alloc, "null", help::NULL)
+        .short('0')
+        .requires_arg("files-from")?
+        .conflicts_with("FILE")
 }
 
 /// A subcommand over files. NoMemory where an allocation was refused.
@@ -122,28 +161,17 @@ fn files_command<'a>(
     command: Command<'a>,
     names: &'a Names,
 ) -> Result<Command<'a>, AllocError> {
-    let files = Arg::new(alloc, "FILE")
-        .help(help::FILE)
-        .num_args(1..)
-        .action(ArgAction::Append)
-        .required_unless_present("files-from")?
-        .conflicts_with("files-from")?;
     let list = Arg::new(alloc, "files-from")
         .long("files-from")
         .help(help::FILES_FROM)
         .value_name("LIST")
         .action(ArgAction::Set);
-    let null = flag(alloc, "null", help::NULL)
-        .short('0')
-        .requires_arg("files-from")?
-        .conflicts_with("FILE")?;
-    command
-        .arg(files)?
-        .arg(list)?
-        .arg(null)?
-        .arg(requirement(alloc, names))?
-        .arg(flag(alloc, "json", help::JSON))?
-        .arg(flag(alloc, "progress", help::PROGRESS))
+    let command = with_arg(Ok(command), files(alloc));
+    let command = with_arg(command, Ok(list));
+    let command = with_arg(command, null(alloc));
+    let command = with_arg(command, Ok(requirement(alloc, names)));
+    let command = with_arg(command, Ok(flag(alloc, "json", help::JSON)));
+    with_arg(command, Ok(flag(alloc, "progress", help::PROGRESS)))
 }
 
 /// The subcommand `batch`. NoMemory where an allocation was refused.
@@ -155,10 +183,12 @@ fn batch_command<'a>(alloc: Global, names: &'a Names) -> Result<Command<'a>, All
 /// The subcommand `chain`. NoMemory where an allocation was refused.
 fn chain_command<'a>(alloc: Global, names: &'a Names) -> Result<Command<'a>, AllocError> {
     let command = plain_command(alloc, "chain", help::CHAIN, help::CHAIN_WHOLE);
-    let join = flag(alloc, "join", help::JOIN).conflicts_with("reports")?;
-    files_command(alloc, command, names)?
-        .arg(flag(alloc, "reports", help::REPORTS))?
-        .arg(join)
+    let command = files_command(alloc, command, names);
+    let command = with_arg(command, Ok(flag(alloc, "reports", help::REPORTS)));
+    with_arg(
+        command,
+        flag(alloc, "join", help::JOIN).conflicts_with("reports"),
+    )
 }
 
 /// The subcommand `case`. NoMemory where an allocation was refused.
@@ -182,45 +212,33 @@ fn matrix_command<'a>(alloc: Global, names: &'a Names) -> Result<Command<'a>, Al
 
 /// The subcommand `picture`. NoMemory where an allocation was refused.
 fn picture_command<'a>(alloc: Global, names: &'a Names) -> Result<Command<'a>, AllocError> {
-    let phenomenon = choice(
-        alloc,
-        "phenomenon",
-        help::PHENOMENON,
-        names.phenomena.as_slice(),
-    );
-    plain_command(alloc, "picture", help::PICTURE, help::PICTURE_WHOLE).arg(phenomenon)
+    let command = plain_command(alloc, "picture", help::PICTURE, help::PICTURE_WHOLE);
+    command.arg(phenomenon(alloc, help::PHENOMENON, names))
 }
 
 /// The subcommand `explain`. NoMemory where an allocation was refused.
 fn explain_command<'a>(alloc: Global, names: &'a Names) -> Result<Command<'a>, AllocError> {
-    let phenomenon = choice(
-        alloc,
-        "phenomenon",
-        help::EXPLAINED,
-        names.phenomena.as_slice(),
-    );
-    plain_command(alloc, "explain", help::EXPLAIN, help::EXPLAIN_WHOLE).arg(phenomenon)
+    let command = plain_command(alloc, "explain", help::EXPLAIN, help::EXPLAIN_WHOLE);
+    command.arg(phenomenon(alloc, help::EXPLAINED, names))
 }
 
 /// The subcommand `shrink`. NoMemory where an allocation was refused.
 fn shrink_command<'a>(alloc: Global, names: &'a Names) -> Result<Command<'a>, AllocError> {
-    let phenomenon = choice(alloc, "phenomenon", help::SHOWN, names.phenomena.as_slice());
-    plain_command(alloc, "shrink", help::SHRINK, help::SHRINK_WHOLE)
-        .arg(phenomenon)?
-        .arg(flag(alloc, "progress", help::LEFT))
+    let command = plain_command(alloc, "shrink", help::SHRINK, help::SHRINK_WHOLE);
+    let command = command.arg(phenomenon(alloc, help::SHOWN, names));
+    with_arg(command, Ok(flag(alloc, "progress", help::LEFT)))
 }
 
 /// The subcommand `page`. NoMemory where an allocation was refused.
 fn page_command<'a>(alloc: Global, names: &'a Names) -> Result<Command<'a>, AllocError> {
-    let phenomenon = choice(alloc, "phenomenon", help::PAGED, names.phenomena.as_slice());
+    let command = plain_command(alloc, "page", help::PAGE, help::PAGE_WHOLE);
+    let command = command.arg(phenomenon(alloc, help::PAGED, names));
     let title = Arg::new(alloc, "title")
         .long("title")
         .help(help::TITLE)
         .value_name("TEXT")
         .action(ArgAction::Set);
-    plain_command(alloc, "page", help::PAGE, help::PAGE_WHOLE)
-        .arg(phenomenon)?
-        .arg(title)
+    with_arg(command, Ok(title))
 }
 
 /// The program's command, without its subcommands.
@@ -232,27 +250,28 @@ fn program<'a>(alloc: Global) -> Command<'a> {
         .subcommand_required(true)
 }
 
-/// A command and one more subcommand, where there was memory for that.
-fn with<'a>(
-    command: Command<'a>,
+/// A command with one more subcommand, where there was memory for both.
+fn with_subcommand<'a>(
+    command: Result<Command<'a>, AllocError>,
     more: Result<Command<'a>, AllocError>,
 ) -> Result<Command<'a>, AllocError> {
-    command.subcommand(more?)
+    command?.subcommand(more?)
 }
 
 /// The program's command with all subcommands. NoMemory where an allocation was refused.
+// What was refused is handed on, and looked at in `with` alone: each exit here would let a command go.
 pub fn command<'a>(alloc: Global, names: &'a Names) -> Result<Command<'a>, AllocError> {
     let serial = plain_command(alloc, "serial", help::SERIAL, help::SERIAL_WHOLE);
-    let command = program(alloc).subcommand(serial)?;
-    let command = with(command, run_command(alloc, names))?;
-    let command = with(command, compare_command(alloc, names))?;
-    let command = with(command, judge_command(alloc, names))?;
-    let command = with(command, batch_command(alloc, names))?;
-    let command = with(command, chain_command(alloc, names))?;
-    let command = with(command, case_command(alloc, names))?;
-    let command = with(command, matrix_command(alloc, names))?;
-    let command = with(command, picture_command(alloc, names))?;
-    let command = with(command, explain_command(alloc, names))?;
-    let command = with(command, page_command(alloc, names))?;
-    with(command, shrink_command(alloc, names))
+    let command = program(alloc).subcommand(serial);
+    let command = with_subcommand(command, run_command(alloc, names));
+    let command = with_subcommand(command, compare_command(alloc, names));
+    let command = with_subcommand(command, judge_command(alloc, names));
+    let command = with_subcommand(command, batch_command(alloc, names));
+    let command = with_subcommand(command, chain_command(alloc, names));
+    let command = with_subcommand(command, case_command(alloc, names));
+    let command = with_subcommand(command, matrix_command(alloc, names));
+    let command = with_subcommand(command, picture_command(alloc, names));
+    let command = with_subcommand(command, explain_command(alloc, names));
+    let command = with_subcommand(command, page_command(alloc, names));
+    with_subcommand(command, shrink_command(alloc, names))
 }
