@@ -1,18 +1,14 @@
 -- Of two faults that are true of a history, one comes before the other, or they are one.
-use Rattle.std.proofs.{Common.{◌≡◌, ℕ, suc, ◌<◌, ◌==◌, true, false, cond, Some, None, List, [], ◌∷◌, inl, inr, refl, sym, ap, subst, ◌∙◌, arith}, lemmas.{Bool.{eqb-true}, Option.{none-some, same_Some}}}
+use Rattle.std.proofs.{Common.{◌≡◌, ℕ, suc, ◌<◌, ◌==◌, true, false, cond, Some, None, List, [], ◌∷◌, inl, inr, refl, sym, ap, subst, ◌∙◌, arith}, lemmas.{Bool.{eqb-true, true_from_ne_false}, Option.{none-some, same_Some}}}
 use Rattle.std.specs.{Prelude.{nat_le, slice_get}, Ordering.{is_lt, ordering_reverse}, declared.cmp.Ordering.{Ordering, TheVariants.{Less, Equal, Greater}}}
 use Rattle.lab_table.specs.Row.{Row, row_cmp, rows_total, rows_apart}
 use Rattle.lab_history.specs.{History.{History}, Version.{IsCommitted, find_txn}, declared.transaction.Txn.{Txn}}
-use Rattle.lab_deps.specs.FaultKinds.{parts_of, op_fault, row_fault, fault_of}
-use Rattle.lab_deps.specs.Soundness.{Stands}
-use Rattle.lab_deps.specs.Refusal.{is_uncommitted_read, IsAnswer}
-use Rattle.lab_deps.specs.FaultOrder.{kind_place, where_is, place_among, ComesBefore, IsFirst}
+use Rattle.lab_deps.{specs.{FaultKinds.{parts_of, op_fault, row_fault, fault_of}, Soundness.{Stands}, Refusal.{is_uncommitted_read, IsAnswer}, FaultOrder.{kind_place, where_is, place_among, ComesBefore, IsFirst}}, proofs.{EachKind.{each_op_fault}, Found.{committed_there}}}
 use Rattle.lab_deps.specs.declared.{check.TheConstants.{KINDS}, fault.{FaultParts.{FaultParts}, LocalFault.{LocalFault}}, kind.{OpFault.{OpFault}, RowFault.{RowFault}}}
 use Rattle.lab_deps.specs.declared.fault.FaultParts.TheVariants as parts
 use Rattle.lab_deps.specs.declared.fault.LocalFault.TheVariants as fault
 use Rattle.lab_deps.specs.declared.kind.OpFault.TheVariants as kind
 use Rattle.lab_deps.specs.declared.kind.RowFault.TheVariants as row_kind
-use Rattle.lab_deps.proofs.Found.{committed_there}
 
 -- the fault of a fault's kind and place is that fault
 pub made_again : (f : LocalFault) → fault_of (parts_of f) ≡ f
@@ -37,13 +33,8 @@ op_place kind.RowsDiffer = 4
 op_place kind.WritesDiffer = 5
 
 pub op_told : (kind : OpFault) (n k : ℕ) (row : Row) → (kind_place (op_fault kind n k row) ≡ op_place kind) × (where_is (op_fault kind n k row) ≡ (n, k, row))
-op_told kind.Dangling n k row = (refl, refl)
-op_told kind.AbortedRead n k row = (refl, refl)
-op_told kind.IntermediateRead n k row = (refl, refl)
-op_told kind.OwnWriteMissed n k row = (refl, refl)
-op_told kind.LaterThanOwn n k row = (refl, refl)
-op_told kind.RowsDiffer n k row = (refl, refl)
-op_told kind.WritesDiffer n k row = (refl, refl)
+op_told kind n k row =
+    each_op_fault (λ x. (kind_place (op_fault x n k row) ≡ op_place x) × (where_is (op_fault x n k row) ≡ (n, k, row))) (refl, refl) (refl, refl) (refl, refl) (refl, refl) (refl, refl) (refl, refl) (refl, refl) kind
 
 abbrev pub row_place : RowFault → ℕ
 row_place row_kind.InstallOrder = 1
@@ -55,23 +46,12 @@ row_told row_kind.EndDiffers row = (refl, refl)
 
 -- the transaction of a fault that stands has committed
 op_committed : (h : History) (kind : OpFault) (n k : ℕ) (row : Row) → Stands h (op_fault kind n k row) → IsCommitted h n
-op_committed h kind.Dangling n k row stands = stands.1.0
-op_committed h kind.AbortedRead n k row stands = stands.1.0
-op_committed h kind.IntermediateRead n k row stands = stands.1.0
-op_committed h kind.OwnWriteMissed n k row stands = stands.1.0
-op_committed h kind.LaterThanOwn n k row stands = stands.1.0
-op_committed h kind.RowsDiffer n k row stands = stands.1.0
-op_committed h kind.WritesDiffer n k row stands = stands.1.0
+op_committed h kind n k row =
+    each_op_fault (λ x. Stands h (op_fault x n k row) → IsCommitted h n) (λ s. s.1.0) (λ s. s.1.0) (λ s. s.1.0) (λ s. s.1.0) (λ s. s.1.0) (λ s. s.1.0) (λ s. s.1.0) kind
 
 -- each kind stands at its place among those of faults at operations, and none at that of a kind of rows alone
 pub at_place : (kind : OpFault) → slice_get KINDS (op_place kind) ≡ Some (Some kind)
-at_place kind.Dangling = refl
-at_place kind.AbortedRead = refl
-at_place kind.IntermediateRead = refl
-at_place kind.OwnWriteMissed = refl
-at_place kind.LaterThanOwn = refl
-at_place kind.RowsDiffer = refl
-at_place kind.WritesDiffer = refl
+at_place = each_op_fault (λ x. slice_get KINDS (op_place x) ≡ Some (Some x)) refl refl refl refl refl refl refl
 
 none_at : (kind : RowFault) → slice_get KINDS (row_place kind) ≡ Some None
 none_at row_kind.InstallOrder = refl
@@ -189,8 +169,5 @@ module _ (h : History) where
   first_answers f first = (
     first.0,
     λ read g stands.
-        elim (is_uncommitted_read g) as (λ b. is_uncommitted_read g ≡ b → b ≡ true) [
-          | true ↦ λ _. refl
-          | false ↦ λ other. absurd (first.1 g stands (inl (later_kind (kind_place f) (kind_place g) (sym (reads_last f) ∙ read) (sym (reads_last g) ∙ other))))
-        ] refl,
+        true_from_ne_false _ (λ other. first.1 g stands (inl (later_kind (kind_place f) (kind_place g) (sym (reads_last f) ∙ read) (sym (reads_last g) ∙ other)))),
   )

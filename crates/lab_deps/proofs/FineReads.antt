@@ -1,11 +1,11 @@
 -- What is excluded where each version that an operation sees is one that it may see.
-use Rattle.std.proofs.{Common.{◌≡◌, ℕ, ◌+◌, ◌==◌, Bool, true, false, not, ◌&&◌, ◌||◌, cond, Option, Some, None, refl, ap, ◌∙◌, subst, arith}, lemmas.{Bool.{false≢true, eqb-true, eq-eqb, and_parts, and_from}}}
+use Rattle.std.proofs.{Common.{◌≡◌, ℕ, ◌+◌, ◌==◌, true, false, not, ◌&&◌, ◌||◌, cond, Option, Some, None, refl, ap, ◌∙◌, subst, arith}, lemmas.Bool.{false≢true, eqb-true, eq-eqb, and_parts, and_from, not-true, true_from_ne_false}, Math.Bool.{and-false}}
 use Rattle.std.specs.{Prelude.{nat_le, nat_lt, is_none, is_some, option_and_then, unwrap_or}, FinMap.{FinMap, get, entries}}
 use Rattle.lab_table.specs.Row.{Row, row_cmp}
 use Rattle.lab_history.{specs.{History.{History}, Version.{IsCommitted, ops_of, outcome_of, viewed, new_state, version_state, last_write, installers, place_in, is_at}, declared.operation.{Op.{Op}, VersionName.{VersionName, TheVariants.{Initial, Of}}}}, proofs.Greatest.{last_is_greatest}}
 use Rattle.lab_deps.specs.{Soundness.{has_committed}, Broken.{is_dangling, has_aborted, is_aborted, is_other, is_intermediate, precedes, is_later, breaks_at}, FirstOf.{IsLeastRow, HasPassing, first_value}, Fine.{is_last, is_own, is_clear, is_fine, is_unfine, IsFineView}, declared.kind.OpFault.{OpFault}}
 use Rattle.lab_deps.specs.declared.kind.OpFault.TheVariants as kind
-use Rattle.lab_deps.proofs.{FirstOf.{value_least}, Found.{committed}}
+use Rattle.lab_deps.proofs.{FirstOf.{value_least}, Found.{committed}, InstallPlaces.{placed_at}}
 
 -- no fault of what is seen stands
 abbrev IsRead : History → ℕ → ℕ → Row → VersionName → Type 0
@@ -18,18 +18,6 @@ is_there (Some x) t = refl
 after : (j k : ℕ) → nat_lt j k ≡ true → nat_le k j ≡ false
 after j k t = grind arith
 
-and_false : (b : Bool) → (b && false) ≡ false
-and_false true = refl
-and_false false = refl
-
-at_is : (o : Option ℕ) (j : ℕ) → is_at o j ≡ true → o ≡ Some j
-at_is None j t = absurd (false≢true t)
-at_is (Some q) j t = ap Some (eqb-true q j t)
-
-pub not_true : (b : Bool) → not b ≡ true → b ≡ false
-not_true true t = absurd (false≢true t)
-not_true false t = refl
-
 module _ (h : History) (n k : ℕ) (row : Row) where
   -- where a transaction's last write of a row has this number, there is such a version
   last_there : (m j : ℕ) → last_write (ops_of h m) row ≡ Some j → is_some (version_state h row (Of m j)) ≡ true
@@ -41,7 +29,7 @@ module _ (h : History) (n k : ℕ) (row : Row) where
   own_read m j c e own =
       let parts = and_parts (nat_lt j k) (is_some (version_state h row (Of m j))) own in
       let none : is_none (version_state h row (Of m j)) ≡ false = is_there (version_state h row (Of m j)) parts.1 in (
-        ap (λ b. b || ((m == n) && nat_le k j)) none ∙ ap (λ b. (m == n) && b) (after j k parts.0) ∙ and_false (m == n),
+        ap (λ b. b || ((m == n) && nat_le k j)) none ∙ ap (λ b. (m == n) && b) (after j k parts.0) ∙ and-false (m == n),
         ap has_aborted (ap (outcome_of h) (eqb-true m n e) ∙ c),
         ap (λ b. not b && is_other (last_write (ops_of h m) row) j) e,
         ap (λ b. not b && (has_committed (outcome_of h m) && precedes (place_in (installers h row) n) (place_in (installers h row) m))) e,
@@ -51,13 +39,13 @@ module _ (h : History) (n k : ℕ) (row : Row) where
   other_read m j e t =
       let parts = and_parts (is_last h m j row) (is_clear h n m row) t in
       let last = and_parts (has_committed (outcome_of h m)) (is_at (last_write (ops_of h m) row) j) parts.0 in
-      let number : last_write (ops_of h m) row ≡ Some j = at_is (last_write (ops_of h m) row) j last.1 in
+      let number : last_write (ops_of h m) row ≡ Some j = placed_at (last_write (ops_of h m) row) j last.1 in
       let none : is_none (version_state h row (Of m j)) ≡ false = is_there (version_state h row (Of m j)) (last_there m j number) in (
         ap (λ b. b || ((m == n) && nat_le k j)) none ∙ ap (λ b. b && nat_le k j) e,
         ap has_aborted (committed (outcome_of h m) last.0),
         ap (λ b. not b && is_other (last_write (ops_of h m) row) j) e ∙ ap (λ o. is_other o j) number ∙ ap not (eq-eqb j j refl),
-        ap (λ b. not (m == n) && (has_committed (outcome_of h m) && b)) (not_true (precedes (place_in (installers h row) n) (place_in (installers h row) m)) parts.1)
-            ∙ ap (λ b. not (m == n) && b) (and_false (has_committed (outcome_of h m))) ∙ and_false (not (m == n)),
+        ap (λ b. not (m == n) && (has_committed (outcome_of h m) && b)) (not-true (precedes (place_in (installers h row) n) (place_in (installers h row) m)) parts.1)
+            ∙ ap (λ b. not (m == n) && b) (and-false (has_committed (outcome_of h m))) ∙ and-false (not (m == n)),
       )
 
   fine_read : (v : VersionName) → IsCommitted h n → is_fine h n k row v ≡ true → IsRead h n k row v
@@ -96,10 +84,7 @@ module _ (h : History) (n k : ℕ) where
   -- where none of a view is found that may not be seen, each may
   pub all_fine : (view : FinMap row_cmp VersionName) → first_value (is_unfine h n k) (entries view) ≡ None → IsFineView h n k view
   all_fine view none row v e =
-      elim (is_fine h n k row v) as (λ b. is_fine h n k row v ≡ b → b ≡ true) [
-        | true ↦ λ _. refl
-        | false ↦ λ off. absurd (subst (IsLeastRow (HasPassing (is_unfine h n k) view)) none (value_least (is_unfine h n k) view) row (v, e, ap not off))
-      ] refl
+      true_from_ne_false _ (λ off. subst (IsLeastRow (HasPassing (is_unfine h n k) view)) none (value_least (is_unfine h n k) view) row (v, e, ap not off))
 
   -- and the view may be seen by the next operation too
   pub next_fine : (view : FinMap row_cmp VersionName) → IsFineView h n k view → IsFineView h n (k + 1) view

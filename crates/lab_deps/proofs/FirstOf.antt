@@ -1,9 +1,10 @@
--- The first of those of which something is so, and the least row: of either of two, of all members of a list, and among the entries of a map.
+-- The first of those of which something is so, and the least row: of either of two, of all members of a list, of rows that rise, and among the entries of a map.
 use Rattle.std.proofs.{Common.{◌≡◌, ℤ, Bool, true, false, cond, T, Option, Some, None, List, [], ◌∷◌, ◌⊎◌, inl, inr, refl, sym, ap, ◌∙◌, subst}, lemmas.{Bool.{false≢true}, List.{Elements.{Contains-append_cases}}, Option.{none-some, same_Some}}}
-use Rattle.std.specs.{Prelude.{Contains, ◌&&◌}, Bool.{then_some}, Ordering.{is_lt, is_le, ordering_reverse}, Cmp.{tied_itself}, FinMap.{FinMap, find, entries, entries_sorted, is_sorted, get-entries, Entries.{below_all}}, declared.cmp.Ordering.{Ordering, TheVariants.{Less, Equal, Greater}}}
-use Rattle.lab_table.{specs.Row.{Row, row_cmp, row_eq, row_le, rows_total, rows_apart}, proofs.{Maps.{find_below, same_row, row_eq_self}, Members.{no_member, first_member, later_member, only_member}, Orderings.{is_less}, Tests.{both}}}
+use Rattle.std.specs.{Prelude.{Contains, ◌&&◌}, Bool.{then_some}, Ordering.{is_lt, is_le, ordering_reverse}, Cmp.{tied_itself}, List.{AllByRecursion, Sorted.{IsStrictlySortedBy}}}
+use Rattle.std.specs.{FinMap.{FinMap, find, entries, entries_sorted, is_sorted, get-entries, Entries.{below_all}}, declared.cmp.Ordering.{Ordering, TheVariants.{Less, Equal, Greater}}}
+use Rattle.lab_table.{specs.Row.{Row, row_cmp, row_eq, row_le, rows_total, rows_apart}, proofs.{Maps.{find_below, same_row, row_eq_self}, Members.{no_member, first_member, later_member, only_member}, Orderings.{is_less}, SortedRows.{lower}, Tests.{both}}}
 use Rattle.lab_history.specs.{VersionName.{new_states}, declared.operation.State.{State}}
-use Rattle.lab_deps.specs.FirstOf.{IsFirstOf, IsLess, IsLeastRow, HasPassing, first_value, first_entry, least, least_of}
+use Rattle.lab_deps.specs.FirstOf.{IsFirstOf, IsLess, IsLeastRow, HasPassing, first_value, first_entry, first_row, least, least_of}
 
 -- the first of those of which something is so is the first of those of which something else is, where one can't be without the other
 pub first_like : {A : Type 0} (before : A → A → Type 0) (P Q : A → Type 0) (o : Option A) → ((x : A) → P x → Q x) → ((x : A) → Q x → (P x → ⊥) → ⊥) → IsFirstOf before P o → IsFirstOf before Q o
@@ -11,9 +12,7 @@ first_like before P Q None to back none = λ x q. back x q (none x)
 first_like before P Q (Some x) to back first = (to x first.0, λ y q l. back y q (λ p. first.1 y p l))
 
 less_is : (r : Ordering) → is_lt r ≡ true → r ≡ Less
-less_is Less e = refl
-less_is Equal e = absurd (false≢true e)
-less_is Greater e = absurd (false≢true e)
+less_is r e = is_less r (subst T (sym e) tt)
 
 -- no row is less than itself
 pub not_itself : (row : Row) → IsLess row row → ⊥
@@ -89,13 +88,29 @@ module _ {A : Type 0} (find_at : A → Option Row) (Holds : A → Row → Type 0
       first_like IsLess (Among (λ _. ⊥) xs) (λ row. (x : A) × Contains xs x × Holds x row) (least_of find_at None xs) (λ row w. elim w [ inl never ↦ absurd never | inr there ↦ there ])
       (λ row w denied. denied (inr w)) (least_on xs None (λ _. ⊥) (λ row never. never))
 
--- what stands below a row that is below all is below all
-below_lower : {A : Type 0} (row x : Row) (es : List (Row × A)) → row_cmp row x ≡ Less → T (below_all row_cmp x es) → T (below_all row_cmp row es)
-below_lower row x [] l h = h
-below_lower row x (e ∷ es) l h =
-    let parts = both (is_lt (row_cmp x e.0)) (below_all row_cmp x es) h in
-    let less : row_cmp row e.0 ≡ Less = rows_total.trans row x e.0 l (is_less (row_cmp x e.0) parts.0) in
-    subst (λ r. T (is_lt r && below_all row_cmp row es)) (sym less) (below_lower row x es l parts.1)
+behind_all : (x : Row) (rows : List Row) → AllByRecursion (λ y. row_cmp x y ≡ Less) rows → (row : Row) → Contains rows row → row_cmp x row ≡ Less
+behind_all x [] below row there = absurd (no_member row there)
+behind_all x (y ∷ rows) below row there =
+    elim (Contains-append_cases (y ∷ []) rows row there) [ inl here ↦ subst (λ r. row_cmp x r ≡ Less) (only_member y row here) below.0 | inr later ↦ behind_all x rows below.1 row later ]
+
+-- the first of rising rows that passes a test is the least that does
+pub row_least : (test : Row → Bool) (rows : List Row) → IsStrictlySortedBy row_cmp rows → IsLeastRow (λ row. Contains rows row × (test row ≡ true)) (first_row test rows)
+unfolding IsStrictlySortedBy
+row_least test [] sorted = λ row w. no_member row w.0
+row_least test (x ∷ rows) sorted =
+    elim (test x) as (λ b. test x ≡ b → IsLeastRow (λ row. Contains (x ∷ rows) row × (test row ≡ true)) (cond b (Some x) (first_row test rows))) [
+      | true ↦ λ t. (
+        (first_member x rows, t),
+        λ row w l. elim (Contains-append_cases (x ∷ []) rows row w.0) [
+          | inl here ↦ not_itself x (subst (λ r. IsLess r x) (sym (only_member x row here)) l)
+          | inr later ↦ not_itself x (ap is_lt (rows_total.trans x row x (behind_all x rows sorted.0 row later) (less_is (row_cmp row x) l)))
+        ],
+      )
+      | false ↦ λ off.
+          first_like IsLess (λ row. Contains rows row × (test row ≡ true)) (λ row. Contains (x ∷ rows) row × (test row ≡ true)) (first_row test rows) (λ row w. (later_member x rows row w.0, w.1))
+          (λ row w denied. elim (Contains-append_cases (x ∷ []) rows row w.0) [ inl here ↦ false≢true (sym off ∙ ap test (only_member x row here) ∙ w.1) | inr later ↦ denied (later, w.1) ])
+          (row_least test rows sorted.1)
+    ] refl
 
 module _ {A : Type 0} where
   -- a row below the first of a sorted list isn't in it
@@ -103,7 +118,7 @@ module _ {A : Type 0} where
   below_first row x es h l =
       let parts = both (below_all row_cmp x.0 es) (is_sorted row_cmp es) h in
       let less = less_is (row_cmp row x.0) l in
-      find_below row (x ∷ es) (subst (λ r. T (is_lt r && below_all row_cmp row es)) (sym less) (below_lower row x.0 es less parts.0))
+      find_below row (x ∷ es) (subst (λ r. T (is_lt r && below_all row_cmp row es)) (sym less) (lower row x.0 es less parts.0))
 
   -- behind an entry whose row stands below it a row is found as without it
   pub behind : (x : Row × A) (es : List (Row × A)) (row : Row) (v : A) → T (below_all row_cmp x.0 es) → find row_cmp row es ≡ Some v → find row_cmp row (x ∷ es) ≡ Some v

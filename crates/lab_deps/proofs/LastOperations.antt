@@ -1,9 +1,9 @@
 -- What an operation writes is its transaction's last write where none behind it writes the row.
-use Rattle.std.proofs.{Common.{◌≡◌, ℕ, zero, suc, Bool, true, false, not, cond, Option, Some, None, List, [], ◌∷◌, ◌+◌, ◌<◌, length, get_or, drop, add-one, refl, sym, ap, ◌∙◌}, lemmas.{Bool.{eq-eqb, false≢true, and_parts}, Option.{none-some, same_Some, slice_get_read}}}
+use Rattle.std.proofs.{Common.{◌≡◌, ℕ, zero, suc, Bool, true, false, not, cond, Option, Some, None, List, [], ◌∷◌, ◌+◌, ◌<◌, length, get_or, drop, add-one, refl, sym, ap, ◌∙◌}, lemmas.{Bool.{not-true, eq-eqb, false≢true, and_parts}, Option.{none-some, same_Some, slice_get_read}}}
 use Rattle.std.specs.{Prelude.{option_map, is_some, is_none, slice_get}, List.{list_all}, Option.{option_or}, FinMap.{find}}
 use Rattle.lab_table.specs.Row.{Row, row_cmp, row_test, rows_tested}
 use Rattle.lab_history.specs.{Version.{last_write, new_state, WritesAt, is_at}, VersionName.{new_states, state_value}, declared.operation.{Op.{Op}, State.{State}}}
-use Rattle.lab_deps.proofs.FineReads.{not_true}
+use Rattle.lab_deps.proofs.BrokenStands.{decides_none}
 
 module _ (row : Row) where
   -- what is found behind an operation and what it writes give the last write
@@ -11,8 +11,7 @@ module _ (row : Row) where
   from later b = option_or (option_map (λ k. suc k) later) (cond b (Some 1) None)
 
   nothing : {A : Type 0} (o : Option A) → is_none o ≡ true → is_some o ≡ false
-  nothing None t = refl
-  nothing (Some x) t = absurd (false≢true t)
+  nothing o t = ap is_some ((decides_none o).0 t)
 
   -- where no operation behind one writes the row, and it doesn't
   none_from : (ops : List Op) (i : ℕ) (op : Op) → slice_get ops i ≡ Some op → is_none (new_state op row) ≡ true → last_write (drop (suc i) ops) row ≡ None → last_write (drop i ops) row ≡ None
@@ -37,7 +36,7 @@ module _ (row : Row) where
   none_among [] t = refl
   none_among (e ∷ es) t =
       let parts = and_parts (not (row_test row e.0)) (list_all (λ e. not (row_test row e.0)) es) t in
-      ap (λ b. cond b (Some (state_value e.1)) (find row_cmp row (new_states es))) (sym (rows_tested row e.0) ∙ not_true (row_test row e.0) parts.0) ∙ none_among es parts.1
+      ap (λ b. cond b (Some (state_value e.1)) (find row_cmp row (new_states es))) (sym (rows_tested row e.0) ∙ not-true (row_test row e.0) parts.0) ∙ none_among es parts.1
 
 -- what is made of something is something
 pub made_some : {A B : Type 0} (f : A → B) (o : Option A) (x : Option B) → option_map f o ≡ x → is_some o ≡ true → is_some x ≡ true

@@ -1,77 +1,38 @@
 -- The least edge from one transaction to another is of the first kind that there is, at the least row.
-use Rattle.std.proofs.{Common.{◌≡◌, ◌↔◌, ◌≤◌, ℕ, Bool, true, false, ◌==◌, ◌&&◌, cond, Option, Some, None, refl, sym, ap, ◌∙◌, subst, arith}, lemmas.{Bool.{false≢true, eqb-true, eq-eqb, le-ltb, and_parts, and_from}, Option.{none-some, same_Some}}}
-use Rattle.std.specs.{Prelude.{Contains, option_map}, Ordering.{is_lt, nat_cmp, ordering_then}, declared.cmp.Ordering.{Ordering, TheVariants.{Less, Equal, Greater}}}
-use Rattle.lab_table.{specs.Row.{Row, row_cmp}, proofs.Tests.{mapped_some}}
+use Rattle.std.proofs.{Common.{◌≡◌, ◌↔◌, ◌≤◌, ◌<◌, ◌+◌, ℕ, Bool, true, false, ◌==◌, cond, Option, Some, None, refl, sym, ap, ◌∙◌, subst, arith, inl, inr}, lemmas.{Bool.{cases_eq, false≢true, false_from_ne_true, eqb-true, le-ltb, and_parts, and_from}, Cmp.{nat_cmp_total}}}
+use Rattle.std.specs.{Prelude.{Contains, option_map}, Ordering.{is_lt, nat_cmp, ordering_then}, Cmp.{tied_itself}, declared.cmp.Ordering.{Ordering, TheVariants.{Less, Equal, Greater}}}
+use Rattle.lab_table.specs.Row.{Row, row_cmp}
 use Rattle.lab_history.specs.{History.{History}, Version.{IsCommitted}}
-use Rattle.lab_deps.specs.Edges.{Depends, IsEdge}
-use Rattle.lab_deps.specs.EdgeOrder.{kind_place, edge_cmp}
-use Rattle.lab_deps.specs.KindBits.{edge_of}
-use Rattle.lab_deps.specs.LeastEdge.{fits, comes_first, both_have, least_kind, IsLeast}
-use Rattle.lab_deps.specs.LeastRow.{comes_before, IsLeastRow}
-use Rattle.lab_deps.specs.Scopes.{Allows, edges_in}
-use Rattle.lab_deps.specs.Soundness.{Stands}
+use Rattle.lab_deps.specs.{Edges.{Depends, IsEdge}, EdgeOrder.{kind_place, edge_cmp}, FirstOf.{IsFirstOf, IsLeastRow}, KindBits.{edge_of}, LeastEdge.{Fits, IsLeastFitting, both_have, least_kind}, Scopes.{Allows, edges_in}, Soundness.{Stands}}
 use Rattle.lab_deps.specs.declared.{edge.{Edge.{Edge}, Kind.{Kind, TheVariants.{Write, ItemRead, PredicateRead, ItemAnti, PredicateAnti}}}, fault.LocalFault.TheVariants.{InstallOrder}, scope.Scope.{Scope, TheVariants.{All, Writes}}}
-use Rattle.lab_deps.proofs.{CollectedEdges.{edge_is_collected}, EdgeOrders.{same_kind}, ScopedEdges.{are_edges}, WriteEdges.{are_writes, writes_are}}
+use Rattle.lab_deps.proofs.{CollectedEdges.{edge_is_collected}, EachKind.{each_kind}, EdgeOrders.{same_kind}, FirstOf.{first_like}, ScopedEdges.{are_edges}, WriteEdges.{are_writes, writes_are}}
 
--- what five tests say of the kinds
-abbrev tells : Bool → Bool → Bool → Bool → Bool → Kind → Bool
-tells a b c d e Write = a
-tells a b c d e ItemRead = b
-tells a b c d e PredicateRead = c
-tells a b c d e ItemAnti = d
-tells a b c d e PredicateAnti = e
-
--- the first kind of which they are true
-abbrev first_told : Bool → Bool → Bool → Bool → Bool → Option Kind
-first_told a b c d e = cond a (Some Write) (cond b (Some ItemRead) (cond c (Some PredicateRead) (cond d (Some ItemAnti) (cond e (Some PredicateAnti) None))))
-
-told_is : (a b c d e : Bool) (kind : Kind) → first_told a b c d e ≡ Some kind → tells a b c d e kind ≡ true
-told_is true b c d e kind is = subst (λ k. tells true b c d e k ≡ true) (same_Some Write kind is) refl
-told_is false true c d e kind is = subst (λ k. tells false true c d e k ≡ true) (same_Some ItemRead kind is) refl
-told_is false false true d e kind is = subst (λ k. tells false false true d e k ≡ true) (same_Some PredicateRead kind is) refl
-told_is false false false true e kind is = subst (λ k. tells false false false true e k ≡ true) (same_Some ItemAnti kind is) refl
-told_is false false false false true kind is = subst (λ k. tells false false false false true k ≡ true) (same_Some PredicateAnti kind is) refl
-told_is false false false false false kind is = absurd (none-some kind is)
-
--- no kind before the first one, where it is this
-abbrev IsBehind : Option Kind → Kind → Type 0
-IsBehind None other = ⊥
-IsBehind (Some kind) other = kind_place kind ≤ kind_place other
-
-told_least : (a b c d e : Bool) (other : Kind) → tells a b c d e other ≡ true → IsBehind (first_told a b c d e) other
-told_least true b c d e other has = omega arith
-told_least false b c d e Write has = absurd (false≢true has)
-told_least false true c d e ItemRead has = omega arith
-told_least false true c d e PredicateRead has = omega arith
-told_least false true c d e ItemAnti has = omega arith
-told_least false true c d e PredicateAnti has = omega arith
-told_least false false c d e ItemRead has = absurd (false≢true has)
-told_least false false true d e PredicateRead has = omega arith
-told_least false false true d e ItemAnti has = omega arith
-told_least false false true d e PredicateAnti has = omega arith
-told_least false false false d e PredicateRead has = absurd (false≢true has)
-told_least false false false true e ItemAnti has = omega arith
-told_least false false false true e PredicateAnti has = omega arith
-told_least false false false false e ItemAnti has = absurd (false≢true has)
-told_least false false false false true PredicateAnti has = omega arith
-told_least false false false false false PredicateAnti has = absurd (false≢true has)
+-- one kind stands before another
+abbrev IsEarlier : Kind → Kind → Type 0
+IsEarlier a b = kind_place a < kind_place b
 
 module _ (a b : Kind → Bool) where
-  told_both : (kind : Kind) → tells (both_have a b Write) (both_have a b ItemRead) (both_have a b PredicateRead) (both_have a b ItemAnti) (both_have a b PredicateAnti) kind ≡ both_have a b kind
-  told_both Write = refl
-  told_both ItemRead = refl
-  told_both PredicateRead = refl
-  told_both ItemAnti = refl
-  told_both PredicateAnti = refl
+  -- two sets have a kind, which is none before a place
+  abbrev From : ℕ → Kind → Type 0
+  From place kind = (both_have a b kind ≡ true) × (place ≤ kind_place kind)
 
-  -- the first kind that two sets have is in both
-  first_in_both : (kind : Kind) → least_kind a b ≡ Some kind → both_have a b kind ≡ true
-  first_in_both kind is = sym (told_both kind) ∙ told_is (both_have a b Write) (both_have a b ItemRead) (both_have a b PredicateRead) (both_have a b ItemAnti) (both_have a b PredicateAnti) kind is
+  none_left : IsFirstOf IsEarlier (From 5) None
+  none_left = λ other w. each_kind (λ k. 5 ≤ kind_place k → ⊥) (λ l. omega (arith, l)) (λ l. omega (arith, l)) (λ l. omega (arith, l)) (λ l. omega (arith, l)) (λ l. omega (arith, l)) other w.1
 
-  -- and none in both comes before
-  none_first : (other : Kind) → both_have a b other ≡ true → IsBehind (least_kind a b) other
-  none_first other has =
-      told_least (both_have a b Write) (both_have a b ItemRead) (both_have a b PredicateRead) (both_have a b ItemAnti) (both_have a b PredicateAnti) other (told_both other ∙ has)
+  one_more : (kind : Kind) (place : ℕ) (rest : Option Kind) → kind_place kind ≡ place → IsFirstOf IsEarlier (From (place + 1)) rest → IsFirstOf IsEarlier (From place) (cond (both_have a b kind) (Some kind) rest)
+  one_more kind place rest at first =
+      elim (both_have a b kind) as (λ t. both_have a b kind ≡ t → IsFirstOf IsEarlier (From place) (cond t (Some kind) rest)) [
+        | true ↦ λ has. ((has, omega (arith, at)), λ other w less. omega (arith, at, w.1, less))
+        | false ↦ λ off. first_like IsEarlier (From (place + 1)) (From place) rest (λ other w. (w.0, omega (arith, w.1)))
+            (λ other w denied. elim (cases_eq (kind_place other) place) [
+              | inl same ↦ false≢true (sym off ∙ (ap (both_have a b) (same_kind kind other (at ∙ sym same)) ∙ w.0))
+              | inr apart ↦ denied (w.0, omega (arith, w.1, apart))
+            ]) first
+      ] refl
+
+  -- of the kinds that both have this is the first
+  least_first : IsFirstOf IsEarlier (From 0) (least_kind a b)
+  least_first = one_more Write 0 _ refl (one_more ItemRead 1 _ refl (one_more PredicateRead 2 _ refl (one_more ItemAnti 3 _ refl (one_more PredicateAnti 4 None refl none_left))))
 
 -- rows are installed by their committed writers
 pub installed_by : (scope : Scope) (h : History) → Allows scope h → (row : Row) → Stands h (InstallOrder row) → ⊥
@@ -84,8 +45,7 @@ meant_like All h sound e f there edge same = edge_is_collected h f edge
 meant_like Writes h installed e f there edge same = writes_are h installed f (edge, same ∙ (are_writes h installed e there).1)
 
 same_number : (n : ℕ) → nat_cmp n n ≡ Equal
-same_number n =
-    ap (λ b. cond b Less (cond (n == n) Equal Greater)) (le-ltb n n (omega arith)) ∙ ap (λ b. cond b Equal Greater) (eq-eqb n n refl)
+same_number = tied_itself nat_cmp_total
 
 by_kind : (a b : ℕ) (rest : Ordering) → b ≤ a → (a ≡ b → is_lt rest ≡ false) → is_lt (ordering_then (nat_cmp a b) rest) ≡ false
 by_kind a b rest behind same =
@@ -107,29 +67,26 @@ not_less e f from to behind rows =
 
 module _ (scope : Scope) (h : History) (allowed : Allows scope h) (n m : ℕ) (there kinds : Kind → Bool)
     (exact : (kind : Kind) → (there kind ≡ true) ↔ ((row : Row) × Contains (edges_in scope h) (edge_of n m kind row))) where
-  -- what an edge that fits has
-  ends : (e : Edge) → fits n m kinds e ≡ true → (e.from ≡ n) × (e.to ≡ m) × (kinds e.kind ≡ true)
-  ends e fit =
-      let first = and_parts (e.from == n) (e.to == m && kinds e.kind) fit in
-      let second = and_parts (e.to == m) (kinds e.kind) first.1 in
-      (eqb-true e.from n first.0, eqb-true e.to m second.0, second.1)
-
-  fits_both : (e : Edge) → Contains (edges_in scope h) e → fits n m kinds e ≡ true → both_have there kinds e.kind ≡ true
-  fits_both e has fit =
-      let w = ends e fit in
-      and_from (there e.kind) (kinds e.kind) ((exact e.kind).1 (e.row, subst (Contains (edges_in scope h)) (λ i. edge_of (w.0 i) (w.1 i) e.kind e.row) has)) w.2
+  fits_both : (e : Edge) → Fits (edges_in scope h) n m kinds e → From there kinds 0 e.kind
+  fits_both e (has, from, to, kind) = (
+    and_from (there e.kind) (kinds e.kind) ((exact e.kind).1 (e.row, subst (Contains (edges_in scope h)) (λ i. edge_of (from i) (to i) e.kind e.row) has)) kind,
+    omega arith,
+  )
 
   -- where no kind is among both, no edge fits
-  pub none_is_least : least_kind there kinds ≡ None → IsLeast (fits n m kinds) (edges_in scope h) None
-  none_is_least none = record {
-    there = λ e is. absurd (none-some e is);
-    least = λ e has fit. absurd (subst (λ o. IsBehind o e.kind) none (none_first there kinds e.kind (fits_both e has fit)));
-  }
+  pub none_is_least : least_kind there kinds ≡ None → IsLeastFitting (edges_in scope h) n m kinds None
+  none_is_least none = λ e fit. subst (IsFirstOf IsEarlier (From there kinds 0)) none (least_first there kinds) e.kind (fits_both e fit)
 
-  module _ (kind : Kind) (first : least_kind there kinds ≡ Some kind) where
+  module _ (kind : Kind) (is : least_kind there kinds ≡ Some kind) where
+    first : IsFirstOf IsEarlier (From there kinds 0) (Some kind)
+    first = subst (IsFirstOf IsEarlier (From there kinds 0)) is (least_first there kinds)
+
+    in_both : (there kind ≡ true) × (kinds kind ≡ true)
+    in_both = and_parts (there kind) (kinds kind) first.0.0
+
     -- an edge of the first kind that is among both
     some_edge : (row : Row) × Contains (edges_in scope h) (edge_of n m kind row)
-    some_edge = (exact kind).0 (and_parts (there kind) (kinds kind) (first_in_both there kinds kind first)).0
+    some_edge = (exact kind).0 in_both.0
 
     is_edge : IsEdge h (edge_of n m kind some_edge.0)
     is_edge = are_edges scope h allowed (edge_of n m kind some_edge.0) some_edge.1
@@ -140,31 +97,18 @@ module _ (scope : Scope) (h : History) (allowed : Allows scope h) (n m : ℕ) (t
     pub second_committed : IsCommitted h m
     second_committed = is_edge.1
 
-    depends_of : (e : Edge) → Contains (edges_in scope h) e → e.from ≡ n → e.to ≡ m → e.kind ≡ kind → Depends h kind e.row n m
-    depends_of e has from to same =
+    depends_of : (e : Edge) → Fits (edges_in scope h) n m kinds e → e.kind ≡ kind → Depends h kind e.row n m
+    depends_of e (has, from, to, _) same =
         let w = are_edges scope h allowed e has in
         subst (λ k. Depends h k e.row n m) same (subst (λ b. Depends h e.kind e.row n b) to (subst (λ a. Depends h e.kind e.row a e.to) from w.3))
 
     -- an edge of this kind at the least row is the least
-    pub row_is_least : (row : Option Row) → IsLeastRow (λ r. Depends h kind r n m) row → IsLeast (fits n m kinds) (edges_in scope h) (option_map (edge_of n m kind) row)
-    row_is_least row l = record {
-      there = λ e is.
-          let w = mapped_some (edge_of n m kind) row e is in (
-            subst (Contains (edges_in scope h)) w.2
-                (meant_like scope h allowed (edge_of n m kind some_edge.0) (edge_of n m kind w.0) some_edge.1 (is_edge.0, is_edge.1, is_edge.2, l.there w.0 w.1) refl),
-            subst (λ f. fits n m kinds f ≡ true) w.2
-                (and_from (n == n) (m == m && kinds kind) (eq-eqb n n refl)
-                (and_from (m == m) (kinds kind) (eq-eqb m m refl) (and_parts (there kind) (kinds kind) (first_in_both there kinds kind first)).1)),
-          );
-      least = λ e has fit. at row refl e has fit;
-    }
-      where
-        behind : (e : Edge) → Contains (edges_in scope h) e → fits n m kinds e ≡ true → kind_place kind ≤ kind_place e.kind
-        behind e has fit = subst (λ o. IsBehind o e.kind) first (none_first there kinds e.kind (fits_both e has fit))
-
-        at : (o : Option Row) → row ≡ o → (e : Edge) → Contains (edges_in scope h) e → fits n m kinds e ≡ true → comes_first e (option_map (edge_of n m kind) o) ≡ false
-        at None is e has fit =
-            absurd (false≢true (sym (l.least some_edge.0 is_edge.3) ∙ ap (comes_before some_edge.0) is))
-        at (Some r) is e has fit =
-            let w = ends e fit in
-            not_less e (edge_of n m kind r) w.0 w.1 (behind e has fit) (λ same. sym (ap (comes_before e.row) is) ∙ l.least e.row (depends_of e has w.0 w.1 same))
+    pub row_is_least : (row : Option Row) → IsLeastRow (λ r. Depends h kind r n m) row → IsLeastFitting (edges_in scope h) n m kinds (option_map (edge_of n m kind) row)
+    row_is_least None none = λ e fit. none some_edge.0 is_edge.3
+    row_is_least (Some row) least = (
+      (meant_like scope h allowed (edge_of n m kind some_edge.0) (edge_of n m kind row) some_edge.1 (is_edge.0, is_edge.1, is_edge.2, least.0) refl, refl, refl, in_both.1),
+      λ e fit less.
+          let later = first.1 e.kind (fits_both e fit) in
+          let behind : kind_place kind ≤ kind_place e.kind = grind (arith, later) in
+          false≢true (sym (not_less e (edge_of n m kind row) fit.1 fit.2 behind (λ same. false_from_ne_true (is_lt (row_cmp e.row row)) (least.1 e.row (depends_of e fit same)))) ∙ less),
+    )

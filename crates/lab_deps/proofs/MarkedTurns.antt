@@ -3,7 +3,7 @@ use Rattle.std.{proofs.{Common.{◌≡◌, ◌≢◌, ◌≤◌, ◌<◌, ◌+�
 use Rattle.lab_table.{specs.{Statement.{matches}, Table.{State}, declared.statement.Statement.{Statement}}, proofs.Members.{first_member, later_member}}
 use Rattle.lab_deps.specs.{Collected.{apart, read_by, passed_by}, Edges.{differ}, EdgesByRow.{Chain, edges_by, walk, unlisted, walked}, KindBits.{bit, place, cell_at, Tells}, Marks.{or_at, marked, turns_marked}, Numbering.{FitsVersions}, Turns.{states, turned, TurnsFor}}
 use Rattle.lab_deps.specs.declared.{edge.{Edge.{Edge}, Kind.{Kind, TheVariants.{PredicateRead, PredicateAnti}}}, reading.Reading.{Reading}, turns.Turns.{Turns}, versions.Version.{Version}}
-use Rattle.lab_deps.proofs.{MarkedCells.{or_set}, NumberedStates.{no_difference, differ_alike}, ToldKinds.{told_apart, told_off}}
+use Rattle.lab_deps.proofs.{NumberedStates.{no_difference, differ_alike}, ToldKinds.{told_apart, told_off}}
 
 -- a cell is marked by a version, of which it stands for the edge if the row turns there, else for nothing
 module _ (ps : List ℕ) (w : ℕ) (made : List ℕ) (edge : ℕ → Edge) (kind : Kind) (of_kind : (n : ℕ) → (edge n).kind ≡ kind) (first step : ℕ)
@@ -14,14 +14,13 @@ module _ (ps : List ℕ) (w : ℕ) (made : List ℕ) (edge : ℕ → Edge) (kind
   told_one true v fit cs es t =
       let e = edge v.installer in
       let k = cell_at ps w e.from e.to in
-      let cells : set cs k (bit_or (get_or cs k 0) (bit e.kind)) ≡ or_at cs (first + v.place * step) (bit kind) =
-      or_set cs k (bit e.kind) ∙ (ap (λ i. or_at cs i (bit e.kind)) (at v.installer v.place fit) ∙ ap (λ i. or_at cs (first + v.place * step) (bit i)) (of_kind v.installer)) in
+      let cells : or_at cs k (bit e.kind) ≡ or_at cs (first + v.place * step) (bit kind) =
+      ap (λ i. or_at cs i (bit e.kind)) (at v.installer v.place fit) ∙ ap (λ i. or_at cs (first + v.place * step) (bit i)) (of_kind v.installer) in
       subst (λ xs. Tells ps w xs made (es ++ apart e)) cells (told_apart ps w cs made es t e)
   told_one false v fit cs es t =
       let k = first + 0 * step in
       let b = bit_or (get_or cs k 0) (bit kind) in
-      subst (λ xs. Tells ps w xs made (es ++ [])) (or_set cs k (bit kind))
-      (subst (Tells ps w (set cs k b) made) (sym (append-nil es)) (told_off ps w cs made es t k b (λ from to _ a c. off t.below from to a c)))
+      subst (Tells ps w (set cs k b) made) (sym (append-nil es)) (told_off ps w cs made es t k b (λ from to _ a c. off t.below from to a c))
 
 module _ (ps : List ℕ) (w : ℕ) (made : List ℕ) (s : Statement) (r : Reading) where
   abbrev reader : ℕ

@@ -1,35 +1,13 @@
 -- The rows at which one transaction depends on another are found at what one of them wrote.
-use Rattle.std.proofs.{Common.{◌≡◌, ℕ, suc, ◌-◌, ◌≤◌, ◌||◌, Bool, true, false, Option, Some, None, List, refl, sym, ap, ◌∙◌, subst, arith}, lemmas.Bool.{false≢true, eqb-true, eq-eqb, ltb-true, lt-ltb, and_parts, and_from}}
+use Rattle.std.proofs.{Common.{◌≡◌, ℕ, suc, Bool, true, false, Option, Some, None, List, refl, sym, ap, ◌∙◌, subst, arith}, lemmas.Bool.{false≢true, false_from_ne_true, true_from_ne_false, eqb-true, eq-eqb, ltb-true, lt-ltb, le-leb, and_parts, and_from, or_left, or_right}}
 use Rattle.std.specs.{Prelude.{Contains, is_some, nat_lt, nat_le}, List.Sorted.{IsStrictlySortedBy}}
 use Rattle.std.specs.FinMap as map
-use Rattle.lab_table.{specs.{Row.{Row, row_cmp}, Statement.{matches, may_match}, declared.statement.Statement.{Statement}}, proofs.OneRow.{no_match}}
+use Rattle.lab_table.{specs.{Row.{Row, row_cmp}, Statement.{matches, may_match}, declared.statement.Statement.{Statement}}, proofs.{OneRow.{no_match}, Tests.{some_of}}}
 use Rattle.lab_history.specs.{History.{History}, Version.{IsCommitted, IsOp, installers, place_in, new_state, state_at, viewed}, declared.operation.Op.{Op}}
-use Rattle.lab_deps.specs.Collected.{committed_ops}
-use Rattle.lab_deps.specs.Edges.{differ, changes, place_of, InstallsAt, Depends}
-use Rattle.lab_deps.specs.EdgesByRow.{looks_at}
-use Rattle.lab_deps.specs.LeastRow.{first_row, least_at, IsLeastRow}
-use Rattle.lab_deps.specs.Meetings.{is_next, installs_next, turns, is_tied, tied_in, looks_for, meets, Meets, HasWritten}
-use Rattle.lab_deps.specs.{FirstOf.{first_entry}, RowTests.{state_after}}
-use Rattle.lab_deps.specs.Soundness.{Stands}
+use Rattle.lab_deps.specs.{Collected.{committed_ops}, Edges.{differ, changes, place_of, InstallsAt, Depends}, EdgesByRow.{looks_at}, Meetings.{is_next, installs_next, turns, is_tied, tied_in, looks_for, meets, Meets, Meeting, HasWritten}, Soundness.{Stands}}
+use Rattle.lab_deps.specs.{FirstOf.{IsLess, IsLeastRow, HasPassing, first_entry, first_row, least_of}, RowTests.{state_after}}
 use Rattle.lab_deps.specs.declared.{edge.Kind.{Kind, TheVariants.{Write, ItemRead, PredicateRead, ItemAnti, PredicateAnti}}, fault.LocalFault.TheVariants.{InstallOrder}}
-use Rattle.lab_deps.proofs.{EndStates.{same_after}, InstalledOnce.{found_place, row_written, writing_op}, LeastRows.{least_like, entry_least, row_least, least_of_ops}, Places.{place_there}, Readers.{committed_has, has_committed}}
-
-less_one : (q : ℕ) → suc q - 1 ≡ q
-less_one q = omega arith
-
-le_true : (a b : ℕ) → nat_le a b ≡ true → a ≤ b
-le_true a b e = search (arith, e)
-
-le_is : (a b : ℕ) → a ≤ b → nat_le a b ≡ true
-le_is a b l = search (arith, l)
-
-either_first : (a b : Bool) → a ≡ true → (a || b) ≡ true
-either_first true b is = refl
-either_first false b is = absurd (false≢true is)
-
-either_second : (a b : Bool) → b ≡ true → (a || b) ≡ true
-either_second true b is = refl
-either_second false b is = is
+use Rattle.lab_deps.proofs.{BrokenStands.{decides_le}, EndStates.{same_after}, FirstOf.{first_like, least_of_all, row_least, value_least}, InstalledOnce.{found_place, row_written, writing_op}, Places.{less_one, place_there}, Readers.{committed_has, has_committed}}
 
 module _ (h : History) where
   turns_change : (s : Statement) (row : Row) (q : ℕ) → turns h s row (suc q) ≡ changes h s row q
@@ -40,29 +18,24 @@ module _ (h : History) where
   -- what changes the matches of a row may match it
   change_may : (s : Statement) (row : Row) (q : ℕ) → changes h s row q ≡ true → may_match s row ≡ true
   change_may s row q change =
-      elim (may_match s row) as (λ b. may_match s row ≡ b → b ≡ true) [
-        | true ↦ λ _. refl
-        | false ↦ λ off. absurd (false≢true (sym (λ i. differ (no_match s row off (state_at h row q) i) (no_match s row off (state_at h row (suc q)) i)) ∙ change))
-      ] refl
+      true_from_ne_false _ (λ off. false≢true (sym (λ i. differ (no_match s row off (state_at h row q) i) (no_match s row off (state_at h row (suc q)) i)) ∙ change))
 
   -- an operation looks at a row at which it is tied
   for_looks : (kind : Kind) (op : Op) (row : Row) → looks_for kind op row ≡ true → looks_at op row ≡ true
   for_looks Write op row looks = absurd (false≢true looks)
-  for_looks ItemRead op row looks = either_second (may_match op.statement row) (is_some (map.get op.rows row)) looks
-  for_looks PredicateRead op row looks = either_first (may_match op.statement row) (is_some (map.get op.rows row)) looks
-  for_looks ItemAnti op row looks = either_second (may_match op.statement row) (is_some (map.get op.rows row)) looks
-  for_looks PredicateAnti op row looks = either_first (may_match op.statement row) (is_some (map.get op.rows row)) looks
+  for_looks ItemRead op row looks = or_right (may_match op.statement row) (is_some (map.get op.rows row)) looks
+  for_looks PredicateRead op row looks = or_left (may_match op.statement row) (is_some (map.get op.rows row)) looks
+  for_looks ItemAnti op row looks = or_right (may_match op.statement row) (is_some (map.get op.rows row)) looks
+  for_looks PredicateAnti op row looks = or_left (may_match op.statement row) (is_some (map.get op.rows row)) looks
 
   -- so it isn't tied outside its bounds
   pub outside_fails : (kind : Kind) (n reader : ℕ) (op : Op) (test : Row → Bool) → ((row : Row) → looks_at op row ≡ true → test row ≡ true) → (row : Row) → test row ≡ false
       → meets h kind n reader op row ≡ false
   outside_fails kind n reader op test within row outside =
-      elim (meets h kind n reader op row) as (λ b. meets h kind n reader op row ≡ b → b ≡ false) [
-        | true ↦ λ met.
-            let looks = (and_parts (looks_for kind op row) (tied_in h op.statement row kind (place_of h reader row (viewed op row)) (place_in (installers h row) n)) met).0 in
-            absurd (false≢true (sym outside ∙ within row (for_looks kind op row looks)))
-        | false ↦ λ _. refl
-      ] refl
+      false_from_ne_true _
+      (λ met.
+      let looks = (and_parts (looks_for kind op row) (tied_in h op.statement row kind (place_of h reader row (viewed op row)) (place_in (installers h row) n)) met).0 in
+      false≢true (sym outside ∙ within row (for_looks kind op row looks)))
 
   -- where an operation of a reader is tied to an installer
   record Tie (kind : Kind) (n reader : ℕ) (row : Row) : Type 0 where
@@ -100,29 +73,24 @@ module _ (h : History) where
             tied = subst (λ k. is_tied h op.statement row kind v k ≡ true) w.1 tied;
           }
 
-  module _ (n reader : ℕ) (row : Row) where
-    pub item_read_is : Meets h ItemRead n reader row → Depends h ItemRead row n reader
-    item_read_is met =
-        let t = tie_of ItemRead n reader row met in
-        (t.op, t.place, ((t.number, t.is_op), t.sees ∙ ap Some (eqb-true t.seen (suc t.place) t.tied)), t.looks, t.installs)
-
-    pub item_anti_is : Meets h ItemAnti n reader row → Depends h ItemAnti row reader n
-    item_anti_is met =
-        let t = tie_of ItemAnti n reader row met in
-        let next : suc t.place ≡ suc t.seen = eqb-true (suc t.place) (suc t.seen) t.tied in
-        (t.op, t.seen, ((t.number, t.is_op), t.sees), t.looks, subst (λ q. InstallsAt h row q n) (omega (arith, next)) t.installs)
-
-    pub predicate_read_is : Meets h PredicateRead n reader row → Depends h PredicateRead row n reader
-    predicate_read_is met =
-        let t = tie_of PredicateRead n reader row met in
-        let parts = and_parts (nat_le (suc t.place) t.seen) (turns h t.op.statement row (suc t.place)) t.tied in
-        (t.op, t.seen, t.place, ((t.number, t.is_op), t.sees), omega (arith, le_true (suc t.place) t.seen parts.0), t.installs, sym (turns_change t.op.statement row t.place) ∙ parts.1)
-
-    pub predicate_anti_is : Meets h PredicateAnti n reader row → Depends h PredicateAnti row reader n
-    predicate_anti_is met =
-        let t = tie_of PredicateAnti n reader row met in
-        let parts = and_parts (nat_lt t.seen (suc t.place)) (turns h t.op.statement row (suc t.place)) t.tied in
-        (t.op, t.seen, t.place, ((t.number, t.is_op), t.sees), omega (arith, ltb-true t.seen (suc t.place) parts.0), t.installs, sym (turns_change t.op.statement row t.place) ∙ parts.1)
+  -- so the two depend on each other there
+  met_is : (n reader : ℕ) (row : Row) (kind : Kind) → Meets h kind n reader row → Meeting h kind n reader row
+  met_is n reader row Write (op, there, met) = absurd (false≢true met)
+  met_is n reader row ItemRead met =
+      let t = tie_of ItemRead n reader row met in
+      (t.op, t.place, ((t.number, t.is_op), t.sees ∙ ap Some (eqb-true t.seen (suc t.place) t.tied)), t.looks, t.installs)
+  met_is n reader row PredicateRead met =
+      let t = tie_of PredicateRead n reader row met in
+      let parts = and_parts (nat_le (suc t.place) t.seen) (turns h t.op.statement row (suc t.place)) t.tied in
+      (t.op, t.seen, t.place, ((t.number, t.is_op), t.sees), omega (arith, (decides_le (suc t.place) t.seen).0 parts.0), t.installs, sym (turns_change t.op.statement row t.place) ∙ parts.1)
+  met_is n reader row ItemAnti met =
+      let t = tie_of ItemAnti n reader row met in
+      let next : suc t.place ≡ suc t.seen = eqb-true (suc t.place) (suc t.seen) t.tied in
+      (t.op, t.seen, ((t.number, t.is_op), t.sees), t.looks, subst (λ q. InstallsAt h row q n) (omega (arith, next)) t.installs)
+  met_is n reader row PredicateAnti met =
+      let t = tie_of PredicateAnti n reader row met in
+      let parts = and_parts (nat_lt t.seen (suc t.place)) (turns h t.op.statement row (suc t.place)) t.tied in
+      (t.op, t.seen, t.place, ((t.number, t.is_op), t.sees), omega (arith, ltb-true t.seen (suc t.place) parts.0), t.installs, sym (turns_change t.op.statement row t.place) ∙ parts.1)
 
   -- two installers that follow each other
   pub step_is : (n m : ℕ) (row : Row) → installs_next h n m row ≡ true → Depends h Write row n m
@@ -148,45 +116,41 @@ module _ (h : History) (placed : (row : Row) → Stands h (InstallOrder row) →
           (ap (λ o. tied_in h op.statement row kind o (place_in (installers h row) n)) sees ∙ (ap (tied_in h op.statement row kind (Some v)) (found_place h placed row p n installs) ∙ tied)),
     )
 
-    pub is_item_read : Depends h ItemRead row n reader → Meets h ItemRead n reader row
-    is_item_read (op, p, ((k, is_op), sees), listed, installs) = met ItemRead op k (suc p) p is_op listed sees installs (eq-eqb (suc p) (suc p) refl)
-
-    pub is_item_anti : Depends h ItemAnti row reader n → Meets h ItemAnti n reader row
-    is_item_anti (op, v, ((k, is_op), sees), listed, installs) = met ItemAnti op k v v is_op listed sees installs (eq-eqb (suc v) (suc v) refl)
-
-    pub is_predicate_read : Depends h PredicateRead row n reader → Meets h PredicateRead n reader row
-    is_predicate_read (op, v, p, ((k, is_op), sees), below, installs, change) =
+    is_met : (kind : Kind) → Meeting h kind n reader row → Meets h kind n reader row
+    is_met Write none = absurd none
+    is_met ItemRead (op, p, ((k, is_op), sees), listed, installs) = met ItemRead op k (suc p) p is_op listed sees installs (eq-eqb (suc p) (suc p) refl)
+    is_met PredicateRead (op, v, p, ((k, is_op), sees), below, installs, change) =
         met PredicateRead op k v p is_op (change_may h op.statement row p change) sees installs
-        (and_from (nat_le (suc p) v) (turns h op.statement row (suc p)) (le_is (suc p) v (omega (arith, below))) (turns_change h op.statement row p ∙ change))
-
-    pub is_predicate_anti : Depends h PredicateAnti row reader n → Meets h PredicateAnti n reader row
-    is_predicate_anti (op, v, p, ((k, is_op), sees), above, installs, change) =
+        (and_from (nat_le (suc p) v) (turns h op.statement row (suc p)) (le-leb (suc p) v (omega (arith, below))) (turns_change h op.statement row p ∙ change))
+    is_met ItemAnti (op, v, ((k, is_op), sees), listed, installs) = met ItemAnti op k v v is_op listed sees installs (eq-eqb (suc v) (suc v) refl)
+    is_met PredicateAnti (op, v, p, ((k, is_op), sees), above, installs, change) =
         met PredicateAnti op k v p is_op (change_may h op.statement row p change) sees installs
         (and_from (nat_lt v (suc p)) (turns h op.statement row (suc p)) (lt-ltb v (suc p) (omega (arith, above))) (turns_change h op.statement row p ∙ change))
 
   -- an operation of the first of two transactions wrote the row of a write-dependency
   abbrev Steps : ℕ → ℕ → Row → Type 0
-  Steps n m row = (op : Op) × Contains (committed_ops h n) op × ((is_some (new_state op row) ≡ true) × (installs_next h n m row ≡ true))
+  Steps n m row = (op : Op) × Contains (committed_ops h n) op × HasPassing (λ row state. installs_next h n m row) op.writes row
 
   is_step : (n m : ℕ) (row : Row) → Depends h Write row n m → Steps n m row
   is_step n m row (p, from, to) =
       let w = writing_op h placed row p n from in
+      let state = some_of (new_state w.0 row) w.2 in
       let next =
       ap (λ o. is_next o (place_in (installers h row) m)) (found_place h placed row p n from)
       ∙ (ap (is_next (Some (suc p))) (found_place h placed row (suc p) m to) ∙ eq-eqb (suc (suc p)) (suc (suc p)) refl) in
-      (w.0, w.1, (w.2, next))
+      (w.0, w.1, (state.0, state.1, next))
 
-  pub step_least : (n m : ℕ) → IsLeastRow (λ row. Depends h Write row n m) (least_at (λ op. first_entry (installs_next h n m) (map.entries op.writes)) None (committed_ops h n))
+  pub step_least : (n m : ℕ) → IsLeastRow (λ row. Depends h Write row n m) (least_of (λ op. first_entry (installs_next h n m) (map.entries op.writes)) None (committed_ops h n))
   step_least n m =
-      least_like (Steps n m) (λ row. Depends h Write row n m) (least_at (λ op. first_entry (installs_next h n m) (map.entries op.writes)) None (committed_ops h n))
-      (λ row steps. step_is h n m row steps.2.1) (is_step n m)
+      first_like IsLess (Steps n m) (λ row. Depends h Write row n m) (least_of (λ op. first_entry (installs_next h n m) (map.entries op.writes)) None (committed_ops h n))
+      (λ row steps. step_is h n m row steps.2.2) (λ row d denied. denied (is_step n m row d))
       (
-      least_of_ops (λ op. first_entry (installs_next h n m) (map.entries op.writes)) (λ op row. (is_some (new_state op row) ≡ true) × (installs_next h n m row ≡ true))
-      (λ op. entry_least (installs_next h n m) op.writes) (committed_ops h n)
+      least_of_all (λ (op : Op). first_entry (installs_next h n m) (map.entries op.writes)) (λ op. HasPassing (λ row state. installs_next h n m row) op.writes)
+      (λ op. value_least (λ row state. installs_next h n m row) op.writes) (committed_ops h n)
       )
 
   -- where an operation is tied to an installer, that wrote the row
-  module _ (kind : Kind) (n reader : ℕ) (rows : List Row) (has : HasWritten h n rows) (rises : IsStrictlySortedBy row_cmp rows) where
+  module _ (kind : Kind) (n reader : ℕ) (committed : IsCommitted h reader) (rows : List Row) (has : HasWritten h n rows) (rises : IsStrictlySortedBy row_cmp rows) where
     abbrev MeetsAmong : Row → Type 0
     MeetsAmong row = (op : Op) × Contains (committed_ops h reader) op × (Contains rows row × (meets h kind n reader op row ≡ true))
 
@@ -195,10 +159,11 @@ module _ (h : History) (placed : (row : Row) → Stands h (InstallOrder row) →
         let t = tie_of h kind n reader row m in
         (m.0, m.1, (row_written h placed row t.place n t.installs rows has, m.2))
 
-    pub meeting_least : IsLeastRow (Meets h kind n reader) (least_at (λ op. first_row (meets h kind n reader op) rows) None (committed_ops h reader))
+    pub meeting_least : IsLeastRow (Meeting h kind n reader) (least_of (λ op. first_row (meets h kind n reader op) rows) None (committed_ops h reader))
     meeting_least =
-        least_like MeetsAmong (Meets h kind n reader) (least_at (λ op. first_row (meets h kind n reader op) rows) None (committed_ops h reader)) (λ row m. (m.0, m.1, m.2.1)) among
+        first_like IsLess MeetsAmong (Meeting h kind n reader) (least_of (λ op. first_row (meets h kind n reader op) rows) None (committed_ops h reader))
+        (λ row m. met_is h n reader row kind (m.0, m.1, m.2.1)) (λ row m denied. denied (among row (is_met n reader row committed kind m)))
         (
-        least_of_ops (λ op. first_row (meets h kind n reader op) rows) (λ op row. Contains rows row × (meets h kind n reader op row ≡ true))
+        least_of_all (λ op. first_row (meets h kind n reader op) rows) (λ op row. Contains rows row × (meets h kind n reader op row ≡ true))
         (λ op. row_least (meets h kind n reader op) rows rises) (committed_ops h reader)
         )

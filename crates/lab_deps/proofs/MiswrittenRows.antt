@@ -1,5 +1,5 @@
 -- At which rows what an operation writes isn't what is due: of a statement that only lists, an insert, and one that changes what it lists.
-use Rattle.std.proofs.{Common.{◌≡◌, ◌⊎◌, ℤ, Bool, true, false, not, Option, Some, None, inl, inr, refl, sym, ap, ◌∙◌, subst}, lemmas.Bool.{false≢true}}
+use Rattle.std.proofs.{Common.{◌≡◌, ◌⊎◌, ℤ, Bool, true, false, not, Option, Some, None, inl, inr, refl, sym, ap, ◌∙◌, subst}, lemmas.Bool.{not-true}}
 use Rattle.std.specs.{Prelude.{is_none, is_some}, Bool.{then_some}, FinMap.{get, entries}}
 use Rattle.lab_table.{specs.{Row.{Row, row_eq, row_test, rows_tested}, Table.{State}, Statement.{is_read_only, inserted, rewritten}}, proofs.{Maps.{same_row, row_eq_self}, OneRow.{reader_inserts_none}, Tests.{some_of}}}
 use Rattle.lab_history.specs.{History.{History}, Version.{viewed, new_state, state_of}, declared.operation.Op.{Op}}
@@ -43,12 +43,8 @@ module _ (h : History) (op : Op) where
       is : (row : Row) (b : Bool) → row_eq row added.0 ≡ b → other row ≡ choose b (is_added_otherwise h op added.1 row) (is_some (new_state op row))
       is row b same = tested row (Some added) (is_read_only op.statement) e refl ∙ ap (λ b. choose b (is_added_otherwise h op added.1 row) (is_some (new_state op row))) same
 
-      not_same : (b : Bool) → not b ≡ true → b ≡ false
-      not_same true t = absurd (false≢true t)
-      not_same false t = refl
-
       found : (row : Row) → Elsewhere added.0 row ⊎ ((row ≡ added.0) × (is_added_otherwise h op added.1 added.0 ≡ true)) → other row ≡ true
-      found row (inl w) = is row false (sym (rows_tested row added.0) ∙ not_same (row_test row added.0) w.2) ∙ ap is_some w.1
+      found row (inl w) = is row false (sym (rows_tested row added.0) ∙ not-true (row_test row added.0) w.2) ∙ ap is_some w.1
       found row (inr w) = subst (λ r. other r ≡ true) (sym w.0) (is added.0 true (row_eq_self added.0) ∙ w.1)
 
       back : (row : Row) → other row ≡ true → (Elsewhere added.0 row ⊎ ((row ≡ added.0) × (is_added_otherwise h op added.1 added.0 ≡ true)) → ⊥) → (b : Bool) → row_eq row added.0 ≡ b → ⊥

@@ -1,8 +1,7 @@
 -- Rows of the initial table that are left out, and whose numbers a statement lists.
-use Rattle.std.proofs.Common.{◌≡◌, ◌≢◌, ℕ, ℤ, nat_abs, Bool, true, false, ◌||◌, Option, Some, None, List, [], ◌∷◌, ◌++◌, ◌⊎◌, inl, inr, refl, sym, ap, ◌∙◌, subst}
+use Rattle.std.proofs.{Common.{◌≡◌, ◌≢◌, ℕ, ℤ, nat_abs, Bool, true, false, ◌||◌, Option, Some, None, List, [], ◌∷◌, ◌++◌, ◌⊎◌, inl, inr, refl, sym, ap, ◌∙◌, subst}, Math.Bool.{or-false, or-true}}
 use Rattle.std.specs.{Prelude.{pos, option_map}, Bool.{then_some}, FinMap.{get}, Ordering.{int_eq}}
 use Rattle.std.proofs.lemmas.{Bool.{false≢true, or_cases, Decides.{Decides-int_eq}}, List.Folds.{list_any-append}, Option.{none-some, same_Some}}
-use Rattle.std.proofs.Math.Bool.{or-false}
 use Rattle.lab_table.{specs.{Row.{Row, id_of, numbered, row_made}, NamedRow.{has_number}, Statement.{may_match}}, proofs.Tests.{mapped_some}}
 use Rattle.lab_history.specs.{History.{History}, declared.operation.Op.{Op}}
 use Rattle.lab_deps.{specs.{Broken.{is_unlisted, IsUnlisted}, FirstOf.{IsLess, IsLeastRow, least}}, proofs.{FirstOf.{first_like, least_where, not_itself}, RuledOut.{may_be_unlisted}, OwnTable.{own_table}}}
@@ -61,16 +60,12 @@ module _ (h : History) (op : Op) where
   one_more numbers number found other l m =
       least_where (Within numbers) (With number) (Within (numbers ++ number ∷ [])) found other to (λ row w denied. back row w denied (or_cases _ _ (sym (split row) ∙ w.1))) l m
     where
-      or_true : (b : Bool) → (b || true) ≡ true
-      or_true true = refl
-      or_true false = refl
-
       split : (row : Row) → has_number (numbers ++ number ∷ []) row ≡ (has_number numbers row || has_number (number ∷ []) row)
       split row = list_any-append (int_eq (id_of row)) numbers (number ∷ [])
 
       to : (row : Row) → Within numbers row ⊎ With number row → Within (numbers ++ number ∷ []) row
       to row (inl w) = (w.0, split row ∙ ap (λ b. b || has_number (number ∷ []) row) w.1)
-      to row (inr w) = (w.0, split row ∙ ap (λ b. has_number numbers row || b) (or-false (int_eq (id_of row) number) ∙ w.1) ∙ or_true (has_number numbers row))
+      to row (inr w) = (w.0, split row ∙ ap (λ b. has_number numbers row || b) (or-false (int_eq (id_of row) number) ∙ w.1) ∙ or-true (has_number numbers row))
 
       back : (row : Row) → Within (numbers ++ number ∷ []) row → (Within numbers row ⊎ With number row → ⊥) → (has_number numbers row ≡ true) ⊎ (has_number (number ∷ []) row ≡ true) → ⊥
       back row w denied (inl among) = denied (inl (w.0, among))

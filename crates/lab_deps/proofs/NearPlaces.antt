@@ -1,5 +1,5 @@
 -- A place at which a row stands in a sorted list, seen by the entries before and at it.
-use Rattle.std.{proofs.{Common.{◌≡◌, ℕ, ◌-◌, ◌≤◌, ◌<◌, true, false, T, List, length, refl, sym, ◌∙◌, arith}, lemmas.Bool.{false≢true}}, specs.{Prelude.{slice_index_or}, List.{prefix_len}, FinMap.{is_sorted}}}
+use Rattle.std.{proofs.{Common.{◌≡◌, ℕ, ◌-◌, ◌≤◌, ◌<◌, true, false, T, List, length, sym, ◌∙◌, arith}, lemmas.Bool.{false≢true, false_from_ne_true}}, specs.{Prelude.{slice_index_or}, List.{prefix_len}, FinMap.{is_sorted}}}
 use Rattle.lab_table.{specs.{Row.{Row, row_cmp}, Running.{comes_after}}, proofs.Searching.{parted, point_is}}
 
 module _ {V : Type 0} (row : Row) (es : List (Row × V)) (sorted : T (is_sorted row_cmp es)) (i : ℕ) (within : i ≤ length es) where
@@ -13,7 +13,4 @@ module _ {V : Type 0} (row : Row) (es : List (Row × V)) (sorted : T (is_sorted 
 
       from : (k : ℕ) (d : Row × V) → i ≤ k → k < length es → comes_after row (slice_index_or es k d) ≡ false
       from k d le l =
-          elim (comes_after row (slice_index_or es k d)) as (λ b. comes_after row (slice_index_or es k d) ≡ b → b ≡ false) [
-            | true ↦ λ after. absurd (false≢true (sym (rest d (omega (arith, le, l))) ∙ parted row es sorted i k d le l after))
-            | false ↦ λ _. refl
-          ] refl
+          false_from_ne_true _ (λ after. false≢true (sym (rest d (omega (arith, le, l))) ∙ parted row es sorted i k d le l after))

@@ -8,8 +8,7 @@ use Rattle.lab_deps.specs.declared.{check.TheConstants.{KINDS}, fault.{FaultPart
 use Rattle.lab_deps.specs.declared.fault.FaultParts.TheVariants as parts
 use Rattle.lab_deps.specs.declared.kind.OpFault.TheVariants as kind
 use Rattle.lab_deps.specs.declared.kind.RowFault.TheVariants as row_kind
-use Rattle.lab_deps.proofs.BrokenStands.{decides_dangling, decides_aborted_read, decides_intermediate, decides_rows, lists_due, decides_writes}
-use Rattle.lab_deps.proofs.FaultOrders.{made_again, op_place, row_place, op_told, row_told, at_place, same_kind, same_row_kind, kinds_apart, reads_last}
+use Rattle.lab_deps.proofs.{BrokenStands.{decides_le, decides_dangling, decides_aborted_read, decides_intermediate, decides_rows, lists_due, decides_writes}, FaultOrders.{made_again, op_place, row_place, op_told, row_told, at_place, same_kind, same_row_kind, kinds_apart, reads_last}}
 use Rattle.lab_deps.proofs.{LaterReads.{later_stands, later_found}, MissedWrites.{first_misses, tested_all}, Searches.{get_take, taken_get}}
 
 -- a kind stands at its place among the kinds, and at no other
@@ -50,9 +49,6 @@ reads_at f = reads_last (as_fault f) ∙ ap (nat_le 7) (op_told f.kind f.txn f.o
 row_low : (kind : RowFault) → row_place kind ≤ 6
 row_low row_kind.InstallOrder = omega arith
 row_low row_kind.EndDiffers = omega arith
-
-seven_up : (p : ℕ) → nat_le 7 p ≡ true → 7 ≤ p
-seven_up p t = grind arith
 
 below_seven : (p : ℕ) → nat_le 7 p ≡ false → p < 7
 below_seven p t = grind arith
@@ -189,18 +185,15 @@ module _ (h : History) (l : ℕ) (placed : 1 < l → (row : Row) → InstallsOth
           least r (subst (λ x. Stands h (row_fault x r)) (same_row_kind other kind (same ∙ told.0)) other_stands) (lesser_row h r row (subst (ComesBefore h (0, 0, r)) told.1 before))
 
 module _ (h : History) where
+  none_behind : 1 < 1 → (row : Row) → InstallsOther h row → ⊥
+  none_behind l = absurd (omega (arith, l))
+
   -- where a row isn't installed by its writers that is the first fault, unless a version is dangling
   pub dangling_first : (found : Option Found) (row : Row) → IsFirstOf (ComesFirst h) (IsSought h (take 1 KINDS)) found → IsLeastRow (InstallsOther h) (Some row)
       → IsFirstOf (Precedes h) (Stands h) (option_or (option_map as_fault found) (Some (InstallOrder row)))
   dangling_first None row none least =
       row_first h 1 none_behind row_kind.InstallOrder row (omega arith) least.0 least.1 (λ other n k r low t. none (found_at other n k r) (sought h 1 none_behind other n k r low t))
-    where
-      none_behind : 1 < 1 → (r : Row) → InstallsOther h r → ⊥
-      none_behind l = absurd (omega (arith, l))
   dangling_first (Some f) row first least = found_first h 1 none_behind f first (λ high. let low = (place h 1 none_behind f first).1 in absurd (omega (arith, high, low)))
-    where
-      none_behind : 1 < 1 → (r : Row) → InstallsOther h r → ⊥
-      none_behind l = absurd (omega (arith, l))
 
   module _ (placed : (row : Row) → InstallsOther h row → ⊥) where
     abbrev All : 1 < 9 → (row : Row) → InstallsOther h row → ⊥
@@ -227,4 +220,4 @@ module _ (h : History) where
       where
         none_low : (found : Option Found) → IsFirstOf (ComesFirst h) (IsSought h KINDS) found → is_behind_ends found ≡ true → (kind : OpFault) (n k : ℕ) (r : Row) → op_place kind < 6 → IsTestedAt h kind n k r → ⊥
         none_low None none high kind n k r low t = none (found_at kind n k r) (at_place kind, t)
-        none_low (Some f) first high kind n k r low t = let up = seven_up (op_place f.kind) (sym (reads_at f) ∙ high) in none_less h 9 All f first kind n k r (omega (arith, low, up)) t
+        none_low (Some f) first high kind n k r low t = let up = (decides_le 7 (op_place f.kind)).0 (sym (reads_at f) ∙ high) in none_less h 9 All f first kind n k r (omega (arith, low, up)) t

@@ -1,37 +1,24 @@
 -- What is found along a row's versions is what is found by the listing of the row, and without it.
-use Rattle.std.proofs.{Common.{◌≡◌, ◌⊎◌, ℕ, zero, suc, ◌+◌, ◌-◌, ◌==◌, Bool, true, false, cond, Option, Some, None, List, [], ◌∷◌, ◌++◌, refl, sym, subst, arith, inl, inr}, lemmas.{Bool.{eqb-true}, List.Elements.{Contains-append_left, Contains-append_right, Contains-append_cases}, Option.{none-some, same_Some}}}
+use Rattle.std.proofs.{Common.{◌≡◌, ◌⊎◌, ℕ, zero, suc, ◌+◌, ◌-◌, Bool, Option, Some, None, List, [], ◌∷◌, ◌++◌, refl, sym, subst, arith, inl, inr}, lemmas.{List.Elements.{Contains-append_left, Contains-append_right, Contains-append_cases}, Option.{none-some, same_Some}}}
 use Rattle.std.specs.Prelude.{Contains, slice_get}
 use Rattle.lab_table.{specs.{Statement.{matches}, declared.statement.Statement.{Statement}}, proofs.Members.{no_member}}
-use Rattle.lab_deps.specs.{Edges.{differ}, Collected.{apart_in, read_by, passed_by, item_edge}, EdgesByRow.{Chain, HasMembersOf, edges_by, walk, walked, unlisted}, Turns.{item_in, items_of}}
-use Rattle.lab_deps.specs.declared.{edge.{Edge.{Edge}, Kind.TheVariants.{ItemRead, ItemAnti}}, reading.Reading.{Reading}, versions.Version.{Version}}
+use Rattle.lab_deps.specs.{Edges.{differ}, Collected.{apart_in, item_edge}, EdgesByRow.{Chain, HasMembersOf, edges_by, walk, walked, unlisted}, Turns.{item_in, items_of}}
+use Rattle.lab_deps.specs.declared.{edge.{Edge.{Edge}}, reading.Reading.{Reading}, versions.Version.{Version}}
+use Rattle.lab_deps.proofs.{Neighbours.{in_apart_in}, Readings.{item_cases}, SameMembers.{both_members, joined_members, members_through, same_members}}
 
--- two parts and the rest, of which each has two parts too
-module _ (a b w i c : List Edge) where
-  into_parts : ((e : Edge) → Contains w e → Contains (i ++ c) e) → (e : Edge) → Contains ((a ++ b) ++ w) e → Contains ((a ++ i) ++ (b ++ c)) e
-  into_parts rest e has =
-      elim (Contains-append_cases (a ++ b) w e has) [
-        | inl now ↦ elim (Contains-append_cases a b e now) [
-          | inl one ↦ Contains-append_left (a ++ i) (b ++ c) e (Contains-append_left a i e one)
-          | inr two ↦ Contains-append_right (a ++ i) (b ++ c) e (Contains-append_left b c e two)
-        ]
-        | inr later ↦ elim (Contains-append_cases i c e (rest e later)) [
-          | inl one ↦ Contains-append_left (a ++ i) (b ++ c) e (Contains-append_right a i e one)
-          | inr two ↦ Contains-append_right (a ++ i) (b ++ c) e (Contains-append_right b c e two)
-        ]
+-- two parts of each of two lists change places
+exchanged : (a i b c : List Edge) (e : Edge) → Contains ((a ++ i) ++ (b ++ c)) e → Contains ((a ++ b) ++ (i ++ c)) e
+exchanged a i b c e has =
+    elim (Contains-append_cases (a ++ i) (b ++ c) e has) [
+      | inl ones ↦ elim (Contains-append_cases a i e ones) [
+        | inl first ↦ Contains-append_left (a ++ b) (i ++ c) e (Contains-append_left a b e first)
+        | inr second ↦ Contains-append_right (a ++ b) (i ++ c) e (Contains-append_left i c e second)
       ]
-
-  of_parts : ((e : Edge) → Contains (i ++ c) e → Contains w e) → (e : Edge) → Contains ((a ++ i) ++ (b ++ c)) e → Contains ((a ++ b) ++ w) e
-  of_parts rest e has =
-      elim (Contains-append_cases (a ++ i) (b ++ c) e has) [
-        | inl ones ↦ elim (Contains-append_cases a i e ones) [
-          | inl now ↦ Contains-append_left (a ++ b) w e (Contains-append_left a b e now)
-          | inr later ↦ Contains-append_right (a ++ b) w e (rest e (Contains-append_left i c e later))
-        ]
-        | inr twos ↦ elim (Contains-append_cases b c e twos) [
-          | inl now ↦ Contains-append_left (a ++ b) w e (Contains-append_right a b e now)
-          | inr later ↦ Contains-append_right (a ++ b) w e (rest e (Contains-append_right i c e later))
-        ]
+      | inr twos ↦ elim (Contains-append_cases b c e twos) [
+        | inl first ↦ Contains-append_left (a ++ b) (i ++ c) e (Contains-append_right a b e first)
+        | inr second ↦ Contains-append_right (a ++ b) (i ++ c) e (Contains-append_right i c e second)
       ]
+    ]
 
 module _ (r : Reading) where
   abbrev item : ℕ → ℕ → List Edge
@@ -40,18 +27,10 @@ module _ (r : Reading) where
   -- with what versions a reader has to do by listing the row
   item_places : (p n : ℕ) (e : Edge) → Contains (item p n) e → (p ≡ r.place - 1) ⊎ (p ≡ r.place)
   item_places p n e h =
-      elim (r.listed) as (λ b. r.listed ≡ b → Contains (apart_in (cond b (cond (r.place == suc p) (Some (read_by ItemRead r n)) (cond (r.place == p) (Some (passed_by ItemAnti r n)) None)) None)) e → (p ≡ r.place - 1) ⊎ (p ≡ r.place)) [
-        | true ↦ λ _.
-            elim (r.place == suc p) as (λ b. (r.place == suc p) ≡ b → Contains (apart_in (cond b (Some (read_by ItemRead r n)) (cond (r.place == p) (Some (passed_by ItemAnti r n)) None))) e → (p ≡ r.place - 1) ⊎ (p ≡ r.place)) [
-              | true ↦ λ at _. let is = eqb-true r.place (suc p) at in inl (omega (arith, is))
-              | false ↦ λ _.
-                  elim (r.place == p) as (λ b. (r.place == p) ≡ b → Contains (apart_in (cond b (Some (passed_by ItemAnti r n)) None)) e → (p ≡ r.place - 1) ⊎ (p ≡ r.place)) [
-                    | true ↦ λ at _. inr (sym (eqb-true r.place p at))
-                    | false ↦ λ _ none. absurd (no_member e none)
-                  ] refl
-            ] refl
-        | false ↦ λ _ none. absurd (no_member e none)
-      ] refl h
+      elim (item_cases r p n e (in_apart_in (item_edge r p n) e h).0) [
+        | inl (_, at, _) ↦ inl (omega (arith, at))
+        | inr (_, at, _) ↦ inr (sym at)
+      ]
 
   -- what is found by the listing of each version
   abbrev listed_along : ℕ → List Version → List Edge
@@ -102,29 +81,21 @@ module _ (r : Reading) where
         ]
 
   module _ (s : Statement) where
-    walk_parts : (b : Bool) (p : ℕ) (vs : List Version) (e : Edge) → Contains (walk s r b p vs) e → Contains (listed_along p vs ++ walk s (unlisted r) b p vs) e
-    walk_parts b p [] e has = absurd (no_member e has)
-    walk_parts b p (v ∷ vs) e has =
+    parts : (b : Bool) (p : ℕ) (vs : List Version) → HasMembersOf (listed_along p vs ++ walk s (unlisted r) b p vs) (walk s r b p vs)
+    parts b p [] = same_members []
+    parts b p (v ∷ vs) =
         let now : Bool = matches s r.row v.value in
-        into_parts (item p v.installer) (edges_by (unlisted r) p v.installer (differ b now)) (walk s r now (p + 1) vs) (listed_along (p + 1) vs) (walk s (unlisted r) now (p + 1) vs) (walk_parts now (p + 1) vs) e has
-
-    parts_walk : (b : Bool) (p : ℕ) (vs : List Version) (e : Edge) → Contains (listed_along p vs ++ walk s (unlisted r) b p vs) e → Contains (walk s r b p vs) e
-    parts_walk b p [] e has = absurd (no_member e has)
-    parts_walk b p (v ∷ vs) e has =
-        let now : Bool = matches s r.row v.value in
-        of_parts (item p v.installer) (edges_by (unlisted r) p v.installer (differ b now)) (walk s r now (p + 1) vs) (listed_along (p + 1) vs) (walk s (unlisted r) now (p + 1) vs) (parts_walk now (p + 1) vs) e has
+        let here : List Edge = item p v.installer in
+        let change : List Edge = edges_by (unlisted r) p v.installer (differ b now) in
+        let items : List Edge = listed_along (p + 1) vs in
+        let changes : List Edge = walk s (unlisted r) now (p + 1) vs in
+        members_through ((here ++ items) ++ (change ++ changes)) ((here ++ change) ++ (items ++ changes)) ((here ++ change) ++ walk s r now (p + 1) vs)
+        (λ e. (exchanged here items change changes e, exchanged here change items changes e))
+        (both_members (here ++ change) (here ++ change) (items ++ changes) (walk s r now (p + 1) vs) (same_members (here ++ change)) (parts now (p + 1) vs))
 
     pub walked_by_parts : (c : Chain) → HasMembersOf (items_of r c.items ++ walked s (unlisted r) c) (walked s r c)
-    walked_by_parts c e =
+    walked_by_parts c =
         let vs = c.items in
-        let start : Bool = matches s r.row c.before in
-        let changes : List Edge = walked s (unlisted r) c in (
-          λ has. parts_walk start 0 vs e (elim (Contains-append_cases (items_of r vs) changes e has) [
-            | inl item ↦ Contains-append_left (listed_along 0 vs) changes e (items_listed vs e item)
-            | inr change ↦ Contains-append_right (listed_along 0 vs) changes e change
-          ]),
-          λ has. elim (Contains-append_cases (listed_along 0 vs) changes e (walk_parts start 0 vs e has)) [
-            | inl item ↦ Contains-append_left (items_of r vs) changes e (listed_items vs e item)
-            | inr change ↦ Contains-append_right (items_of r vs) changes e change
-          ],
-        )
+        let changes : List Edge = walked s (unlisted r) c in
+        members_through (items_of r vs ++ changes) (listed_along 0 vs ++ changes) (walked s r c)
+        (joined_members (items_of r vs) (listed_along 0 vs) changes (λ e. (items_listed vs e, listed_items vs e))) (parts (matches s r.row c.before) 0 vs)

@@ -26,6 +26,11 @@ first_value test (e ∷ es) = cond (test e.0 e.1) (Some e.0) (first_value test e
 abbrev pub first_entry : {A : Type 0} → (Row → Bool) → List (Row × A) → Option Row
 first_entry test es = first_value (λ row _. test row) es
 
+-- the first of some rows that passes a test
+abbrev pub first_row : (Row → Bool) → List Row → Option Row
+first_row test [] = None
+first_row test (row ∷ rows) = cond (test row) (Some row) (first_row test rows)
+
 -- a row has a value in a map that passes a test
 abbrev pub HasPassing : {A : Type 0} → (Row → A → Bool) → map.FinMap row_cmp A → Row → Type 0
 HasPassing test m row = (value : _) × (map.get m row ≡ Some value) × (test row value ≡ true)

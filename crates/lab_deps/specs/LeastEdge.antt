@@ -1,24 +1,23 @@
 -- The least of some edges.
-use Rattle.std.specs.Prelude.{◌≡◌, ℕ, ◌==◌, ◌&&◌, Bool, true, false, cond, Option, Some, None, List, Contains}
+use Rattle.std.specs.Prelude.{◌≡◌, ℕ, ◌&&◌, Bool, true, cond, Option, Some, None, List, Contains}
 use Rattle.std.specs.Ordering.{is_lt}
 use Rattle.lab_deps.specs.EdgeOrder.{edge_cmp}
+use Rattle.lab_deps.specs.FirstOf.{IsFirstOf}
 use Rattle.lab_deps.specs.declared.edge.Edge.{Edge}
 use Rattle.lab_deps.specs.declared.edge.Kind.{Kind}
 use Rattle.lab_deps.specs.declared.edge.Kind.TheVariants.{Write, ItemRead, PredicateRead, ItemAnti, PredicateAnti}
 
--- whether an edge leads from one transaction to another, and is of one of some kinds
-abbrev pub fits : ℕ → ℕ → (Kind → Bool) → Edge → Bool
-fits from to kinds e = e.from == from && (e.to == to && kinds e.kind)
+-- one edge is less than another one
+abbrev pub IsLessEdge : Edge → Edge → Type 0
+IsLessEdge e f = is_lt (edge_cmp e f) ≡ true
 
--- whether an edge is less than one that there may be
-abbrev pub comes_first : Edge → Option Edge → Bool
-comes_first e None = true
-comes_first e (Some least) = is_lt (edge_cmp e least)
+-- an edge of a list leads from one transaction to another, and is of one of some kinds
+abbrev pub Fits : List Edge → ℕ → ℕ → (Kind → Bool) → Edge → Type 0
+Fits es from to kinds e = Contains es e × (e.from ≡ from) × (e.to ≡ to) × (kinds e.kind ≡ true)
 
--- the least of the edges of a list that pass a test; none where none does
-pub record IsLeast (test : Edge → Bool) (es : List Edge) (found : Option Edge) : Type 0 where
-  pub there : (e : Edge) → found ≡ Some e → Contains es e × (test e ≡ true)
-  pub least : (e : Edge) → Contains es e → test e ≡ true → comes_first e found ≡ false
+-- what is found is the least such edge
+abbrev pub IsLeastFitting : List Edge → ℕ → ℕ → (Kind → Bool) → Option Edge → Type 0
+IsLeastFitting es from to kinds found = IsFirstOf IsLessEdge (Fits es from to kinds) found
 
 -- whether two sets of kinds have a kind
 abbrev pub both_have : (Kind → Bool) → (Kind → Bool) → Kind → Bool

@@ -1,11 +1,9 @@
 -- Marks in cells.
-use Rattle.std.specs.Prelude.{◌≡◌, ◌<◌, ◌+◌, ◌*◌, ℕ, zero, suc, List, [], ◌∷◌, length, take, drop, bit_or}
+use Rattle.std.specs.Prelude.{◌≡◌, ◌<◌, ◌+◌, ◌*◌, ℕ, List, [], ◌∷◌, length, get_or, set, take, drop, bit_or}
 
 -- cells, of which the one at a place, if there is one, gains bits
 abbrev pub or_at : List ℕ → ℕ → ℕ → List ℕ
-or_at [] at bits = []
-or_at (c ∷ cs) zero bits = bit_or c bits ∷ cs
-or_at (c ∷ cs) (suc at) bits = c ∷ or_at cs at bits
+or_at cs at bits = set cs at (bit_or (get_or cs at 0) bits)
 
 -- those gain bits that stand so many steps behind a first one as some numbers say
 abbrev pub marked : ℕ → ℕ → ℕ → List ℕ → List ℕ → List ℕ

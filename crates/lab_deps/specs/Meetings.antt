@@ -8,7 +8,7 @@ use Rattle.lab_history.specs.History.{History}
 use Rattle.lab_history.specs.Version.{installers, place_in, new_state, viewed}
 use Rattle.lab_history.specs.declared.operation.Op.{Op}
 use Rattle.lab_deps.specs.Collected.{committed_ops}
-use Rattle.lab_deps.specs.Edges.{differ, place_of}
+use Rattle.lab_deps.specs.Edges.{differ, place_of, Depends}
 use Rattle.lab_deps.specs.RowTests.{state_after}
 use Rattle.lab_deps.specs.declared.edge.Kind.{Kind}
 use Rattle.lab_deps.specs.declared.edge.Kind.TheVariants.{Write, ItemRead, PredicateRead, ItemAnti, PredicateAnti}
@@ -70,3 +70,11 @@ meets h kind n reader op row = looks_for kind op row && tied_in h op.statement r
 -- whether one of a reader's operations is
 abbrev pub Meets : History → Kind → ℕ → ℕ → Row → Type 0
 Meets h kind n reader row = (op : Op) × Contains (committed_ops h reader) op × (meets h kind n reader op row ≡ true)
+
+-- an installer of a row and a reader depend on each other there in a way, the reader on it or it on the reader
+abbrev pub Meeting : History → Kind → ℕ → ℕ → Row → Type 0
+Meeting h Write n reader row = ⊥
+Meeting h ItemRead n reader row = Depends h ItemRead row n reader
+Meeting h PredicateRead n reader row = Depends h PredicateRead row n reader
+Meeting h ItemAnti n reader row = Depends h ItemAnti row reader n
+Meeting h PredicateAnti n reader row = Depends h PredicateAnti row reader n

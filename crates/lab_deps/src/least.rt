@@ -8,10 +8,9 @@ ghost use Rattle.lab_deps.specs.Collected.{committed_ops};
 ghost use Rattle.lab_deps.specs.Edges.{Depends};
 ghost use Rattle.lab_deps.specs.KindBits.{edge_of};
 ghost use Rattle.lab_deps.specs.KindSets.{among};
-ghost use Rattle.lab_deps.specs.LeastEdge.{fits, least_kind, IsLeast};
-ghost use Rattle.lab_deps.specs.LeastRow.{first_row, least_at, IsLeastRow};
-ghost use Rattle.lab_deps.specs.Meetings.{installs_next, meets, Meets};
-ghost use Rattle.lab_deps.specs.FirstOf.{first_entry};
+ghost use Rattle.lab_deps.specs.LeastEdge.{least_kind, IsLeastFitting};
+ghost use Rattle.lab_deps.specs.Meetings.{installs_next, meets, Meeting};
+ghost use Rattle.lab_deps.specs.FirstOf.{first_entry, first_row, least_of, IsLeastRow};
 ghost use Rattle.lab_deps.specs.Scopes.{Allows, edges_in};
 ghost use Rattle.lab_deps.specs.Soundness.{Stands};
 ghost use Rattle.lab_deps.specs.declared.edge.Kind.{Kind as Way};
@@ -41,7 +40,7 @@ pub fn least_of_two(
 ) -> Result<Option<Edge>, NoMemory>
     requires allowed { Allows scope history.now }
     requires there { (kind : Way) → among there kind ≡ true ↔ ((row : Row) × Contains (edges_in scope history.now) (edge_of from to kind row)) }
-    ensures { IfOk result (IsLeast (fits from to (among kinds)) (edges_in scope history.now)) }
+    ensures { IfOk result (IsLeastFitting (edges_in scope history.now) from to (among kinds)) }
 {
     match least_kind(there, kinds) {
         None => Ok(None),
@@ -113,7 +112,7 @@ fn least_row(
 
 /// The least row that the first of two transactions wrote and of which the second installs the version after its own.
 fn least_step(history: &History, from: TxnNo, to: TxnNo) -> Option<RowName>
-    ensures { result ≡ least_at (λ op. first_entry (installs_next history.now from to) (map.entries op.writes)) None (committed_ops history.now from) }
+    ensures { result ≡ least_of (λ op. first_entry (installs_next history.now from to) (map.entries op.writes)) None (committed_ops history.now from) }
 {
     let ops = committed_ops(history, from);
     let mut row = None;
@@ -130,8 +129,8 @@ fn first_step(history: &History, op: &Op, from: TxnNo, to: TxnNo) -> Option<RowN
     first_next(history, op.writes.entries(), from, to)
 }
 
-/// The least row at which a reader's operation is tied in a way to an installer. NoMemory where an allocation was
-/// refused.
+/// The least row at which an installer and a committed reader depend on each other in a way. NoMemory where an allocation
+/// was refused.
 fn least_meeting(
     alloc: Global,
     history: &History,
@@ -140,7 +139,8 @@ fn least_meeting(
     reader: TxnNo,
 ) -> Result<Option<RowName>, NoMemory>
     requires placed { (row : Row) → ¬ Stands history.now (fault.InstallOrder row) }
-    ensures { IfOk result (IsLeastRow (Meets history.now kind installer reader)) }
+    requires committed { IsCommitted history.now reader }
+    ensures { IfOk result (IsLeastRow (Meeting history.now kind installer reader)) }
 {
     let rows = rows_written(alloc, history, installer)?;
     Ok(least_among(history, kind, installer, reader, &rows))
@@ -154,7 +154,7 @@ fn least_among(
     reader: TxnNo,
     rows: &[RowName],
 ) -> Option<RowName>
-    ensures { result ≡ least_at (λ op. first_row (meets history.now kind installer reader op) rows.now) None (committed_ops history.now reader) }
+    ensures { result ≡ least_of (λ op. first_row (meets history.now kind installer reader op) rows.now) None (committed_ops history.now reader) }
 {
     let ops = committed_ops(history, reader);
     let mut row = None;

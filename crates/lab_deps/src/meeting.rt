@@ -4,9 +4,8 @@ ghost use Rattle.std.specs.Prelude.{◌≡◌, is_some};
 ghost use Rattle.std.specs.FinMap as map;
 ghost use Rattle.lab_history.specs.Version as version;
 ghost use Rattle.lab_history.specs.Version.{installers};
-ghost use Rattle.lab_deps.specs.LeastRow.{first_row};
 ghost use Rattle.lab_deps.specs.Meetings.{installs_next, turns, is_tied, tied_in, looks_for, meets};
-ghost use Rattle.lab_deps.specs.FirstOf.{first_entry};
+ghost use Rattle.lab_deps.specs.FirstOf.{first_entry, first_row};
 
 use crate::edge::Kind;
 use crate::effect::state_after_near;

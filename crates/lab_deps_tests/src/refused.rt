@@ -11,7 +11,7 @@ use std::alloc::Global;
 use std::process::Abort;
 use std::test::Fail;
 
-static CALLS: [Call; 18] = [
+static CALLS: [Call; 17] = [
     Call::ByRowCopy,
     Call::NumbersCopy,
     Call::TableCopy,
@@ -29,7 +29,6 @@ static CALLS: [Call; 18] = [
     Call::Edges,
     Call::DependenciesOf,
     Call::DependenciesOfWrites,
-    Call::DependenciesTable,
 ];
 
 /// Fails where a call that makes a statement isn't right with one of its allocations refused, or has no last

@@ -34,8 +34,7 @@ module _ {h : History} {net : KindsBetween} (of : IsNetOf h is_any net) (opening
   -- where a number stands in place of that of a node, a greater node has a greater one
   greater : (a n m : ℕ) → slice_get net.numbers a ≡ Some n → a < position net.numbers m → slice_get net.numbers (position net.numbers m) ≡ Some m → position net.numbers m < length net.numbers → n < m
   greater a n m here less there within =
-      let rise = rises net.numbers of.committed.rising a (position net.numbers m) less within in
-      omega (arith, rise, read net.numbers a n here, read net.numbers (position net.numbers m) m there)
+      omega (arith, rises net.numbers of.committed.rising a (position net.numbers m) less within, read net.numbers a n here, read net.numbers (position net.numbers m) m there)
 
   first : (f : Edge) → IsEdge h f → IsOpening opening graph net.numbers f → is_lt (edge_cmp f e) ≡ false
   first f edge (opens, leads) =

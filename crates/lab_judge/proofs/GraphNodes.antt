@@ -1,9 +1,9 @@
 -- The nodes of a graph, and of its orders.
-use Rattle.std.{proofs.{Common.{◌≡◌, ℕ, ◌<◌, ◌≤◌, ◌==◌, true, false, cond, List, [], nat_lt, refl, ap, ◌∙◌, arith, inl, inr}, lemmas.{Bool.{both_ways, cases_lt, ltb-true, lt-ltb, Decides.{Decides-eqb}}, List.{get_or_past, Elements.{All-weaker}}}}, specs.{Prelude.{Contains}, List.{All, list_any}}}
+use Rattle.std.{proofs.{Common.{◌≡◌, ℕ, ◌<◌, ◌≤◌, ◌==◌, true, cond, List, [], nat_lt, refl, ap, arith, inl, inr}, lemmas.{Bool.{both_ways, cases_lt, ltb-true, lt-ltb, Decides.{Decides-eqb}}, List.{get_or_past, Elements.{All-weaker}}}}, specs.{Prelude.{Contains}, List.{All, list_any}}}
 use Rattle.lab_order.specs.{Arrows.{Arrows, nodes_of, has_arrow, IsArrow, IsGraph}, Order.{position}}
 use Rattle.lab_order.specs.Order as order
 use Rattle.lab_deps.proofs.Places.{times, times_count}
-use Rattle.lab_judge.proofs.{LabelledKnots.{ring_all}, Labels.{AreThings, IsOrderOf, all_there}, Numbers.{contains_it}}
+use Rattle.lab_judge.proofs.{LabelledKnots.{ring_all}, Labels.{AreThings, IsOrderOf, all_there}, Numbers.{contains_it}, SeenVersions.{at_most_one}}
 
 module _ (graph : Arrows) (g : IsGraph graph) where
   -- an arrow's ends are nodes
@@ -30,11 +30,8 @@ module _ (graph : Arrows) (g : IsGraph graph) where
 
 -- each node comes once in an order
 pub once_in : (graph : Arrows) (ns : List ℕ) → order.HoldsEachOnce graph ns → (a : ℕ) → times a ns ≤ 1
-once_in graph ns each a =
-    elim (nat_lt a (nodes_of graph)) as (λ b. times a ns ≡ cond b 1 0 → times a ns ≤ 1) [ true ↦ λ e. omega (arith, e) | false ↦ λ e. omega (arith, e) ] (times_count a ns ∙ each a)
+once_in graph ns each a = omega (arith, times_count a ns, each a, at_most_one (nat_lt a (nodes_of graph)))
 
 -- and is there
 pub in_order : (graph : Arrows) (ns : List ℕ) → order.HoldsEachOnce graph ns → (a : ℕ) → a < nodes_of graph → Contains ns a
-in_order graph ns each a lt =
-    let one : times a ns ≡ 1 = times_count a ns ∙ each a ∙ ap (λ b. cond b 1 0) (lt-ltb a (nodes_of graph) lt) in
-    contains_it ns a (omega (arith, one))
+in_order graph ns each a lt = contains_it ns a (omega (arith, times_count a ns, each a, ap {B = ℕ} (λ b. cond b 1 0) (lt-ltb a (nodes_of graph) lt)))

@@ -84,10 +84,7 @@ module _ {X Y : Type 0} {same_x : X → X → Bool} {place_x : List X → X → 
       each_once = λ y. once y (there_y y) refl;
       forward = λ y z arrow.
           let both = yt.ends y z arrow in
-          let first = place_is y both.0 in
-          let second = place_is z both.1 in
-          let less = o.forward (g y) (g z) (l.from y z arrow) in
-          omega (arith, first, second, less);
+          omega (arith, place_is y both.0, place_is z both.1, o.forward (g y) (g z) (l.from y z arrow));
     }
 
 module _ {X Y : Type 0} (there : X → Bool) (IsLessX : X → X → Type 0) (IsLessY : Y → Y → Type 0) (f : X → Y)

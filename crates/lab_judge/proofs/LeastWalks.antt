@@ -29,11 +29,10 @@ module _ (h : History) (a : Kind → Bool) (txns : List ℕ) (from : ℕ) (way :
 pub goes_walk : (h : History) (a : Kind → Bool) (txns : List ℕ) (from : ℕ) (way : List ℕ) (es : List Edge) → GoesAlong h a txns from way es
     → IsWalk h (slice_index txns from) es (slice_index txns (last_of from way)) × Through a es
 goes_walk h a txns from [] [] g = (refl, tt)
-goes_walk h a txns from [] (e ∷ es) g = absurd g
-goes_walk h a txns from (n ∷ way) [] g = absurd g
 goes_walk h a txns from (n ∷ way) (e ∷ es) (l, g) =
     let rest : IsWalk h (slice_index txns n) es (slice_index txns (last_of n way)) × Through a es = goes_walk h a txns n way es g in
     ((l.edge, l.from, subst (λ k. IsWalk h k es (slice_index txns (last_of n way))) (sym l.to) rest.0), (l.kind, rest.1))
+goes_walk h a txns from way es g = absurd g
 
 some_edge : (h : History) (a : Kind → Bool) (txns : List ℕ) (from n : ℕ) (way : List ℕ) (es : List Edge) → GoesAlong h a txns from (way ++ n ∷ []) es → 1 ≤ length es
 some_edge h a txns from n way (e ∷ es) g = omega arith

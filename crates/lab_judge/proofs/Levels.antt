@@ -2,7 +2,7 @@
 use Rattle.std.proofs.{Common.{◌≡◌, true}, lemmas.Bool.{false≢true}}
 use Rattle.lab_table.specs.Row.{Row}
 use Rattle.lab_history.specs.History.{History}
-use Rattle.lab_deps.specs.{Refusal.{is_uncommitted_read, OnlyUncommittedReads}, Soundness.{Stands, IsSound}, declared.fault.LocalFault.{LocalFault, TheVariants.{Dangling, AbortedRead, IntermediateRead, OwnWriteMissed, LaterThanOwn, RowsDiffer, WritesDiffer, InstallOrder, EndDiffers}}}
+use Rattle.lab_deps.specs.{Refusal.{is_uncommitted_read, OnlyUncommittedReads}, Soundness.{Stands, IsSound}, declared.fault.LocalFault.{LocalFault, TheVariants.{AbortedRead, IntermediateRead, InstallOrder}}}
 use Rattle.lab_judge.specs.Phenomena.{NoG1a, NoG1b, MeetsPl2}
 
 -- in a sound history nobody reads what was never committed
@@ -16,13 +16,7 @@ none_intermediate h sound n k row stands = sound (IntermediateRead n k row) stan
 pub read_below : (h : History) (f : LocalFault) → Stands h f → is_uncommitted_read f ≡ true → MeetsPl2 h → ⊥
 read_below h (AbortedRead n k row) stands t meets = meets.0 n k row stands
 read_below h (IntermediateRead n k row) stands t meets = meets.1 n k row stands
-read_below h (Dangling n k row) stands t meets = false≢true t
-read_below h (OwnWriteMissed n k row) stands t meets = false≢true t
-read_below h (LaterThanOwn n k row) stands t meets = false≢true t
-read_below h (RowsDiffer n k row) stands t meets = false≢true t
-read_below h (WritesDiffer n k row) stands t meets = false≢true t
-read_below h (InstallOrder row) stands t meets = false≢true t
-read_below h (EndDiffers row) stands t meets = false≢true t
+read_below h other stands t meets = false≢true t
 
 -- where only such reads stand, rows are installed by their committed writers
 pub installed_by_writers : (h : History) → OnlyUncommittedReads h → (row : Row) → Stands h (InstallOrder row) → ⊥

@@ -2,9 +2,8 @@
 use Rattle.std.{proofs.{Common.{◌≡◌, ℕ, zero, suc, ◌<◌, Bool, true, false, List, length, inr, refl, sym, ap, ◌∙◌, subst, arith}, lemmas.{List.{same_lists}, Option.{slice_get-get_or}}}, specs.Prelude.{unwrap_or}}
 use Rattle.lab_history.specs.History.{History}
 use Rattle.lab_table.specs.Row.{Row}
-use Rattle.lab_deps.{proofs.FaultOrders.{one_of_kind}, specs.{FaultKinds.{parts_of}, FaultOrder.{IsFirstRead}, KindSets.{is_any, is_write, is_flow, is_anti, is_item_anti}, Refusal.{is_uncommitted_read}, Soundness.{Stands}}}
-use Rattle.lab_deps.specs.declared.{edge.Edge.{Edge}, fault.{LocalFault.{LocalFault, TheVariants.{AbortedRead, IntermediateRead}}, FaultParts.{FaultParts}}}
-use Rattle.lab_deps.specs.declared.fault.FaultParts.TheVariants as parts
+use Rattle.lab_deps.{proofs.FaultOrders.{one_of_kind}, specs.{FaultOrder.{IsFirstRead}, KindSets.{is_any, is_write, is_flow, is_anti, is_item_anti}, Refusal.{is_uncommitted_read}, Soundness.{Stands}}}
+use Rattle.lab_deps.specs.declared.{edge.Edge.{Edge}, fault.{LocalFault.{LocalFault, TheVariants.{AbortedRead, IntermediateRead}}}}
 use Rattle.lab_judge.specs.{Judgement.{FindsWalk, FindsFault, JudgesAll, JudgesReads, JudgesNothing, JudgesAtRead, Judges, IsExactJudgement}, LeastWalks.{FindsDue, FindsDueWalks}, Phenomena.{IsG0, IsG1c, IsGSingle, IsG2Item, IsG2}}
 use Rattle.lab_judge.specs.Findings as found
 use Rattle.lab_judge.specs.declared.{report.{Finding.{Finding, TheVariants.{Absent, Walk, At, NotJudged}}, Grade.{Grade}, Report.{Report}}, serial.Serial.{Serial}}
@@ -19,27 +18,21 @@ one_found P D one (Walk walk) Absent p q d e = absurd (q walk p)
 one_found P D one (Walk walk) (Walk other) p q d e = ap (λ w. Walk w) (one walk other d e)
 one_found P D one (At n k row) y p q d e = absurd p
 one_found P D one NotJudged y p q d e = absurd p
-one_found P D one Absent (At n k row) p q d e = absurd q
-one_found P D one Absent NotJudged p q d e = absurd q
-one_found P D one (Walk walk) (At n k row) p q d e = absurd q
-one_found P D one (Walk walk) NotJudged p q d e = absurd q
+one_found P D one x y p q d e = absurd q
 
 -- two first places of one kind of fault are one place
 abbrev AgreesOn : History → (ℕ → ℕ → Row → LocalFault) → Type 0
 AgreesOn h made = (n k : ℕ) (row : Row) (m j : ℕ) (other : Row) → Stands h (made n k row) × IsFirstRead h made n k row → Stands h (made m j other) × IsFirstRead h made m j other → At n k row ≡ At m j other
 
--- a finding at the place of a fault
-abbrev place_of : FaultParts → Finding
-place_of (parts.Operation kind n k row) = At n k row
-place_of (parts.Row kind row) = Absent
-
 aborted_agrees : (h : History) → AgreesOn h AbortedRead
 aborted_agrees h n k row m j other p q =
-    ap (λ f. place_of (parts_of f)) (one_of_kind h (AbortedRead n k row) (AbortedRead m j other) refl p.0 q.0 (λ c. q.1 n k row p.0 (inr (refl, c))) (λ c. p.1 m j other q.0 (inr (refl, c))))
+    let same = one_of_kind h (AbortedRead n k row) (AbortedRead m j other) refl p.0 q.0 (λ c. q.1 n k row p.0 (inr (refl, c))) (λ c. p.1 m j other q.0 (inr (refl, c))) in
+    cc
 
 intermediate_agrees : (h : History) → AgreesOn h IntermediateRead
 intermediate_agrees h n k row m j other p q =
-    ap (λ f. place_of (parts_of f)) (one_of_kind h (IntermediateRead n k row) (IntermediateRead m j other) refl p.0 q.0 (λ c. q.1 n k row p.0 (inr (refl, c))) (λ c. p.1 m j other q.0 (inr (refl, c))))
+    let same = one_of_kind h (IntermediateRead n k row) (IntermediateRead m j other) refl p.0 q.0 (λ c. q.1 n k row p.0 (inr (refl, c))) (λ c. p.1 m j other q.0 (inr (refl, c))) in
+    cc
 
 one_read : (h : History) (made : ℕ → ℕ → Row → LocalFault) → AgreesOn h made → (x y : Finding) → FindsFault h made x → FindsFault h made y → x ≡ y
 one_read h made agrees Absent Absent p q = refl
@@ -48,10 +41,7 @@ one_read h made agrees (At n k row) Absent p q = absurd (q n k row p.0)
 one_read h made agrees (At n k row) (At m j other) p q = agrees n k row m j other p q
 one_read h made agrees (Walk walk) y p q = absurd p
 one_read h made agrees NotJudged y p q = absurd p
-one_read h made agrees Absent (Walk walk) p q = absurd q
-one_read h made agrees Absent NotJudged p q = absurd q
-one_read h made agrees (At n k row) (Walk walk) p q = absurd q
-one_read h made agrees (At n k row) NotJudged p q = absurd q
+one_read h made agrees x y p q = absurd q
 
 -- lists of as many findings that have the same at each place are one
 same_by : (n : ℕ) (p q : List Finding) → length p ≡ n → length q ≡ n → ((k : ℕ) → k < n → found.finding_at k p ≡ found.finding_at k q) → p ≡ q
@@ -113,9 +103,8 @@ module _ (h : History) (p q : List Finding) (a b : Grade) (d : FindsDueWalks h p
   same_at_read false = nothing_same
 
   same_found : (s : Serial) → Judges h s p a → Judges h s q b → Same
-  same_found (serial.Yes order) = all_same
-  same_found (serial.NoCycle walk) = all_same
   same_found (serial.NoFault fault) = same_at_read (is_uncommitted_read fault)
+  same_found s = all_same
 
 pub one_judgement : (h : History) (one other : Report) → IsExactJudgement h one → IsExactJudgement h other → one ≡ other
 one_judgement h one other x y =
@@ -124,7 +113,4 @@ one_judgement h one other x y =
     let same : (one.phenomena ≡ other.phenomena) × (one.level ≡ other.level)
     = same_found h one.phenomena other.phenomena one.level other.level x.walks y.walks one.serial x.judgement.found
     (subst (λ s. Judges h s other.phenomena other.level) (sym serials) y.judgement.found) in
-    ap (λ s. record { serial = s; snapshot = one.snapshot; phenomena = one.phenomena; level = one.level }) serials
-    ∙ ap (λ s. record { serial = other.serial; snapshot = s; phenomena = one.phenomena; level = one.level }) snapshots
-    ∙ ap (λ p. record { serial = other.serial; snapshot = other.snapshot; phenomena = p; level = one.level }) same.0
-    ∙ ap (λ l. record { serial = other.serial; snapshot = other.snapshot; phenomena = other.phenomena; level = l }) same.1
+    λ i. record { serial = serials i; snapshot = snapshots i; phenomena = same.0 i; level = same.1 i }

@@ -3,7 +3,7 @@ use Rattle.std.{proofs.{Common.{◌≡◌, ℕ, ◌<◌, ◌≤◌, Bool, List, 
 use Rattle.lab_order.{specs.{Arrows.{Arrows}, Order.{position}, Path.{IsShortestPath}}, proofs.{Least.{one_least}, SameGraphs.{HasArrowsOf, path_in, least_path_in}}}
 use Rattle.lab_history.specs.History.{History}
 use Rattle.lab_deps.specs.declared.edge.{Edge.{Edge}, Kind.{Kind}}
-use Rattle.lab_judge.{specs.{LeastWalks.{IsEdgeGraph, GoesBy, IsWayBack, IsFirstOpening, IsTurnToLeast, IsOpenedRound}, Openings.{IsOpening}}, proofs.{LeastEdges.{neither_less, one_along}, Suffixes.{head_same, tail_same}, OneWalk.{one_committed, same_arrows}}}
+use Rattle.lab_judge.{specs.{LeastWalks.{IsEdgeGraph, GoesBy, IsWayBack, IsFirstOpening, IsTurnToLeast, IsOpenedRound}, Openings.{IsOpening}}, proofs.{Suffixes.{head_same, tail_same}, OneWalk.{neither_less, one_along, one_committed, same_arrows}}}
 
 module _ (g k : Arrows) (more : HasArrowsOf k g) where
   -- what opens a walk does so where there are more arrows

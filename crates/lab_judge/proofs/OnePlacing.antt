@@ -7,9 +7,8 @@ use Rattle.lab_judge.{specs.{LeastPlaces.{label, IsLower, IsPointOrder, IsLeastP
 -- points of one label are one
 pub one_label : (p q : Point) → label p ≡ label q → p ≡ q
 one_label (Start m) (Start n) e = ap Start (omega (arith, e))
-one_label (Start m) (Commit n) e = absurd (omega (arith, e))
-one_label (Commit m) (Start n) e = absurd (omega (arith, e))
 one_label (Commit m) (Commit n) e = ap Commit (omega (arith, e))
+one_label p q e = absurd (omega (arith, e))
 
 -- of two points one at most is lower
 pub not_both : (p q : Point) → IsLower p q → IsLower q p → ⊥
@@ -33,13 +32,11 @@ one_span points s t same a b =
 one_placing : (points : List Point) (ss ts : List Span) → map (λ s. s.txn) ss ≡ map (λ s. s.txn) ts → ((s : Span) → Contains ss s → IsPlaced points s)
     → ((t : Span) → Contains ts t → IsPlaced points t) → ss ≡ ts
 one_placing points [] [] same a b = refl
-one_placing points [] (t ∷ ts) same a b = let size = ap length same in absurd (omega (arith, size))
-one_placing points (s ∷ ss) [] same a b = let size = ap length same in absurd (omega (arith, size))
 one_placing points (s ∷ ss) (t ∷ ts) same a b =
     let first : s ≡ t = one_span points s t (ap (λ l. get_or l 0 0) same) (a s (0, omega arith, refl)) (b t (0, omega arith, refl)) in
-    ap (λ x. x ∷ ss) first
-    ∙ ap (λ xs. t ∷ xs)
-    (one_placing points ss ts (ap (drop 1) same) (λ r c. a r (suc c.0, (omega (arith, c.1)), c.2)) (λ r c. b r (suc c.0, (omega (arith, c.1)), c.2)))
+    let rest : ss ≡ ts = one_placing points ss ts (ap (drop 1) same) (λ r c. a r (suc c.0, (omega (arith, c.1)), c.2)) (λ r c. b r (suc c.0, (omega (arith, c.1)), c.2)) in
+    λ i. first i ∷ rest i
+one_placing points ss ts same a b = let size = ap length same in absurd (omega (arith, size))
 
 -- so a history has one least placing
 pub one_least_placing : (h : History) (one other : List Span) → HoldsEachOnce h (map (λ s. s.txn) one) → HoldsEachOnce h (map (λ s. s.txn) other)

@@ -35,8 +35,7 @@ pub ends : (h : History) (p q : Point) → IsArrow h p q → IsOfCommitted h p �
 ends h (Start m) (Commit n) (inl (c, same)) = (c, subst (IsCommitted h) same c)
 ends h (Start m) (Commit n) (inr (e, edge, from, to, kind)) = (subst (IsCommitted h) from edge.0, subst (IsCommitted h) to edge.1)
 ends h (Commit m) (Start n) (e, edge, from, to, kind) = (subst (IsCommitted h) from edge.0, subst (IsCommitted h) to edge.1)
-ends h (Start m) (Start n) arrow = absurd arrow
-ends h (Commit m) (Commit n) arrow = absurd arrow
+ends h p q arrow = absurd arrow
 
 module _ {h : History} {net : KindsBetween} (of : IsNetOf h is_any net) where
   abbrev ns : List ℕ
@@ -80,5 +79,4 @@ module _ {h : History} {net : KindsBetween} (of : IsNetOf h is_any net) where
         (inl (position ns m, node_within h ns of.committed.each_once m c, (refl, ap (λ k. commit_node (position ns k)) same)))
     has_it (Start m) (Commit n) (inr edge) = (is.arrows (start_node (position ns m)) (commit_node (position ns n))).1 (inr (inr (lands is_anti StartToCommit m n edge)))
     has_it (Commit m) (Start n) edge = (is.arrows (commit_node (position ns m)) (start_node (position ns n))).1 (inr (inl (lands is_flow CommitToStart m n edge)))
-    has_it (Start m) (Start n) arrow = absurd arrow
-    has_it (Commit m) (Commit n) arrow = absurd arrow
+    has_it p q arrow = absurd arrow

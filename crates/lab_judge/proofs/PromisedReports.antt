@@ -5,7 +5,7 @@ use Rattle.lab_history.specs.History.{History}
 use Rattle.lab_engine.specs.{declared.event.Level.{Level}, RuleTable.{rules_of, keeps_reads, keeps_snapshots}, Recording.{IsLegalRecording}, RecordedLog.{RecordedLog, IsSoundRecord}, Log.{Past, past_of}}
 use Rattle.lab_deps.specs.{declared.{edge.Edge.{Edge}, fault.LocalFault.{LocalFault, TheVariants.{AbortedRead, IntermediateRead}}}, Soundness.{IsSound}}
 use Rattle.lab_judge.specs.{Phenomena.{NoWalk, IsG0, NoG1}, Judgement.{FindsWalk, FindsFault, JudgesAll, Judges, IsSerialVerdict, IsExactJudgement}, Promises.{KeepsBy, IsAbsent, PromisedBy, IsPromised}}
-use Rattle.lab_judge.specs.declared.{report.{Finding.{Finding, TheVariants.{Absent, Walk, At, NotJudged}}, Report.{Report}, Grade.{Grade}}, serial.Serial.{Serial}}
+use Rattle.lab_judge.specs.declared.{report.{Finding.{Finding, TheVariants.{Absent, Walk, At}}, Report.{Report}, Grade.{Grade}}, serial.Serial.{Serial}}
 use Rattle.lab_judge.specs.Findings as found
 use Rattle.lab_judge.specs.declared.serial.Serial.TheVariants as serial
 use Rattle.lab_judge.proofs.{SoundRecordings.{is_sound}, ExactJudgements.{yes_exactly, placed_exactly}, KeptPromises.{keeps_promise}}
@@ -13,14 +13,12 @@ use Rattle.lab_judge.proofs.{SoundRecordings.{is_sound}, ExactJudgements.{yes_ex
 absent_walk : (is_one : List Edge → Type 0) → NoWalk is_one → (found : Finding) → FindsWalk is_one found → IsAbsent found
 absent_walk is_one none Absent finds = tt
 absent_walk is_one none (Walk walk) finds = none walk finds
-absent_walk is_one none (At n k row) finds = finds
-absent_walk is_one none NotJudged finds = finds
+absent_walk is_one none found finds = finds
 
 absent_fault : (h : History) → IsSound h → (fault : ℕ → ℕ → Row → LocalFault) (found : Finding) → FindsFault h fault found → IsAbsent found
 absent_fault h sound fault Absent finds = tt
-absent_fault h sound fault (Walk walk) finds = finds
 absent_fault h sound fault (At n k row) finds = sound (fault n k row) finds.0
-absent_fault h sound fault NotJudged finds = finds
+absent_fault h sound fault found finds = finds
 
 absent_all : (h : History) → IsSound h → NoWalk (IsG0 h) → NoG1 h → (p : List Finding) (grade : Grade) → JudgesAll h p grade
     → IsAbsent (found.g0 p) × IsAbsent (found.g1a p) × IsAbsent (found.g1b p) × IsAbsent (found.g1c p)
@@ -33,9 +31,8 @@ absent_all h sound none none_read p grade judges = (
 
 -- what is found beside any verdict on a sound history is found in a sound history
 judges_all : (h : History) → IsSound h → (verdict : Serial) → IsSerialVerdict h verdict → (p : List Finding) (grade : Grade) → Judges h verdict p grade → JudgesAll h p grade
-judges_all h sound (serial.Yes order) is_true p grade judges = judges
-judges_all h sound (serial.NoCycle walk) is_true p grade judges = judges
 judges_all h sound (serial.NoFault fault) is_true p grade judges = absurd (sound fault is_true.0)
+judges_all h sound verdict is_true p grade judges = judges
 
 -- an exact judgement of a sound history says what the history keeps
 says : (h : History) (report : Report) → IsSound h → IsExactJudgement h report → (reads snapshots : Bool) → KeepsBy reads snapshots h → PromisedBy reads snapshots report

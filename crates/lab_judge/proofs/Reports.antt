@@ -28,19 +28,14 @@ module _ (h : History) (sound : IsSound h) where
 
   -- neither answers a fault
   no_fault : (s : Serial) (p : Places) → IsDueSerial h s → IsDuePlaces h p → SameFault s p
-  no_fault (serial.Yes order) (places.Yes spans) s p = tt
-  no_fault (serial.Yes order) (places.NoCycle points) s p = tt
-  no_fault (serial.NoCycle walk) (places.Yes spans) s p = tt
-  no_fault (serial.NoCycle walk) (places.NoCycle points) s p = tt
   no_fault (serial.NoFault fault) p due q = absurd due
-  no_fault (serial.Yes order) (places.NoFault fault) s due = absurd due
-  no_fault (serial.NoCycle walk) (places.NoFault fault) s due = absurd due
+  no_fault s (places.NoFault fault) q due = absurd due
+  no_fault s p q due = tt
 
   -- and everything is judged
   all_judged : (s : Serial) → IsDueSerial h s → (found : List Finding) (grade : Grade) → JudgesAll h found grade → Judges h s found grade
-  all_judged (serial.Yes order) s found grade judges = judges
-  all_judged (serial.NoCycle walk) s found grade judges = judges
   all_judged (serial.NoFault fault) due found grade judges = absurd due
+  all_judged s due found grade judges = judges
 
   -- so they make a judgement
   pub of_sound : (report : Report) → IsDueSerial h report.serial → IsDuePlaces h report.snapshot → JudgesDue h report.phenomena report.level → IsExactJudgement h report

@@ -36,9 +36,7 @@ module _ (h : History) (points : List Point) (o : IsPointOrder h points) (ss : L
   Tells x p = IsOfCommitted h p × (x ≡ place_in points p)
 
   one : (x : ℕ) (p q : Point) → Tells x p → Tells x q → p ≡ q
-  one x p q a b =
-      let here : count_by (λ r. is_point r p) points ≡ 1 = o.each_once p ∙ ap (λ c. cond (has_committed c) 1 0) a.0 in
-      one_point points p q (omega (arith, here)) (sym a.1 ∙ b.1)
+  one x p q a b = one_point points p q (omega (arith, o.each_once p, ap {B = ℕ} (λ c. cond (has_committed c) 1 0) a.0)) (sym a.1 ∙ b.1)
 
   told : All (IsTold Tells) ss
   told k d lt =
@@ -64,10 +62,7 @@ module _ (h : History) (points : List Point) (o : IsPointOrder h points) (ss : L
   pub forward : IsForwardPlacing h ss
   forward p q arrow =
       let both : IsOfCommitted h p × IsOfCommitted h q = ends h p q arrow in
-      let from = place_of p both.0 in
-      let to = place_of q both.1 in
-      let less = o.forward p q arrow in
-      omega (arith, from, to, less)
+      omega (arith, place_of p both.0, place_of q both.1, o.forward p q arrow)
 
 module _ {h : History} {net : KindsBetween} (of : IsNetOf h is_any net) (graph : Arrows) (g : IsGraph graph) (is : IsPlaceGraph net graph) (nodes : List ℕ) (l : IsLeast (order.IsOrder graph) nodes)
     (places : List ℕ) (are : (node : ℕ) → Contains nodes node → slice_index places node ≡ position nodes node) (made : List Span) (same : made ≡ map (span_in net.numbers places) net.numbers) where

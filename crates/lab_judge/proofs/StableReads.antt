@@ -5,7 +5,7 @@ use Rattle.lab_table.{specs.{Row.{Row}, Table.{Table}, Statement.{matches}}, pro
 use Rattle.lab_history.specs.{History.{History}, declared.operation.Op.{Op}}
 use Rattle.lab_history.specs.Version as history
 use Rattle.lab_engine.{specs.{declared.event.Level.{Level}, Log.{Past, Txn, commits, version_by, last_installed, initial_version}, Laws.{Untouched}, Recording.{IsLegalRecording}}, proofs.DoneTransactions.{untouched_by}}
-use Rattle.lab_deps.specs.{Edges.{IsEdge, Depends, changes, SeesPlace, InstallsAt, Lists}, declared.edge.{Edge.{Edge}, Kind.{Kind, TheVariants.{Write, ItemRead, PredicateRead, ItemAnti, PredicateAnti}}}}
+use Rattle.lab_deps.specs.{Edges.{IsEdge, Depends, changes, SeesPlace, InstallsAt, Lists}, declared.edge.{Edge.{Edge}, Kind.{Kind, TheVariants.{ItemAnti, PredicateAnti}}}}
 use Rattle.lab_order.specs.Order.{position}
 use Rattle.lab_judge.specs.{LogOrders.{commit_order}, Places.{is_anti, IsForwardOrder}, Phenomena.{IsClosedWalk, NoWalk}, Runs.{IsSerialRun}, Stable.{StaysTrue, ReadsStable}}
 use Rattle.lab_judge.proofs.{Suffixes.{suffix_of_suffix, same_suffix, head_same}, Ranks.{rank-first, Installs}, RecordedVersions.{installer_at, state_at-is}, ViewedVersions.{SeenVersion, seen_by}, CommittedSuffixes.{suffix_after}, SeenRanks.{sees_rank, unseen, lists_match}}
@@ -88,11 +88,9 @@ module _ {level : Level} {setup : Table} {past : Past} {h : History} (recorded :
   follows_ahead from to f = omega (arith, f.ahead, position_is recorded from f.a, position_is recorded to f.b)
 
   kind_ahead : (e : Edge) → IsEdge h e → (kind : Kind) → e.kind ≡ kind → Depends h kind e.row e.from e.to → position (commit_order past) e.from < position (commit_order past) e.to
-  kind_ahead e edge Write is depends = flow_ahead recorded e edge (ap is_anti is)
-  kind_ahead e edge ItemRead is depends = flow_ahead recorded e edge (ap is_anti is)
-  kind_ahead e edge PredicateRead is depends = flow_ahead recorded e edge (ap is_anti is)
   kind_ahead e edge ItemAnti is (op, v, sees, lists, at) = follows_ahead e.from e.to (item_follows e.row op v e.from e.to edge.0 edge.2 sees lists at)
   kind_ahead e edge PredicateAnti is (op, v, p, sees, above, at, differs) = follows_ahead e.from e.to (predicate_follows e.row op v p e.from e.to edge.0 edge.2 sees above at differs)
+  kind_ahead e edge kind is depends = flow_ahead recorded e edge (ap is_anti is)
 
   -- every edge follows the order of commits
   pub stable_forward : IsForwardOrder h (commit_order past)

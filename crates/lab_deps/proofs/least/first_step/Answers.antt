@@ -1,5 +1,5 @@
 use Rattle.std.{proofs.Common.{◌∙◌}, specs.FinMap.{entries}}
-use Rattle.lab_deps.{specs.Meetings.{installs_next}, proofs.Rows.{first_states}}
+use Rattle.lab_deps.{specs.Meetings.{installs_next}, proofs.FirstOf.{first_states}}
 use Rattle.lab_deps.proofs.least.first_step.Goals as goal
 
 pub returns : goal.returns

@@ -1,6 +1,6 @@
 use Rattle.std.{proofs.Common.{sym, subst}, specs.List.Sorted.{IsStrictlySortedBy}}
 use Rattle.lab_table.specs.Row.{row_cmp}
-use Rattle.lab_deps.{specs.{LeastRow.{IsLeastRow}, Meetings.{Meets, HasWritten}}, proofs.MetRows.{meeting_least}}
+use Rattle.lab_deps.{specs.{FirstOf.{IsLeastRow}, Meetings.{Meeting, HasWritten}}, proofs.MetRows.{meeting_least}}
 use Rattle.lab_deps.proofs.least.least_meeting.Goals as goal
 
 pub returns : goal.returns
@@ -9,8 +9,8 @@ returns c =
     let a = c.args in
     let rows = c.deref.result.now in
     let same = sym c.deref.ensures.value in
-    subst (IsLeastRow (Meets h a.kind a.installer a.reader)) (sym c.least_among.ensures)
+    subst (IsLeastRow (Meeting h a.kind a.installer a.reader)) (sym c.least_among.ensures)
     (
-    meeting_least h c.requires.placed a.kind a.installer a.reader rows (subst (HasWritten h a.installer) same c.in_ok-rows.ensures.has)
+    meeting_least h c.requires.placed a.kind a.installer a.reader c.requires.committed rows (subst (HasWritten h a.installer) same c.in_ok-rows.ensures.has)
     (subst (IsStrictlySortedBy row_cmp) same c.in_ok-rows.ensures.rises)
     )

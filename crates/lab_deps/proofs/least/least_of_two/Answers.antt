@@ -1,5 +1,5 @@
 use Rattle.std.proofs.Common.{sym, subst, ◌∙◌}
-use Rattle.lab_deps.{specs.{KindSets.{among}, LeastEdge.{fits, IsLeast}, Scopes.{edges_in}}, proofs.LeastOfAll.{installed_by, none_is_least, first_committed, second_committed, row_is_least}}
+use Rattle.lab_deps.{specs.{KindSets.{among}, LeastEdge.{IsLeastFitting}, Scopes.{edges_in}}, proofs.LeastOfAll.{installed_by, none_is_least, first_committed, second_committed, row_is_least}}
 use Rattle.lab_deps.proofs.least.least_of_two.Goals as goal
 
 pub returns-in-None : goal.returns-in-None
@@ -23,7 +23,7 @@ least_row-requires-clause-second c =
 pub returns-in_ok-row-in-Some : goal.returns-in_ok-row-in-Some
 returns-in_ok-row-in-Some c =
     let a = c.args in
-    subst (IsLeast (fits a.from a.to (among a.kinds)) (edges_in a.scope a.history.now)) (sym c.edge_at.ensures)
+    subst (IsLeastFitting (edges_in a.scope a.history.now) a.from a.to (among a.kinds)) (sym c.edge_at.ensures)
     (
     row_is_least a.scope a.history.now c.requires.allowed a.from a.to (among a.there) (among a.kinds) c.requires.there c.in-Some.kind (sym c.least_kind.ensures ∙ c.in-Some.is) c.in_ok-row-in-Some.row
     c.in_ok-row-in-Some.ensures

@@ -1,5 +1,5 @@
 use Rattle.std.proofs.Common.{◌≡◌, drop}
-use Rattle.lab_deps.specs.{LeastRow.{first_row}, Meetings.{meets}}
+use Rattle.lab_deps.specs.{FirstOf.{first_row}, Meetings.{meets}}
 use Rattle.lab_deps.proofs.meeting.first_meeting.Given as goal
 
 -- the row is found among those that are left as among all

@@ -1,5 +1,5 @@
 use Rattle.std.proofs.{Common.{◌≡◌, ◌+◌, ◌∷◌, length, get_or, drop, refl, sym, ap, ◌∙◌, arith}, lemmas.List.{drop_all, drop_more}}
-use Rattle.lab_deps.{specs.Marks.{or_at, all_marked}, proofs.MarkedCells.{or_set, length_or}}
+use Rattle.lab_deps.{specs.Marks.{or_at, all_marked}, proofs.MarkedCells.{length_or}}
 use Rattle.lab_deps.proofs.turns.mark_all.Goals as goal
 
 pub loop-index-init : goal.loop-index-init
@@ -19,7 +19,7 @@ loop-index-preserved c =
     let k = c.args.first + i in
     let left : drop i ms ≡ m ∷ drop (i + 1) ms = drop_more ms i 0 c.loop-index-test.true in
     let on : c.args.first + (i + 1) ≡ k + 1 = omega arith in
-    let next : c.mark_at.new.cells ≡ or_at cs k m = c.mark_at.ensures ∙ or_set cs k m in (
+    let next : c.mark_at.new.cells ≡ or_at cs k m = c.mark_at.ensures in (
       ap length next ∙ (length_or cs k m ∙ c.loop-index.invariant.0),
       ap (λ n. all_marked n (drop (i + 1) ms) c.mark_at.new.cells) on ∙ (ap (all_marked (k + 1) (drop (i + 1) ms)) next ∙ (sym (ap (λ ns. all_marked k ns cs) left) ∙ c.loop-index.invariant.1)),
     )

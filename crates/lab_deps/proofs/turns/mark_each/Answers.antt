@@ -1,5 +1,5 @@
 use Rattle.std.proofs.{Common.{◌≡◌, ◌<◌, ◌+◌, ◌*◌, ◌∷◌, length, drop, get_or, sym, ap, ◌∙◌, subst}, lemmas.List.{drop_all, drop_more}}
-use Rattle.lab_deps.{specs.Marks.{or_at, marked}, proofs.MarkedCells.{or_set, length_or}}
+use Rattle.lab_deps.{specs.Marks.{or_at, marked}, proofs.MarkedCells.{length_or}}
 use Rattle.lab_deps.proofs.turns.mark_each.Goals as goal
 
 pub mark_at-requires : goal.mark_at-requires
@@ -17,7 +17,7 @@ loop-number-preserved c =
     let step = c.args.step in
     let bits = c.args.bits in
     let left : drop i ns ≡ n ∷ drop (i + 1) ns = drop_more ns i 0 c.loop-number-test.true in
-    let next : c.mark_at.new.cells ≡ or_at cs (first + n * step) bits = c.mark_at.ensures ∙ or_set cs (first + n * step) bits in (
+    let next : c.mark_at.new.cells ≡ or_at cs (first + n * step) bits = c.mark_at.ensures in (
       ap length next ∙ (length_or cs (first + n * step) bits ∙ c.loop-number.invariant.0),
       ap (marked first step bits (drop (i + 1) ns)) next ∙ (sym (ap (λ ms. marked first step bits ms cs) left) ∙ c.loop-number.invariant.1),
     )

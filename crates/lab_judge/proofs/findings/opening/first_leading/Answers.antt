@@ -1,36 +1,18 @@
-use Rattle.std.proofs.{Common.{◌≡◌, ◌<◌, ◌↔◌, true, length, subst, arith, inl, inr}, lemmas.{Bool.{both_ways, cases_lt}, Option.{slice_get_within}}}
-use Rattle.lab_order.specs.Path.{Reaches}
-use Rattle.lab_deps.specs.KindSets.{among}
-use Rattle.lab_judge.{specs.Graphs.{Tie}, proofs.{Growing.{meets_tie}, findings.opening.first_leading.Goals.{else-meets-via-then-meets+else-lead, else-meets-via-else-meets}}}
+use Rattle.std.proofs.{Common.{◌*◌, arith, inl, inr}, lemmas.{Bool.{cases_lt}, Option.{slice_get_within}}}
 use Rattle.lab_judge.proofs.findings.opening.first_leading.Goals as goal
 
-pub returns-then-lead-clause-found : goal.returns-then-lead-clause-found
-returns-then-lead-clause-found c =
-    let to = c.loop-to.to in
-    let inside : to < length c.row-row.result = subst (λ n. to < n) c.len-to-end.ensures c.loop-to-test.true in
-    let tied : c.meets.result ≡ true ↔ Tie (among c.args.kinds) c.args.net.now c.args.from to =
-    meets_tie c.args.net.now c.args.from c.row-row.result c.row-row.ensures.kinds to c.requires.from inside c.kinds-between.result c.kinds-between.ensures c.args.kinds c.meets.result c.meets.ensures in
-    (tied.0 c.if-meets.true, c.lead.ensures.0 c.if-lead.true)
-
-pub loop-to-preserved : goal.loop-to-preserved
-loop-to-preserved c k less back t =
-    let to = c.loop-to.to in
-    let inside : to < length c.row-row.result = subst (λ n. to < n) c.len-to-end.ensures c.loop-to-test.true in
-    let tied : c.meets.result ≡ true ↔ Tie (among c.args.kinds) c.args.net.now c.args.from to =
-    meets_tie c.args.net.now c.args.from c.row-row.result c.row-row.ensures.kinds to c.requires.from inside c.kinds-between.result c.kinds-between.ensures c.args.kinds c.meets.result c.meets.ensures in
-    let here : Reaches c.args.ways.now to c.args.from → ¬ Tie (among c.args.kinds) c.args.net.now c.args.from to =
-    elim c.else-meets.branch [
-      | else-meets-via-then-meets+else-lead w ↦ λ on _. both_ways w.lead.result w.if-lead.false (w.lead.ensures.1 on)
-      | else-meets-via-else-meets w ↦ λ _ t. both_ways c.meets.result w.if-meets.false (tied.1 t)
-    ] in
-    elim (cases_lt k to) [
-      | inl before ↦ c.loop-to.invariant k before back t
-      | inr past ↦
-          let same : k ≡ to = omega (arith, less, past) in
-          here (subst (λ n. Reaches c.args.ways.now n c.args.from) same back) (subst (Tie (among c.args.kinds) c.args.net.now c.args.from) same t)
-    ]
+pub loop-block-preserved : goal.loop-block-preserved
+loop-block-preserved c k less back t = elim (cases_lt k (64 * c.loop-block.block)) [
+  | inl before ↦ c.loop-block.invariant k before back t
+  | inr past ↦
+      let within = slice_get_within _ k _ t.to in
+      c.first_between.ensures.none c.in_default.is k past (omega (arith, less, within, c.min-beyond.ensures, c.len-count.ensures.count)) back t
+]
 
 pub returns-clause-none : goal.returns-clause-none
 returns-clause-none c = λ _ to back t.
     let within = slice_get_within _ to _ t.to in
-    c.loop-to.invariant to (omega (arith, within, c.loop-to-test.false, c.len-to-end.ensures, c.row-row.ensures.kinds.size)) back t
+    c.loop-block.invariant to (omega (arith, within, c.loop-block-test.false, c.len-count.ensures.count)) back t
+
+pub returns-in-Some-clause-least : goal.returns-in-Some-clause-least
+returns-in-Some-clause-least c k less back t = elim (cases_lt k (64 * c.loop-block.block)) [ inl before ↦ c.loop-block.invariant k before back t | inr past ↦ c.in-Some.ensures.least k past less back t ]
