@@ -10,10 +10,7 @@ still_unwritten t (Insert id value) row old new off h = h
 still_unwritten t (Update expr pred) row old None off h = refl
 still_unwritten t (Update expr pred) row old (Some v) off h = ap (λ b. is_some (option_map (λ (k : ℤ). Some (applied expr k)) (cond b (Some v) None))) off
 still_unwritten t (Delete pred) row old None off h = refl
-still_unwritten t (Delete pred) row old (Some v) off h = ap (λ b. is_some (option_map (λ (k : ℤ). absent) (cond b (Some v) None))) off
-  where
-    absent : State
-    absent = None
+still_unwritten t (Delete pred) row old (Some v) off h = ap (λ b. is_some (option_map {U = State} (λ (k : ℤ). None) (cond b (Some v) None))) off
 
 -- a row is seen as before, or a statement would write it neither before nor now
 abbrev Alike : Statement → Row → Version → Version → Type 0

@@ -1,7 +1,6 @@
 -- A statement that writes nothing frees nobody. It blocks nobody more where the level doesn't ask what was read, and none that only lists rows.
 use Rattle.std.specs.FinMap as map
-use Rattle.lab_table.proofs.OneRow.{reader_writes_none}
-use Rattle.lab_engine.proofs.{Common.{ap, arith, Blocks, both_ways, eqb-true, false, grown, HasRead, inl, inr, is_read_only, is_some, IsTrue, keeps_statements, length, Level, Op, Past, Row, row_cmp, rules_of, Statement, sym, Table, true, Txn, version_by, version_or, Writes, ◌+◌, ◌==◌, ◌||◌, ◌∙◌, ◌≡◌, ◌⊎◌}, Blockers.{blocks_map}}
+use Rattle.lab_engine.proofs.{Common.{ap, arith, Blocks, both_ways, eqb-true, false, grown, HasRead, inl, inr, is_read_only, is_some, IsTrue, keeps_statements, length, Level, Op, Past, Row, row_cmp, rules_of, Statement, sym, Table, true, Txn, version_by, version_or, Writes, ◌+◌, ◌==◌, ◌||◌, ◌∙◌, ◌≡◌, ◌⊎◌, reader_writes_none}, Blockers.{blocks_map}}
 
 -- what is read is of no weight to a statement
 abbrev pub Unasked : Level → Statement → Type 0

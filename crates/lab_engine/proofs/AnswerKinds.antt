@@ -1,5 +1,5 @@
 -- What an answer may be, by who gives the command, and which.
-use Rattle.lab_engine.proofs.Common.{Abort, Aborted, active, AlreadyBegun, Answers, ap, Begin, Begun, begun, BlockedBy, Busy, Command, Commit, Committed, conflict_fault, ConflictKind, Contains, Deadlock, DuplicateKey, EngineFault, fails, false, inl, inr, IsBelow, IsCircle, IsEffect, IsFirstConflict, IsFree, IsInsertOf, IsLeastCircle, IsStrictlyIncreasing, IsTrue, IsUpdate, Level, List, Listed, MayCommit, None, NoTransaction, Outcome, OutOfRange, Past, Read, ReadConflict, refl, Refused, Row, Rows, Run, seen, Some, Statement, subst, sym, Table, Txn, View, Waits, Write, WriteConflict, Writes, [], ℕ, ◌+◌, ◌↔◌, ◌≡◌, ◌≢◌, ◌⊎◌}
+use Rattle.lab_engine.proofs.Common.{Abort, Aborted, active, AlreadyBegun, Answers, ap, Begin, Begun, begun, BlockedBy, Busy, Command, Commit, Committed, conflict_fault, ConflictKind, Contains, Deadlock, DuplicateKey, fails, false, inl, inr, IsBelow, IsCircle, IsEffect, IsFirstConflict, IsFree, IsInsertOf, IsLeastCircle, IsStrictlyIncreasing, IsTrue, IsUpdate, Level, List, Listed, MayCommit, None, NoTransaction, Outcome, OutOfRange, Past, Read, ReadConflict, refl, Refused, Row, Rows, Run, seen, Some, Statement, subst, sym, Table, Txn, View, Waits, Write, WriteConflict, Writes, [], ℕ, ◌+◌, ◌↔◌, ◌≡◌, ◌≢◌, ◌⊎◌}
 
 -- a row is the least at which an update fails
 pub record IsFirstFailing (level : Level) (setup : Table) (past : Past) (txn : Txn) (s : Statement) (row : Row) : Type 0 where
@@ -48,19 +48,6 @@ module _ (level : Level) (setup : Table) (past : Past) (session : ℕ) (command 
       → KnownAnswer level setup past session command outcome
   of_txn given txn outcome is own known = inr (txn, own, subst (λ c. TxnAnswer level setup past session txn c outcome) (sym is) known)
 
-  refusal_known : (fault : EngineFault) → Answers level setup past session command (Refused fault) → KnownAnswer level setup past session command (Refused fault)
-  refusal_known (DuplicateKey row) ((s, txn, asks, free, insert, there), busy, least) =
-      of_txn (Run s) txn _ asks.command_is asks.active_is (inl (free, inr (inl (row, insert, there, refl))))
-  refusal_known (OutOfRange row) ((s, txn, asks, free, update, there, first), busy, least) =
-      of_txn (Run s) txn _ asks.command_is asks.active_is (inl (free, inr (inr (row, record { update = update; there = there; least = first }, refl))))
-  refusal_known (Deadlock circle) ((s, txn, asks, is), busy, least) =
-      of_txn (Run s) txn _ asks.command_is asks.active_is (inr (inr (circle, least s asks.command_is circle refl, refl)))
-  refusal_known (WriteConflict row by) ((txn, gives, first), busy, least) = of_txn Commit txn _ gives.command_is gives.active_is (inr (Write, row, by, first, refl))
-  refusal_known (ReadConflict row by) ((txn, gives, first), busy, least) = of_txn Commit txn _ gives.command_is gives.active_is (inr (Read, row, by, first, refl))
-  refusal_known NoTransaction ((none, isnt), busy, least) = inl (none, inr (isnt, refl))
-  refusal_known AlreadyBegun ((txn, gives), busy, least) = of_txn Begin txn _ gives.command_is gives.active_is refl
-  refusal_known Busy (p, busy, least) = absurd (busy refl)
-
   pub answer_known : (outcome : Outcome) → Answers level setup past session command outcome → KnownAnswer level setup past session command outcome
   answer_known (Begun n) (p, busy, least) = inl (p.1, inl (p.0, ap Begun p.2))
   answer_known (Listed view rows writes) ((s, txn, asks, free, effect), busy, least) =
@@ -69,4 +56,14 @@ module _ (level : Level) (setup : Table) (past : Past) (session : ℕ) (command 
   answer_known Aborted ((txn, gives), busy, least) = of_txn Abort txn _ gives.command_is gives.active_is refl
   answer_known (Waits on) ((s, txn, asks, rising, are, some, none), busy, least) =
       of_txn (Run s) txn _ asks.command_is asks.active_is (inr (inl (on, record { rising = rising; are = are; some = some; no_circle = none }, refl)))
-  answer_known (Refused fault) a = refusal_known fault a
+  answer_known (Refused (DuplicateKey row)) ((s, txn, asks, free, insert, there), busy, least) =
+      of_txn (Run s) txn _ asks.command_is asks.active_is (inl (free, inr (inl (row, insert, there, refl))))
+  answer_known (Refused (OutOfRange row)) ((s, txn, asks, free, update, there, first), busy, least) =
+      of_txn (Run s) txn _ asks.command_is asks.active_is (inl (free, inr (inr (row, record { update = update; there = there; least = first }, refl))))
+  answer_known (Refused (Deadlock circle)) ((s, txn, asks, is), busy, least) =
+      of_txn (Run s) txn _ asks.command_is asks.active_is (inr (inr (circle, least s asks.command_is circle refl, refl)))
+  answer_known (Refused (WriteConflict row by)) ((txn, gives, first), busy, least) = of_txn Commit txn _ gives.command_is gives.active_is (inr (Write, row, by, first, refl))
+  answer_known (Refused (ReadConflict row by)) ((txn, gives, first), busy, least) = of_txn Commit txn _ gives.command_is gives.active_is (inr (Read, row, by, first, refl))
+  answer_known (Refused NoTransaction) ((none, isnt), busy, least) = inl (none, inr (isnt, refl))
+  answer_known (Refused AlreadyBegun) ((txn, gives), busy, least) = of_txn Begin txn _ gives.command_is gives.active_is refl
+  answer_known (Refused Busy) (p, busy, least) = absurd (busy refl)

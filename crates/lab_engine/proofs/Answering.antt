@@ -1,6 +1,6 @@
 -- What a session gives, and what the rules answer to it.
 use Rattle.std.specs.{Prelude.{MatchOption, Result, IfOk, Contains, is_some, false}, declared.alloc.AllocError.{AllocError}}
-use Rattle.lab_engine.proofs.Common.{active, Answers, ap, AreBlockers, arith, asked, Asks, Bool, both_ways, Command, Commit, Conflict, conflict_fault, ConflictKind, Deadlock, DuplicateKey, EngineFault, Gives, IfOk-weaker, inl, inr, IsCircle, IsFirstConflict, IsFree, IsLeastCircle, IsRefusalOn, IsResultOn, Level, List, Listed, MayAsk, MayCommit, MayGive, None, none_of, none_some, Option, Outcome, OutOfRange, Past, Read, refl, Refused, Row, Run, seen, Some, Statement, subst, sym, Table, Txn, Version, waiting, Waits, Write, [], ℕ, ◌∙◌, ◌≡◌, ◌≢◌}
+use Rattle.lab_engine.proofs.Common.{active, Answers, ap, AreBlockers, arith, asked, Asks, Bool, both_ways, Command, Commit, Conflict, conflict_fault, ConflictKind, Deadlock, DuplicateKey, Gives, IfOk-weaker, inl, inr, IsCircle, IsFirstConflict, IsFree, IsLeastCircle, IsResultOn, Level, List, Listed, MayAsk, MayCommit, MayGive, None, none_of, none_some, Option, Outcome, OutOfRange, Past, Read, refl, Refused, Row, Run, seen, Some, Statement, subst, sym, Table, Txn, Version, waiting, Waits, Write, [], ℕ, ◌∙◌, ◌≡◌, ◌≢◌}
 
 -- a command that runs no statement is given at rest
 at_rest : (past : Past) (session : ℕ) (command : Command) → asked command ≡ None → MayGive past session command → waiting past session ≡ None
@@ -28,14 +28,10 @@ Searched level setup past session s found = MatchOption found ((circle : List �
 
 module _ (level : Level) (setup : Table) (past : Past) (session : ℕ) (s : Statement) (txn : Txn) (asks : Asks past session (Run s) s txn) where
   module _ (free : IsFree level setup past session s) where
-    refusal_answers : (fault : EngineFault) → IsRefusalOn (seen level setup past txn) s fault → Answers level setup past session (Run s) (Refused fault)
-    refusal_answers (DuplicateKey row) f = ((s, txn, asks, free, f.0, f.1), (λ eq. cc), λ t run circle eq. cc)
-    refusal_answers (OutOfRange row) f = ((s, txn, asks, free, f.0, f.1, f.2), (λ eq. cc), λ t run circle eq. cc)
-    refusal_answers other f = absurd f
-
     result_answers : (outcome : Outcome) → IsResultOn (seen level setup past txn) s outcome → Answers level setup past session (Run s) outcome
     result_answers (Listed view rows writes) f = ((s, txn, asks, free, f), (λ eq. cc), λ t run circle eq. cc)
-    result_answers (Refused fault) f = refusal_answers fault f
+    result_answers (Refused (DuplicateKey row)) f = ((s, txn, asks, free, f.0, f.1), (λ eq. cc), λ t run circle eq. cc)
+    result_answers (Refused (OutOfRange row)) f = ((s, txn, asks, free, f.0, f.1, f.2), (λ eq. cc), λ t run circle eq. cc)
     result_answers other f = absurd f
 
     -- what is true of rows as they are shown is so of them as the transaction sees them

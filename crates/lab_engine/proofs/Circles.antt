@@ -1,14 +1,10 @@
 -- Cycles of sessions, each blocked by the next, as walks along the graph of who waits for whom.
-use Rattle.lab_engine.{proofs.{Common.{ap, AreWaits, arith, BlockedBy, both_ways, cases_eq, Contains, Err, false, false_from_ne_true, IfOk, inl, inr, IsChain, IsCircle, IsLeastCircle, IsRetryable, IsRound, IsTrue, IsWalk, length, Level, List, list_any, MatchOption, MayAsk, None, NotAfter, Ok, Option, Past, refl, Result, same_Some, Some, Statement, subst, suc, sym, Table, waiting, waits_for, WaitsOn, ℕ, [], ◌<◌, ◌==◌, ◌∙◌, ◌∷◌, ◌≡◌, ◌≢◌, ◌≤◌, ◌⊎◌}, Waiting.{AreWaitsWith, asked_is, contains_any}}, specs.{LeastWalk.{IsLeastRound}, Released.{IsReleased}}}
+use Rattle.lab_engine.{proofs.{Common.{ap, AreWaits, arith, BlockedBy, both_ways, cases_eq, Contains, Err, false_from_ne_true, IfOk, inl, inr, IsChain, IsCircle, IsLeastCircle, IsRetryable, IsRound, IsTrue, IsWalk, length, Level, List, MatchOption, MayAsk, None, NotAfter, Ok, Option, Past, refl, Result, same_Some, Some, Statement, subst, suc, sym, Table, waiting, waits_for, WaitsOn, ℕ, [], ◌<◌, ◌∙◌, ◌∷◌, ◌≡◌, ◌≤◌, ◌⊎◌}, Waiting.{AreWaitsWith, asked_is, contains_any}}, specs.{LeastWalk.{IsLeastRound}, Released.{IsReleased}}}
 
 -- a walk begins with a step
 first_step : (waits : List ℕ) (session : ℕ) (rest : List ℕ) (goal : ℕ) → IsWalk waits session rest goal → (other : ℕ) × IsTrue (waits_for waits session other)
 first_step waits session [] goal walk = (goal, walk)
 first_step waits session (next ∷ rest) goal (first, walk) = (next, first)
-
--- where a session isn't in a list, nobody in the list is that session
-apart_from : (session : ℕ) (rest : List ℕ) (next : ℕ) → list_any (λ m. m == session) rest ≡ false → Contains rest next → next ≢ session
-apart_from session rest next none there same = both_ways _ none (contains_any rest session (subst (Contains rest) same there))
 
 module _ (level : Level) (setup : Table) (past : Past) (waits : List ℕ) where
   -- a walk is a chain where each on it waits for those that the graph has
@@ -44,7 +40,7 @@ module _ (level : Level) (setup : Table) (past : Past) (waits : List ℕ) (sessi
   round_circle (first ∷ rest) (own, walk, once) = (own, once, chain_of level setup past waits session rest session s on (λ other. (h.0 other).0) walk)
     where
       on : (next : ℕ) → Contains rest next → (other : ℕ) → IsTrue (waits_for waits next other) → WaitsOn level setup past next other
-      on next c other = (h.1 next other (apart_from session rest next (subst (λ k. list_any (λ m. m == k) rest ≡ false) own once.0) c)).0
+      on next c other = (h.1 next other (λ same. both_ways _ once.0 (contains_any rest first (subst (Contains rest) (same ∙ sym own) c)))).0
 
   module _ (may : MayAsk past session s) where
     -- a cycle is a walk of the graph

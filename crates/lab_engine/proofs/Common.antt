@@ -6,9 +6,11 @@ pub use Rattle.std.proofs.lemmas.List.{append-nil, drop_all, drop_more, get_or-s
 pub use Rattle.std.proofs.lemmas.{List.{Folds.{Any-from_list_any, list_all-append, list_all_at, list_any-append, list_any_at, list_any_more}, Sorted.{IsPermutation-reverse, list_any-IsPermutation}}, Option.{get_or_from_slice_get, same_Some, slice_get_within}, Result.{IfOk-weaker, on_ok_weaker}}
 pub use Rattle.std.specs.{FinMap.{entries, entries_sorted, find, FinMap, from_sorted, get, get-entries, get-from_sorted, is_sorted, put, Entries.{below_all, by_order, find-put, is_sorted-put}}, List.{AllByRecursion, AllPairs, cons_option, Contains, list_all, list_any, prefix_len}}
 pub use Rattle.std.specs.{List.Sorted.{IsStrictlyIncreasing}, Option.{is_none, option_or}, Prelude.{Err, false, filter, nat_lt, None, Ok, Option, Result, slice_get, slice_index, slice_index_or, Some, true, unwrap_or, ⊤, ◌==◌}, Vec.{vec_capacity}}
-pub use Rattle.lab_table.proofs.{Maps.{find-map, find_below, row_eq_self, same_row, same_rows}, OneRow.{absent_runs, change_is, insert_is, new_state-runs, no_match, not_written, update_inserts_none}, Orderings.{eq_reversed, is_less, turned, turned_back}, SortedRows.{lower, sorted-map}}
-pub use Rattle.lab_table.{proofs.Tests.{both, joined, none_of, slice_get-middle, some_is, some_of}, specs.{Row.{Row, row_cmp, row_eq, row_test, rows_apart, rows_total}, Sessions.{of_session}}}
-pub use Rattle.lab_table.specs.{Statement.{fails, inserted, is_read_only, is_update, listed, matches, may_match, selects, would_write, written}, Table.{Rows, State, Table, Writes}, declared.statement.{Command.{Command, TheVariants.{Abort, Begin, Commit, Run}}, Statement.{Statement}}}
+pub use Rattle.std.{specs.{BTreeMap.{get as tree_get, is_at}, List.Sorted.{IsStrictlySortedBy}, Map.{keys_of, lookup}, Result.{OnOk}}, proofs.lemmas.{List.{append_cancel_right}, Map.Views.{any-filter_same}}}
+pub use Rattle.lab_history.proofs.{CountedEntries.{length_new_states}, FirstValues.{or_none}}
+pub use Rattle.lab_table.proofs.{Maps.{find-map, find_below, row_eq_self, same_row, same_rows}, OneRow.{absent_runs, change_is, insert_is, new_state-runs, no_match, not_written, reader_writes_none, update_inserts_none}, Orderings.{eq_reversed, is_less, turned, turned_back}, SortedRows.{lower, sorted-map}}
+pub use Rattle.lab_table.{proofs.{SessionOrder.{other_value, own_value}, Tests.{both, joined, mapped_some, none_of, slice_get-middle, some_is, some_of, under_condition}}, specs.{Row.{Row, row_cmp, row_eq, row_test, rows_apart, rows_total}, Sessions.{of_session}}}
+pub use Rattle.lab_table.specs.{Statement.{fails, inserted, is_read_only, is_update, listed, matched, matches, may_match, selects, would_write, written}, Table.{Rows, State, Table, Writes}, declared.statement.{Command.{Command, TheVariants.{Abort, Begin, Commit, Run}}, Statement.{Statement}}}
 pub use Rattle.lab_table.specs.declared.statement.StatementKind.{StatementKind}
 pub use Rattle.lab_history.specs.{FirstPartsFault.{checked, installed_checked, listed_from, op_checked, ops_checked, statement_prints, txn_checked, txns_checked}, History.{History}}
 pub use Rattle.lab_history.specs.{HistoryRules.{AllDistinct, distinct_rows, distinct_tables, has_installer, is_listed, named_rows, named_tables, op_entries, operations}, VersionName.{new_states, state_value, View}, declared.operation.{Op.{Op}, State.{State as Written}, VersionName.{VersionName}}}

@@ -1,5 +1,5 @@
 -- What a situation says of sessions, rows and numbers.
-use Rattle.lab_engine.proofs.{States.{none_kept}, Common.{is_none, Where, active, active_after, Agree, all_sessions, ap, AreCommits, arith, begun_after, cond, Contains, Describes, DescribesAll, DescribesRows, eqb_tells, inl, inr, is_some, IsRunning, IsSame, IsSome, IsTrue, keeps_commits, kept_rows, Level, list_all, LogEvent, map as each, None, Option, option_map, Past, refl, reverse, RowStates, running_of, RunningTxn, Situation, Some, subst, sym, Txn, waiting, waiting_after, ℕ, ◌+◌, ◌==◌, ◌∙◌, ◌∷◌, ◌≡◌}}
+use Rattle.lab_engine.proofs.{States.{none_kept}, Common.{is_none, Where, active, active_after, Agree, all_sessions, ap, AreCommits, arith, begun_after, cond, Contains, Describes, DescribesAll, DescribesDoing, DescribesRows, eqb_tells, inl, inr, is_some, IsRunning, IsSame, IsSome, IsTrue, keeps_commits, kept_rows, Level, list_all, LogEvent, map as each, None, Option, option_map, Past, refl, reverse, RowStates, RunningTxn, Situation, Some, Statement, subst, sym, Txn, waiting, waiting_after, ℕ, ◌+◌, ◌==◌, ◌∙◌, ◌∷◌, ◌≡◌}}
 
 pub kept_txn : (level : Level) (txn : Option Txn) (running : RunningTxn) → Agree level txn (Some running) → (t : Txn) × (txn ≡ Some t) × IsRunning level t running
 kept_txn level None running agree = absurd agree
@@ -10,9 +10,9 @@ kept_none level None agree = refl
 kept_none level (Some t) agree = absurd agree
 
 -- where one is kept, the session has an active transaction
-pub running_txn : {level : Level} (past : Past) (situation : Situation) → Describes level past situation → (session : ℕ) (running : RunningTxn) → running_of situation.sessions session ≡ Some running
+pub running_txn : {level : Level} (past : Past) {session : ℕ} {held : Option Statement} {kept : Option RunningTxn} (running : RunningTxn) → DescribesDoing level past session held kept → kept ≡ Some running
     → (txn : Txn) × (active past session ≡ Some txn) × IsRunning level txn running
-running_txn {level} past situation is session running kept = kept_txn level (active past session) running (subst (λ r. Agree level (active past session) r) kept (is.states session).running)
+running_txn {level} past {session} running d is = kept_txn level (active past session) running (subst (Agree level (active past session)) is d.running)
 
 -- where no state waits, no session does
 pub nobody_waits : {level : Level} (past : Past) (situation : Situation) → Describes level past situation → IsTrue (list_all (λ state. is_none state.waits) situation.sessions) → (session : ℕ) → waiting past session ≡ None

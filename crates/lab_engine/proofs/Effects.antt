@@ -1,8 +1,6 @@
 -- What is made of each row that is seen, row by row, and which row keeps a statement from running.
-use Rattle.lab_engine.proofs.Common.{ap, AreMatching, below_all, both, change_is, cond, cons_option, each_row, fails, false, find, find_below, inserted, is_lt, is_read_only, is_sorted, joined, List, listed, new_states, None, Option, option_and_then, option_map, option_or, refl, Row, row_cmp, row_eq, same_row, Some, State, state_value, Statement, StatementKind, stored, subst, sym, T, true, value_rewritten, Version, with_row, Written, written, [], ℕ, ℤ, ◌∙◌, ◌∷◌, ◌≡◌}
-use Rattle.lab_history.proofs.FirstValues.{or_none}
-use Rattle.lab_table.specs.Statement as statement
-use Rattle.lab_table.specs.{Statement.{matched, kind_inserted, kind_listed, kind_matched}, declared.statement.StatementKind.TheVariants.{Insert}}
+use Rattle.lab_engine.proofs.Common.{ap, AreMatching, below_all, both, change_is, cond, cons_option, each_row, fails, false, find, find_below, inserted, is_lt, is_read_only, is_sorted, joined, List, listed, new_states, None, Option, option_and_then, option_map, option_or, refl, Row, row_cmp, row_eq, same_row, Some, State, state_value, Statement, StatementKind, stored, subst, sym, T, true, value_rewritten, Version, with_row, Written, written, [], ℕ, ℤ, ◌∙◌, ◌∷◌, ◌≡◌, or_none, matched}
+use Rattle.lab_table.specs.{Statement.{kind_inserted, kind_listed, kind_matched, rewritten}, declared.statement.StatementKind.TheVariants.{Insert}}
 
 -- before others a row is found with what is made of it
 pub find_made : {B : Type 0} (q row : Row) (rest : List (Row × B)) (o : Option B) → find row_cmp q (cons_option (with_row row o) rest) ≡ cond (row_eq q row) (option_or o (find row_cmp q rest)) (find row_cmp q rest)
@@ -88,5 +86,5 @@ module _ (s : Statement) (es : List (Row × ℤ)) (items : List (Row × Written)
   change_found changes none sees are runs q =
       ap (find row_cmp q) left_is ∙ find_each (λ row value. option_map state_value (value_rewritten s value)) q es are.sorted
       ∙ ap (option_and_then (λ value. option_map state_value (value_rewritten s value))) (are.found q ∙ sym (lists_matched s none q (sees q).state))
-      ∙ made_is (statement.rewritten s) (listed s q (sees q).state)
+      ∙ made_is (rewritten s) (listed s q (sees q).state)
       ∙ sym ((change_is s changes none).writes q (sees q).state (runs q))

@@ -1,6 +1,5 @@
 -- What is gathered goes on with the log.
-use Rattle.lab_engine.proofs.{Common.{active, active_after, ap, AreActive, arith, begun, Command, cond, eqb_tells, false, Gathering, Gathers, inl, inr, is_fatal, IsLegal, IsWithin, length, length-map, Level, List, Listed, LogEvent, map as each, None, number_after, number_of, of_session, Option, Outcome, Past, recorded, refl, Refused, same_Some, Some, subst, sym, Table, true, Txn, txns_after, ℕ, ◌==◌, ◌∙◌, ◌∷◌, ◌≡◌, ◌≤◌}, GatheredNumbers.{recorded_length}, Numbers.{numbers_hold}, TxnsAfterEvents.{txns_goes}}
-use Rattle.lab_table.proofs.SessionOrder.{other_value, own_value}
+use Rattle.lab_engine.proofs.{Common.{active, active_after, ap, AreActive, arith, begun, Command, cond, eqb_tells, false, Gathering, Gathers, inl, inr, is_fatal, IsLegal, IsWithin, length, length-map, Level, List, Listed, LogEvent, map as each, None, number_after, number_of, of_session, Option, Outcome, Past, recorded, refl, Refused, same_Some, Some, subst, sym, Table, true, Txn, txns_after, ℕ, ◌==◌, ◌∙◌, ◌∷◌, ◌≡◌, ◌≤◌, other_value, own_value}, GatheredNumbers.{recorded_length}, Numbers.{numbers_hold}, TxnsAfterEvents.{txns_goes}}
 
 -- ---- the numbers of the active transactions
 

@@ -1,57 +1,57 @@
 -- Chains of installed versions: what they say of the versions at a begin.
-use Rattle.lab_engine.{proofs.{Common.{active, ap, append_assoc, arith, Began, chain, chain_after, commits, commits_after, Committed, cond, false, first_since, if_any, installed_by, installers, is_some, last_before, last_installed, le-ltb, length, length-append, List, longer, lt-ltb, map, map-append, None, Option, option_or, Outcome, Past, refl, reverse, reverse-append, reverse-reverse, Row, Some, subst, sym, true≢false, Txn, unwrap_or, Version, version_by, writers, ℕ, [], ◌++◌, ◌<◌, ◌==◌, ◌∙◌, ◌∷◌, ◌≡◌, ◌≤◌}, Begins.{begins_hold}}, specs.declared.row_state.Installed.{Installed}}
+use Rattle.lab_engine.{proofs.{Common.{active, ap, append_assoc, arith, Began, chain, chain_after, commits, commits_after, Committed, cond, false, first_since, if_any, installed_by, installers, is_some, last_before, last_installed, le-ltb, length, length-append, List, LogEvent, longer, lt-ltb, map, map-append, None, Option, option_or, Outcome, Past, refl, reverse, reverse-append, reverse-reverse, Row, Some, subst, sym, true≢false, Txn, unwrap_or, Version, version_by, writers, ℕ, [], ◌++◌, ◌==◌, ◌∙◌, ◌∷◌, ◌≡◌, ◌≤◌}, Begins.{begins_hold}}, specs.declared.row_state.Installed.{Installed}}
+
+module _ (row : Row) (P : List Installed → Option Version → List Txn → Type 0) (event : LogEvent) (past : Past) where
+  -- what holds of a row's chain, its last version and its writers holds after an event, where it holds with a version more
+  pub chain_on : P (chain past row) (last_installed (commits past) row) (writers row (commits past))
+      → ((t : Txn) (v : Version) → P (record { version = v; by = t.no; place = length past } ∷ chain past row) (Some v) (t ∷ writers row (commits past)))
+      → P (chain (event ∷ past) row) (last_installed (commits (event ∷ past)) row) (writers row (commits (event ∷ past)))
+  chain_on before more = by event.outcome (active past event.session)
+    where
+      at : (t : Txn) (v : Option Version) → P (longer t.no (length past) v (chain past row)) (option_or v (last_installed (commits past) row))
+          (cond (is_some v) (t ∷ writers row (commits past)) (writers row (commits past)))
+      at t None = before
+      at t (Some v) = more t v
+
+      by : (outcome : Outcome) (act : Option Txn) → P (chain_after outcome act (length past) row (chain past row)) (last_installed (commits_after outcome act (commits past)) row)
+          (writers row (commits_after outcome act (commits past)))
+      by Committed (Some t) = at t (version_by t row)
+      by other act = before
 
 -- ---- what a chain says
 
-module _ (row : Row) where
-  none_from : (n : ℕ) (outcome : Outcome) (act : Option Txn) (place : ℕ) (c : List Installed) → place < n → first_since n c ≡ None → first_since n (chain_after outcome act place row c) ≡ None
-  none_from n Committed (Some t) place c below is = at (version_by t row) where
-    at : (v : Option Version) → first_since n (longer t.no place v c) ≡ None
-    at None = is
-    at (Some v) = ap (λ b. cond b None (Some (unwrap_or (first_since n c) t.no))) (lt-ltb place n below)
-  none_from n other act place c below is = is
-
-  -- nobody has installed a row from a place behind all on
-  none_since : (n : ℕ) (past : Past) → length past ≤ n → first_since n (chain past row) ≡ None
-  none_since n [] within = refl
-  none_since n (event ∷ past) within =
-      none_from n event.outcome (active past event.session) (length past) (chain past row) (omega (arith, within)) (none_since n past (omega (arith, within)))
+-- nobody has installed a row from a place behind all on
+none_since : (row : Row) (n : ℕ) (past : Past) → length past ≤ n → first_since n (chain past row) ≡ None
+none_since row n [] within = refl
+none_since row n (event ∷ past) within = chain_on row (λ c _ _. first_since n c ≡ None) event past (none_since row n past (omega (arith, within)))
+    (λ t v. ap (λ b. cond b None (Some (unwrap_or (first_since n (chain past row)) t.no))) (lt-ltb (length past) n (omega (arith, within))))
 
 -- the number of the last one of a list
 abbrev pub last_no : List Txn → Option ℕ
 last_no [] = None
 last_no (t ∷ ts) = Some (unwrap_or (last_no ts) t.no)
 
--- a row's chain after a past says who has installed the row since an earlier moment
-pub record SinceThen (row : Row) (past before : Past) : Type 0 where
+-- a row's chain and its writers say who has installed the row since an earlier moment
+pub record IsSince (row : Row) (before : Past) (c : List Installed) (those : List Txn) : Type 0 where
   pub newer : List Txn
-  pub writers_are : writers row (commits past) ≡ newer ++ writers row (commits before)
-  pub first_is : first_since (length before) (chain past row) ≡ last_no newer
+  pub writers_are : those ≡ newer ++ writers row (commits before)
+  pub first_is : first_since (length before) c ≡ last_no newer
 
-module _ (row : Row) (before : Past) where
-  one_more : (outcome : Outcome) (act : Option Txn) (past : Past) → length before ≤ length past → (s : SinceThen row past before)
-      → (newer : List Txn) × (writers row (commits_after outcome act (commits past)) ≡ newer ++ writers row (commits before))
-      × (first_since (length before) (chain_after outcome act (length past) row (chain past row)) ≡ last_no newer)
-  one_more Committed (Some t) past later s = at (version_by t row) where
-    at : (v : Option Version) → (newer : List Txn) × (cond (is_some v) (t ∷ writers row (commits past)) (writers row (commits past)) ≡ newer ++ writers row (commits before))
-        × (first_since (length before) (longer t.no (length past) v (chain past row)) ≡ last_no newer)
-    at None = (s.newer, s.writers_are, s.first_is)
-    at (Some v) = (
-      t ∷ s.newer,
-      ap (λ (l : List Txn). t ∷ l) s.writers_are,
-      ap (λ b. cond b None (Some (unwrap_or (first_since (length before) (chain past row)) t.no))) (le-ltb (length past) (length before) later) ∙ ap (λ o. Some (unwrap_or o t.no)) s.first_is,
-    )
-  one_more other act past later s = (s.newer, s.writers_are, s.first_is)
+-- so they do after a past
+abbrev pub SinceThen : Row → Past → Past → Type 0
+SinceThen row past before = IsSince row before (chain past row) (writers row (commits past))
 
-  since_then : (since : Past) → SinceThen row (since ++ before) before
-  since_then [] = record {
-    newer = [];
-    writers_are = refl;
-    first_is = none_since row (length before) before (omega arith);
-  }
-  since_then (event ∷ since) =
-      let more = one_more event.outcome (active (since ++ before) event.session) (since ++ before) (omega (arith, length-append since before)) (since_then since) in
-      record { newer = more.0; writers_are = more.1; first_is = more.2 }
+since_then : (row : Row) (before since : Past) → SinceThen row (since ++ before) before
+since_then row before [] = record { newer = []; writers_are = refl; first_is = none_since row (length before) before (omega arith) }
+since_then row before (event ∷ since) =
+    let was = since_then row before since in
+    let c : List Installed = chain (since ++ before) row in
+    chain_on row (λ c _ those. IsSince row before c those) event (since ++ before) was (λ t v. record {
+      newer = t ∷ was.newer;
+      writers_are = ap (λ (l : List Txn). t ∷ l) was.writers_are;
+      first_is = ap (λ b. cond b None (Some (unwrap_or (first_since (length before) c) t.no))) (le-ltb (length (since ++ before)) (length before) (omega (arith, length-append since before)))
+          ∙ ap (λ o. Some (unwrap_or o t.no)) was.first_is;
+    })
 
 -- a past goes on from an active transaction's begin
 before_now : (past : Past) (session : ℕ) (txn : Txn) → active past session ≡ Some txn → (since : Past) × (past ≡ since ++ txn.before)
@@ -65,33 +65,19 @@ since_begin past session txn row is = let front = before_now past session txn is
 -- ---- the versions at a begin
 
 module _ (row : Row) where
-  last_after : (n : ℕ) (outcome : Outcome) (act : Option Txn) (place : ℕ) (c : List Installed) (txns : List Txn) → place < n → last_before n c ≡ last_installed txns row
-      → last_before n (chain_after outcome act place row c) ≡ last_installed (commits_after outcome act txns) row
-  last_after n Committed (Some t) place c txns below is = at (version_by t row) where
-    at : (v : Option Version) → last_before n (longer t.no place v c) ≡ option_or v (last_installed txns row)
-    at None = is
-    at (Some v) = ap (λ b. cond b (Some v) (last_before n c)) (lt-ltb place n below)
-  last_after n other act place c txns below is = is
-
   -- before a place behind all, the last version of a chain is the last that was installed
   pub last_in : (n : ℕ) (past : Past) → length past ≤ n → last_before n (chain past row) ≡ last_installed (commits past) row
   last_in n [] within = refl
-  last_in n (event ∷ past) within =
-      last_after n event.outcome (active past event.session) (length past) (chain past row) (commits past) (omega (arith, within)) (last_in n past (omega (arith, within)))
-
-  later_after : (n : ℕ) (outcome : Outcome) (act : Option Txn) (place : ℕ) (c : List Installed) → n ≤ place → last_before n (chain_after outcome act place row c) ≡ last_before n c
-  later_after n Committed (Some t) place c later = at (version_by t row) where
-    at : (v : Option Version) → last_before n (longer t.no place v c) ≡ last_before n c
-    at None = refl
-    at (Some v) = ap (λ b. cond b (Some v) (last_before n c)) (le-ltb place n later)
-  later_after n other act place c later = refl
+  last_in n (event ∷ past) within = chain_on row (λ c last _. last_before n c ≡ last) event past (last_in n past (omega (arith, within)))
+      (λ t v. ap (λ b. cond b (Some v) (last_before n (chain past row))) (lt-ltb (length past) n (omega (arith, within))))
 
   -- so is it before the place of an earlier moment
   last_then : (before since : Past) → last_before (length before) (chain (since ++ before) row) ≡ last_installed (commits before) row
   last_then before [] = last_in (length before) before (omega arith)
   last_then before (event ∷ since) =
-      later_after (length before) event.outcome (active (since ++ before) event.session) (length (since ++ before)) (chain (since ++ before) row) (omega (arith, length-append since before))
-      ∙ last_then before since
+      let was = last_then before since in
+      chain_on row (λ c _ _. last_before (length before) c ≡ last_installed (commits before) row) event (since ++ before) was (λ t v.
+      ap (λ b. cond b (Some v) (last_before (length before) (chain (since ++ before) row))) (le-ltb (length (since ++ before)) (length before) (omega (arith, length-append since before))) ∙ was)
 
 -- before the place of an active transaction's begin, a row's chain ends with the version that was installed last at the begin
 pub last_at_begin : (past : Past) (session : ℕ) (txn : Txn) (row : Row) → active past session ≡ Some txn → last_before (length txn.before) (chain past row) ≡ last_installed (commits txn.before) row
@@ -101,22 +87,13 @@ last_at_begin past session txn row is =
 
 -- ---- who installed
 
-module _ (row : Row) where
-  by_after : (outcome : Outcome) (act : Option Txn) (place : ℕ) (c : List Installed) (txns : List Txn) → map (λ i. i.by) c ≡ map (λ t. t.no) (writers row txns)
-      → map (λ i. i.by) (chain_after outcome act place row c) ≡ map (λ t. t.no) (writers row (commits_after outcome act txns))
-  by_after Committed (Some t) place c txns is = at (version_by t row) where
-    at : (v : Option Version) → map (λ i. i.by) (longer t.no place v c) ≡ map (λ t. t.no) (cond (is_some v) (t ∷ writers row txns) (writers row txns))
-    at None = is
-    at (Some v) = ap (λ l. t.no ∷ l) is
-  by_after other act place c txns is = is
+by_in : (row : Row) (past : Past) → map (λ i. i.by) (chain past row) ≡ map (λ t. t.no) (writers row (commits past))
+by_in row [] = refl
+by_in row (event ∷ past) = chain_on row (λ c _ those. map (λ i. i.by) c ≡ map (λ t. t.no) those) event past (by_in row past) (λ t v. ap (λ l. t.no ∷ l) (by_in row past))
 
-  by_in : (past : Past) → map (λ i. i.by) (chain past row) ≡ map (λ t. t.no) (writers row (commits past))
-  by_in [] = refl
-  by_in (event ∷ past) = by_after event.outcome (active past event.session) (length past) (chain past row) (commits past) (by_in past)
-
-  -- a row's chain names its installers
-  pub installed_in : (past : Past) → installed_by (chain past row) ≡ installers past row
-  installed_in past = ap reverse (by_in past)
+-- a row's chain names its installers
+pub installed_in : (row : Row) (past : Past) → installed_by (chain past row) ≡ installers past row
+installed_in row past = ap reverse (by_in row past)
 
 reverse_map : {A B : Type 0} (f : A → B) (xs : List A) → map f (reverse xs) ≡ reverse (map f xs)
 reverse_map f [] = refl

@@ -1,6 +1,6 @@
 -- What is made of what is kept of rows, by rising row.
-use Rattle.lab_engine.{proofs.{Common.{AllByRecursion, ap, below_all, chain_in, chain_kept, cond, each_row, entries_in, find, is_eq, is_lt, is_sorted, joined, Kept, kept_at, last_before, Less, List, None, Option, option_and_then, option_or, pending_kept, refl, Row, row_cmp, RowStates, seen_of, Some, subst, sym, T, Version, ℕ, [], ◌∙◌, ◌∷◌, ◌≡◌}, Effects.{find_each, sorted_each}}, specs.declared.row_state.Installed.{Installed}}
-use Rattle.std.specs.{List.Sorted.{IsStrictlySortedBy}, Map.{keys_of, lookup}, BTreeMap.{is_at}}
+use Rattle.lab_engine.{proofs.{Common.{AllByRecursion, ap, below_all, chain_in, chain_kept, cond, each_row, entries_in, find, is_eq, is_lt, is_sorted, joined, Kept, kept_at, last_before, Less, List, None, Option, option_and_then, option_or, pending_kept, refl, Row, row_cmp, RowStates, seen_of, Some, subst, sym, T, Version, ℕ, [], ◌∙◌, ◌∷◌, ◌≡◌, is_at, keys_of, lookup}, Effects.{find_each, sorted_each}}, specs.declared.row_state.Installed.{Installed}}
+use Rattle.std.specs.List.Sorted.{IsStrictlySortedBy}
 
 module _ {A : Type 0} where
   below_kept : (row : Row) (es : List (Row × A)) → AllByRecursion (λ y. row_cmp row y ≡ Less) (keys_of es) → T (below_all row_cmp row es)

@@ -1,5 +1,5 @@
 -- What is kept of commits goes on with an event, and there is room for it.
-use Rattle.lab_engine.{proofs.{Common.{active, Agree, all_sessions, and_from, ap, AreCommits, AreInstalled, AreWritten, arith, Bool, chain, chain_after, commits_by, Committed, cond, Contains, eq-eqb, false, HasPlacesOfCommits, installs, is_ending, is_some, IsSome, le-ltb, length, Level, List, list_any, LogEvent, longer, None, Option, option_map, or_left, or_right, Outcome, Past, refl, reverse, reverse-append, Row, row_eq, RunningTxn, Some, subst, sym, true, true≢false, Txn, Version, version_by, ℕ, [], ◌++◌, ◌+◌, ◌==◌, ◌∙◌, ◌∷◌, ◌≡◌, ◌≤◌}, EndPlaces.{few_active, fewer_active}}, specs.{declared.row_state.Installed.{Installed}, KeptCommits.{commits_since, installs_at}}}
+use Rattle.lab_engine.{proofs.{Common.{active, Agree, all_sessions, and_from, ap, AreCommits, AreInstalled, AreWritten, arith, Bool, chain, chain_after, commits_by, Committed, cond, Contains, eq-eqb, false, HasPlacesOfCommits, installs, is_ending, is_some, IsSome, le-ltb, length, Level, List, list_any, LogEvent, longer, None, Option, option_map, or_left, or_right, Outcome, Past, refl, reverse, reverse-append, Row, row_eq, RunningTxn, Some, subst, sym, true, true≢false, Txn, Version, version_by, ℕ, [], ◌++◌, ◌+◌, ◌==◌, ◌∙◌, ◌∷◌, ◌≡◌, ◌≤◌}, EndPlaces.{few_active, fewer_active}, InstalledChains.{chain_on}}, specs.{declared.row_state.Installed.{Installed}, KeptCommits.{commits_since, installs_at}}}
 
 -- what is no commit installs nothing
 pub none_installed : (outcome : Outcome) (txn : Option Txn) → (outcome ≡ Committed → ⊥) → AreInstalled outcome txn None
@@ -66,20 +66,10 @@ place_of [] = 0
 place_of (i ∷ older) = i.place
 
 module _ (row : Row) where
-  above : (n place number : ℕ) (v : Option Version) (c : List Installed) → place_of c ≤ n → n ≤ place → place_of (longer number place v c) ≤ place
-  above n place number None c within later = omega arith
-  above n place number (Some v) c within later = omega arith
-
-  below_after : (outcome : Outcome) (act : Option Txn) (place : ℕ) (c : List Installed) → place_of c ≤ place → place_of (chain_after outcome act place row c) ≤ place
-  below_after Committed (Some t) place c within = above place place t.no (version_by t row) c within (omega arith)
-  below_after other act place c within = within
-
   -- it is no greater than how many events there are
   placed_below : (past : Past) → place_of (chain past row) ≤ length past
   placed_below [] = omega arith
-  placed_below (event ∷ past) =
-      let within = below_after event.outcome (active past event.session) (length past) (chain past row) (placed_below past) in
-      omega (arith, within)
+  placed_below (event ∷ past) = chain_on row (λ c _ _. place_of c ≤ length (event ∷ past)) event past (omega (arith, placed_below past)) (λ t v. omega arith)
 
   module _ (n : ℕ) where
     -- among these one from a place on has the place of the newest install of a chain, and the row
@@ -110,10 +100,7 @@ module _ (row : Row) where
 
     -- what is kept of commits has the newest install of each row from a place on
     pub last_kept : (past : Past) (kept : List (ℕ × List Row)) → AreCommits past kept → HasLast (chain past row) kept
-    last_kept [] kept are = λ i older is later. absurd (none_listed i older is)
-      where
-        none_listed : (i : Installed) (older : List Installed) → [] ≡ i ∷ older → ⊥
-        none_listed i older is = omega (arith, ap length is)
+    last_kept [] kept are = λ i older is later. let none : [] ≡ i ∷ older = is in absurd (omega (arith, ap length none))
     last_kept (event ∷ past) kept (older, rows, are, installed, is) =
         subst (HasLast (chain_after event.outcome (active past event.session) (length past) row (chain past row))) (sym is)
         (has_more event.outcome (active past event.session) (length past) rows older (chain past row) (placed_below past) installed (last_kept past older are))

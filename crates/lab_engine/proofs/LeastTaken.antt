@@ -30,10 +30,7 @@ module _ (taken : Row → Option ℕ) (rows : List Row) (i : ℕ) (row : Row) (l
     refl,
     among_more row ∙ or_right (list_any (row_eq row) (take i rows)) (row_eq row row) (row_eq_self row),
     is_taken,
-    λ q below there. elim (or_cases (list_any (row_eq q) (take i rows)) (row_eq q row) (sym (among_more q) ∙ there)) [
-      | inl old ↦ earlier least q h before below old
-      | inr same ↦ absurd (not_below q row below same)
-    ],
+    λ q below there. each_among (λ r. IsBelow r row → taken r ≡ None) q (λ old less. earlier least q h before less old) (λ less. absurd (not_below row row less (row_eq_self row))) there below,
   )
     where
       earlier : (least : Option Conflict) (q : Row) → IsLeastTaken taken (take i rows) least → comes_before row least ≡ true → IsBelow q row → IsAmong q (take i rows) → taken q ≡ None
@@ -57,8 +54,5 @@ module _ (taken : Row → Option ℕ) (rows : List Row) (i : ℕ) (row : Row) (l
     h.0,
     old_among found.row h.1,
     h.2,
-    λ q below there. elim (or_cases (list_any (row_eq q) (take i rows)) (row_eq q row) (sym (among_more q) ∙ there)) [
-      | inl old ↦ h.3 q below old
-      | inr same ↦ absurd (true≢false (sym (ap is_lt below) ∙ ap (λ r. is_lt (row_cmp r found.row)) (same_row q row same) ∙ behind))
-    ],
+    λ q below there. each_among (λ r. IsBelow r found.row → taken r ≡ None) q (λ old less. h.3 q less old) (λ less. absurd (true≢false (sym (ap is_lt less) ∙ behind))) there below,
   )

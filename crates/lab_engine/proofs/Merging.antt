@@ -1,6 +1,5 @@
 -- Sorted lists of rows with their versions, two of which are merged: those of a setup, and others over them.
-use Rattle.std.specs.Bool.{⊤}
-use Rattle.lab_engine.proofs.{Common.{ap, append_assoc, below_all, both, by_order, comes_after, cond, drop, each_row, entries, entries_sorted, Equal, false, find, find-map, find-put, find_below, get, get-entries, Greater, initial_entry, initially, is_gt, is_less, is_lt, is_sorted, is_sorted-put, laid_over, Less, List, lower, map, merged, None, one-add, Option, option_and_then, option_map, option_or, Ordering, prefix_len, put, refl, Row, row_cmp, row_eq, rows_apart, rows_total, same_row, Some, sorted-map, State, subst, sym, T, Table, take, true, turned, turned_back, unwrap_or, Version, without_row, [], ℕ, ℤ, ◌++◌, ◌+◌, ◌∙◌, ◌∷◌, ◌≡◌}, Effects.{sorted_each, find_each}}
+use Rattle.lab_engine.proofs.{Common.{ap, append_assoc, below_all, both, by_order, comes_after, cond, drop, each_row, entries, entries_sorted, Equal, false, find, find-map, find-put, find_below, get, get-entries, Greater, initial_entry, initially, is_gt, is_less, is_lt, is_sorted, is_sorted-put, laid_over, Less, List, lower, map, merged, None, one-add, Option, option_and_then, option_map, option_or, Ordering, prefix_len, put, refl, Row, row_cmp, row_eq, rows_apart, rows_total, same_row, Some, sorted-map, State, subst, sym, T, Table, take, true, turned, turned_back, unwrap_or, Version, without_row, [], ℕ, ℤ, ◌++◌, ◌+◌, ◌∙◌, ◌∷◌, ◌≡◌, ⊤}, Effects.{sorted_each, find_each}}
 use Rattle.lab_table.proofs.Putting.{is_own}
 
 -- rows with their versions

@@ -1,5 +1,5 @@
 -- After a log there is one answer to a command, and one event that a step or a retry appends.
-use Rattle.lab_engine.{proofs.{Common.{Answers, ap, arith, BlockedBy, both_ways, Busy, ComesFirst, Command, Commit, commits, conflict_fault, ConflictKind, Conflicts, ConflictsBy, Deadlock, DuplicateKey, Equal, fails, Greater, inl, inr, is_some, IsBelow, IsChain, IsCircle, IsEffect, IsFirstConflict, IsFree, IsInsertOf, IsSome, IsTrue, IsUpdate, Less, Level, List, Listed, LogEvent, MayCommit, None, none_some, Option, option_map, Ordering, Outcome, OutOfRange, Past, past_of, Permitted, Read, refl, Refused, Row, row_cmp, Rows, rows_apart, rules_of, Run, same_rows, same_Some, seen, Some, some_is, Statement, subst, sym, Table, turned, Txn, update_inserts_none, View, waiting, Waits, Write, writers, Writes, ℕ, ℤ, [], ◌++◌, ◌∙◌, ◌∷◌, ◌≡◌, ◌≢◌, ◌⊎◌}, ReadConflicts.{one_read_conflict, stands_or_conflicts}, RuleTables.{if_holds, if_set, where_holds}, Circles.{one_least_circle}, RisingLists.{before_end, none_before, same_pairs}, AnswerKinds.{answer_known, FreeAnswer, HeldAnswer, IdleAnswer, IsFirstFailing, KnownAnswer, TxnAnswer}}, specs.Answered.{RetriesTo, StepsTo}}
+use Rattle.lab_engine.{proofs.{Common.{Answers, ap, arith, BlockedBy, both_ways, Busy, ComesFirst, Command, Commit, commits, conflict_fault, ConflictKind, Conflicts, ConflictsBy, Deadlock, DuplicateKey, Equal, fails, Greater, inl, inr, is_some, IsBelow, IsChain, IsEffect, IsFirstConflict, IsFree, IsInsertOf, IsSome, IsTrue, IsUpdate, Less, Level, List, Listed, LogEvent, MayCommit, None, none_some, Option, option_map, Ordering, Outcome, OutOfRange, Past, past_of, Permitted, Read, refl, Refused, Row, row_cmp, Rows, rows_apart, rules_of, Run, same_rows, same_Some, seen, Some, some_is, Statement, subst, sym, Table, turned, Txn, update_inserts_none, View, waiting, Waits, Write, writers, Writes, ℕ, ℤ, [], ◌++◌, ◌∙◌, ◌∷◌, ◌≡◌, ◌≢◌, ◌⊎◌}, ReadConflicts.{one_read_conflict, stands_or_conflicts}, RuleTables.{if_holds, if_set, where_holds}, Circles.{one_least_circle}, RisingLists.{before_end, same_pairs}, TakenRows.{none_taken}, AnswerKinds.{answer_known, FreeAnswer, HeldAnswer, IdleAnswer, IsFirstFailing, KnownAnswer, TxnAnswer}}, specs.Answered.{RetriesTo, StepsTo}}
 use Rattle.std.proofs.lemmas.List.Kept.{AllPairs-from_increasing}
 
 -- of the rows that have something there is one least
@@ -40,8 +40,7 @@ module _ (level : Level) (setup : Table) (past : Past) (session : ℕ) (txn : Tx
   -- a commit that conflicts may not be
   no_commit : (kind : ConflictKind) (row : Row) (by : ℕ) → MayCommit level setup past txn → ¬ ConflictsBy level setup past txn kind row by
   no_commit Write row by may conflict =
-      let (some, first, newer, is_by, writes) = if_holds (rules_of level).write_clashes conflict in
-      none_before newer first (writers row (commits txn.before)) (sym (where_holds (rules_of level).write_clashes (if_set (rules_of level).write_clashes _ conflict) may.0 row some) ∙ writes)
+      none_taken past txn row by (where_holds (rules_of level).write_clashes (if_set (rules_of level).write_clashes _ conflict) may.0) (if_holds (rules_of level).write_clashes conflict)
   no_commit Read row by may conflict =
       stands_or_conflicts setup past txn row by (where_holds (rules_of level).read_clashes (if_set (rules_of level).read_clashes _ conflict) may.1) (if_holds (rules_of level).read_clashes conflict)
 
@@ -91,20 +90,17 @@ module _ (level : Level) (setup : Table) (past : Past) (session : ℕ) (txn : Tx
     one_held one other (inr (circle, h, is)) (inr (circle', k, alike)) =
         is ∙ ap (λ (c : List ℕ). Refused (Deadlock c)) (one_least_circle level setup past session s circle circle' h k) ∙ sym alike
 
-    -- the first step of a cycle goes to one who blocks the statement
+    -- the first step of a chain goes to one who blocks the statement
     chain_blocks : (rest : List ℕ) (goal : ℕ) → IsChain level setup past session s rest goal → (other : ℕ) × BlockedBy level setup past session s other
     chain_blocks [] goal c = (goal, c)
     chain_blocks (next ∷ rest) goal c = (next, c.0)
-
-    circle_blocks : (circle : List ℕ) → IsCircle level setup past session s circle → (other : ℕ) × BlockedBy level setup past session s other
-    circle_blocks [] c = absurd c
-    circle_blocks (first ∷ rest) (own, once, chain) = chain_blocks rest session chain
 
     -- what somebody blocks isn't free
     not_free : (outcome : Outcome) → IsFree level setup past session s → HeldAnswer level setup past session s outcome → ⊥
     not_free outcome free (inl ([], h, is)) = h.some refl
     not_free outcome free (inl (n ∷ on, h, is)) = free n ((h.are n).0 (0, omega arith, refl))
-    not_free outcome free (inr (circle, h, is)) = let b = circle_blocks circle h.is_circle in free b.0 b.1
+    not_free outcome free (inr ([], h, is)) = h.is_circle
+    not_free outcome free (inr (first ∷ rest, h, is)) = let b = chain_blocks rest session h.is_circle.2 in free b.0 b.1
 
   one_of_txn : (command : Command) (one other : Outcome) → TxnAnswer level setup past session txn command one → TxnAnswer level setup past session txn command other → one ≡ other
   one_of_txn Commit one other (inl (may, is)) (inl (can, alike)) = is ∙ sym alike

@@ -1,8 +1,6 @@
 -- Which rows match a statement, of a setup's and of written rows over them.
-use Rattle.std.{proofs.lemmas.List.{drop-map, take-map, Elements.{filter_map-append}}, specs.{List.Sorted.{IsStrictlySortedBy}, Map.{keys_of, lookup}, BTreeMap.{is_at}}}
-use Rattle.lab_engine.proofs.{Common.{ap, append_assoc, AreMatching, Asker, Bool, comes_after, cond, cons_option, drop, each_row, entries, entries_in, false, false_from_ne_true, false≢true, find, from_sorted, get, get-from_sorted, in_view, initial_entry, initially, is_gt, is_sorted, Kept, kept_at, laid_over, List, map, matching_entries, matching_rows, may_match, merged, name_over, no_match, None, Option, option_and_then, prefix_len, refl, Row, row_cmp, row_eq, row_eq_self, row_test, same_row, seen_in, seen_of, seen_over, Some, State, Statement, subst, sym, T, take, true, unwrap_or, Version, VersionName, with_row, without_row, ℕ, ℤ, [], ◌++◌, ◌+◌, ◌∙◌, ◌∷◌, ◌≡◌}, Effects.{find_made}, KeptChains.{each_found, each_kept, seen_kept}, Merging.{Entries, over_found, over_sorted}}
-use Rattle.lab_table.specs.Statement.{matched}
-use Rattle.lab_history.proofs.FirstValues.{or_none}
+use Rattle.std.proofs.lemmas.List.{drop-map, take-map, Elements.{filter_map-append}}
+use Rattle.lab_engine.proofs.{Common.{ap, append_assoc, AreMatching, Asker, Bool, comes_after, cond, cons_option, drop, each_row, entries, entries_in, false, false_from_ne_true, false≢true, find, from_sorted, get, get-from_sorted, in_view, initial_entry, initially, is_gt, is_sorted, Kept, kept_at, laid_over, List, map, matching_entries, matching_rows, may_match, merged, name_over, no_match, None, Option, option_and_then, prefix_len, refl, Row, row_cmp, row_eq, row_eq_self, row_test, same_row, seen_in, seen_of, seen_over, Some, State, Statement, subst, sym, T, take, true, unwrap_or, Version, VersionName, with_row, without_row, ℕ, ℤ, [], ◌++◌, ◌+◌, ◌∙◌, ◌∷◌, ◌≡◌, IsStrictlySortedBy, is_at, keys_of, lookup, matched, or_none}, Effects.{find_made}, KeptChains.{each_found, each_kept, seen_kept}, Merging.{Entries, over_found, over_sorted}}
 
 -- ---- the walk through both lists
 

@@ -1,6 +1,5 @@
 -- What a commit has read stands, or was changed, and at a row by one transaction first.
-use Rattle.std.proofs.lemmas.List.{append_cancel_right}
-use Rattle.lab_engine.proofs.Common.{ap, append_assoc, ChangesRead, commits, ConflictsRead, List, NoneChangesRead, Past, ReadsStand, Row, subst, sym, Table, Txn, [], ℕ, ◌++◌, ◌∙◌, ◌∷◌, ◌≡◌}
+use Rattle.lab_engine.proofs.Common.{ap, append_assoc, ChangesRead, commits, ConflictsRead, List, NoneChangesRead, Past, ReadsStand, Row, subst, sym, Table, Txn, [], ℕ, ◌++◌, ◌∙◌, ◌∷◌, ◌≡◌, append_cancel_right}
 
 module _ (setup : Table) (txn : Txn) (base : List Txn) (row : Row) where
   -- of a list none of which changed it none did

@@ -1,6 +1,5 @@
 -- Lists that are alike in what they hold.
-use Rattle.lab_engine.proofs.Common.{AllPairs, ap, append_assoc, arith, Contains, length, length-append, List, refl, reverse, reverse-append, subst, suc, sym, zero, [], ℕ, ◌++◌, ◌<◌, ◌∙◌, ◌∷◌, ◌≡◌, ◌≤◌}
-use Rattle.std.proofs.lemmas.List.{append_cancel_right}
+use Rattle.lab_engine.proofs.Common.{AllPairs, ap, append_assoc, arith, Contains, length, length-append, List, refl, reverse, reverse-append, subst, suc, sym, zero, [], ℕ, ◌++◌, ◌<◌, ◌∙◌, ◌∷◌, ◌≡◌, ◌≤◌, append_cancel_right}
 use Rattle.lab_table.proofs.Members.{no_member}
 
 -- the first of a rising list is below the others

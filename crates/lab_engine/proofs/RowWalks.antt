@@ -1,6 +1,5 @@
 -- What is kept of rows, where lists of rows and of writes are walked through.
-use Rattle.lab_engine.{proofs.Common.{and_comm, Any-from_list_any, ap, below_all, Bool, both, cond, entries, entries_sorted, false, filter, find, find_below, get, get-entries, get_or, is_some, is_sorted, IsSome, length, List, list_any, list_any-append, list_any_at, longer, map, new_states, None, Option, option_or, refl, Row, row_cmp, row_eq, row_eq_self, same_row, Some, state_value, subst, sym, T, true, Version, VersionName, Writes, Written, written_version, ℕ, [], ◌&&◌, ◌++◌, ◌<◌, ◌==◌, ◌||◌, ◌∙◌, ◌∷◌, ◌≡◌}, specs.declared.row_state.Installed.{Installed}}
-use Rattle.std.proofs.lemmas.Map.Views.{any-filter_same}
+use Rattle.lab_engine.{proofs.Common.{and_comm, Any-from_list_any, ap, below_all, Bool, both, cond, entries, entries_sorted, false, filter, find, find_below, get, get-entries, get_or, is_some, is_sorted, IsSome, length, List, list_any, list_any-append, list_any_at, longer, map, new_states, None, Option, option_or, refl, Row, row_cmp, row_eq, row_eq_self, same_row, Some, state_value, subst, sym, T, true, Version, VersionName, Writes, Written, written_version, ℕ, [], ◌&&◌, ◌++◌, ◌<◌, ◌==◌, ◌||◌, ◌∙◌, ◌∷◌, ◌≡◌, any-filter_same}, specs.declared.row_state.Installed.{Installed}}
 
 -- ---- rows, one by one
 

@@ -1,6 +1,5 @@
 -- What is kept of a session and of the rows goes on by an event of the session.
-use Rattle.lab_engine.proofs.Common.{Aborted, active, active_after, Agree, AlreadyBegun, ap, arith, Bool, both_ways, Busy, cases_eq, chain_after, chain_in, Committed, cond, DescribesRows, DescribesSession, eq-eqb, false, grown, has_written, inl, inr, is_none, is_over, is_some, IsRunning, keeps_statements, length, Level, List, Listed, LogEvent, longer, map as each, ne_eqb, None, none_of, NoTransaction, Op, Option, option_to_list, Outcome, Past, pending_in, refl, Refused, reverse, reverse-append, Row, Rows, RowStates, Run, RunningTxn, SessionState, Some, State, Statement, statements_of, subst, sym, true, true≢false, Txn, Version, version_by, version_or, View, waiting, waiting_after, Writes, written_by, [], ℕ, ◌&&◌, ◌++◌, ◌+◌, ◌==◌, ◌||◌, ◌∙◌, ◌∷◌, ◌≡◌}
-use Rattle.std.specs.FinMap as map
+use Rattle.lab_engine.proofs.Common.{Aborted, active, active_after, Agree, AlreadyBegun, ap, arith, Bool, both_ways, Busy, cases_eq, chain_after, chain_in, Committed, cond, DescribesRows, DescribesSession, eq-eqb, false, grown, has_written, inl, inr, is_none, is_over, is_some, IsRunning, keeps_statements, length, Level, List, Listed, LogEvent, longer, map as each, ne_eqb, None, none_of, NoTransaction, Op, Option, option_to_list, Outcome, Past, pending_in, refl, Refused, reverse, reverse-append, Row, Rows, RowStates, Run, RunningTxn, SessionState, Some, State, Statement, statements_of, subst, sym, true, true≢false, Txn, Version, version_by, version_or, View, waiting, waiting_after, Writes, written_by, [], ℕ, ◌&&◌, ◌++◌, ◌+◌, ◌==◌, ◌||◌, ◌∙◌, ◌∷◌, ◌≡◌, get}
 
 -- ---- one more operation
 
@@ -19,15 +18,15 @@ kept_then false kept s ran is = ap option_to_list is
 -- a transaction has run an operation more
 pub runs_on : (level : Level) (txn : Txn) (op : Op) (old new : RunningTxn) → IsRunning level txn old → new.number ≡ old.number → new.before ≡ old.before → new.operations ≡ old.operations + 1
     → (kept : Option Statement) → kept ≡ cond (keeps_statements level) (Some op.statement) None → statements_of new ≡ statements_of old ++ option_to_list kept
-    → ((row : Row) → has_written new row ≡ (has_written old row || (is_some (map.get op.writes row) && is_none (version_by txn row)))) → IsRunning level (grown txn op) new
+    → ((row : Row) → has_written new row ≡ (has_written old row || (is_some (get op.writes row) && is_none (version_by txn row)))) → IsRunning level (grown txn op) new
 runs_on level txn op old new running number before more kept is statements written = record {
   number = number ∙ running.number;
   before = before ∙ running.before;
   operations = omega (arith, more, running.operations);
   statements = statements ∙ ap (λ l. l ++ option_to_list kept) running.statements ∙ kept_then (keeps_statements level) kept op.statement (each (λ op. op.statement) txn.ops) is;
   written = λ row.
-      written row ∙ ap (λ b. b || (is_some (map.get op.writes row) && is_none (version_by txn row))) (running.written row)
-      ∙ written_then txn.no (length txn.ops + 1) (map.get op.writes row) (version_by txn row);
+      written row ∙ ap (λ b. b || (is_some (get op.writes row) && is_none (version_by txn row))) (running.written row)
+      ∙ written_then txn.no (length txn.ops + 1) (get op.writes row) (version_by txn row);
 }
 
 -- ---- a session that an event is of

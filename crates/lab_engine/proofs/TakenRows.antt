@@ -1,5 +1,5 @@
 -- Which rows of a transaction others have installed since its begin.
-use Rattle.lab_engine.{proofs.{Common.{ap, append_assoc, Asker, Bool, chain, chain_in, ComesFirst, commits, Conflict, ConflictKind, Conflicts, ConflictsBy, false, first_since, If, inl, inr, IsAsker, IsBelow, IsFirstCommitter, IsFirstConflict, IsSome, length, Level, List, None, none_some, Option, Past, Read, refl, Row, rules_of, same_Some, Some, subst, sym, Table, true, true≢false, Txn, unwrap_or, version_by, Write, writers, ℕ, [], ◌++◌, ◌∙◌, ◌∷◌, ◌≡◌}, InstalledChains.{last_no, since_begin, SinceThen}, RisingLists.{none_before}}, specs.Taken.{IsFirstTaken, IsLeastTaken}}
+use Rattle.lab_engine.{proofs.{Common.{ap, append_assoc, Asker, chain, chain_in, ComesFirst, commits, Conflict, ConflictKind, Conflicts, ConflictsBy, first_since, If, inl, inr, IsAsker, IsBelow, IsFirstCommitter, IsFirstConflict, IsSome, length, Level, List, None, none_some, Option, Past, Read, refl, Row, rules_of, same_Some, Some, subst, sym, Table, true, Txn, unwrap_or, version_by, Write, writers, ℕ, [], ◌++◌, ◌∙◌, ◌∷◌, ◌≡◌}, InstalledChains.{last_no, since_begin, SinceThen}, RisingLists.{none_before}}, specs.Taken.{IsFirstTaken, IsLeastTaken}}
 
 -- ---- who has installed a row since a begin
 
@@ -61,14 +61,9 @@ none_taken past txn row number first (wrote, by, newer, number_is, is) = none_be
 
 -- ---- what the rules ask
 
--- whether a conflict is by what was read
-abbrev is_read : ConflictKind → Bool
-is_read Write = false
-is_read Read = true
-
 -- the two kinds are different
 pub kinds_apart : ¬ (Write ≡ Read)
-kinds_apart same = true≢false (sym (ap is_read same))
+kinds_apart same = cc
 
 -- where writes clash the first conflict by what was written is the first of all, where no lower row has one by what was read
 pub first_by_write : (level : Level) (setup : Table) (past : Past) (txn : Txn) (first : Conflict) → (rules_of level).write_clashes ≡ true → IsFirstTaken past txn (Some first)

@@ -1,6 +1,5 @@
 -- A graph of who waits for whom, as the sets of those that each session waits for.
-use Rattle.lab_table.proofs.SessionOrder.{own_value, other_value}
-use Rattle.lab_engine.proofs.Common.{and_from, and_parts, ap, arith, both_ways, cases_eq, cond, eq-eqb, false, has, IfSome, inl, inr, is_session, is_some, IsTrue, List, ne_eqb, None, of_session, Option, refl, Some, sym, true, unwrap_or, waits_for, WaitsForOne, ℕ, ◌&&◌, ◌==◌, ◌↔◌, ◌∙◌, ◌≡◌, ◌≤◌}
+use Rattle.lab_engine.proofs.Common.{and_from, and_parts, ap, arith, both_ways, cases_eq, cond, eq-eqb, false, has, IfSome, inl, inr, is_session, is_some, IsTrue, List, ne_eqb, None, of_session, Option, refl, Some, sym, true, unwrap_or, waits_for, WaitsForOne, ℕ, ◌&&◌, ◌==◌, ◌↔◌, ◌∙◌, ◌≡◌, ◌≤◌, other_value, own_value}
 
 -- a session is from 1 to 9
 pub session_range : (s : ℕ) → is_session s ≡ true → (1 ≤ s) × (s ≤ 9)

@@ -1,6 +1,6 @@
 -- Which sessions wait for which after a log.
-use Rattle.std.proofs.lemmas.{Map.Views.{any-filter_same}, List.Kept.{IsStrictlyIncreasing-filter}}
-use Rattle.lab_engine.proofs.{Common.{arith, active, Agree, all_sessions, and_from, and_parts, Any-from_list_any, ap, AreBlockers, AreOthers, AreWaits, Asker, BlockedBy, Blocks, cases_eq, cond, Contains, Describes, DescribesSession, eq-eqb, eqb-true, filter, get_or, has, inl, inr, IsAsker, IsRunning, IsTrue, length, length-map, Level, List, list_any, list_any_at, MayAsk, ne_eqb, none_some, Past, refl, RunningTxn, same_Some, SessionState, Situation, Some, some_is, Statement, subst, sym, Table, take, take_all, Txn, waiting, waits_for, WaitsOn, ℕ, ◌&&◌, ◌+◌, ◌<◌, ◌==◌, ◌↔◌, ◌∙◌, ◌≡◌, ◌≢◌, ◌≤◌}, Describing.{kept_txn}, States.{described_there, number}, Rising.{kept_sessions, rising, sessions_of}, WaitGraphs.{session_range}}
+use Rattle.std.proofs.lemmas.List.Kept.{IsStrictlyIncreasing-filter}
+use Rattle.lab_engine.proofs.{Common.{arith, active, all_sessions, and_from, and_parts, Any-from_list_any, ap, AreBlockers, AreOthers, AreWaits, Asker, BlockedBy, Blocks, cases_eq, cond, Contains, Describes, DescribesSession, eq-eqb, eqb-true, filter, get_or, has, inl, inr, IsAsker, IsTrue, length, length-map, Level, List, list_any, list_any_at, MayAsk, ne_eqb, none_some, Past, refl, same_Some, SessionState, Situation, Some, some_is, Statement, subst, sym, Table, take, take_all, Txn, waiting, waits_for, WaitsOn, ℕ, ◌&&◌, ◌+◌, ◌<◌, ◌==◌, ◌↔◌, ◌∙◌, ◌≡◌, ◌≢◌, ◌≤◌, any-filter_same}, States.{described_there, number}, Rising.{kept_sessions, rising, sessions_of}, WaitGraphs.{session_range}}
 
 -- what is said of the state at a place of a situation
 pub record StandsAt (level : Level) (past : Past) (i : ℕ) (state : SessionState) : Type 0 where
@@ -22,11 +22,6 @@ module _ {level : Level} (past : Past) (situation : Situation) (d : Describes le
         number = number situation.sessions (i + 1) i state d.sessions (omega arith) high (omega arith) same;
         described = described_there situation.sessions (i + 1) i state d.sessions (omega arith) high (omega arith) same level past d.states;
       }
-
--- the active transaction that a state keeps
-pub running_txn : {level : Level} (past : Past) (state : SessionState) (running : RunningTxn) → DescribesSession level past state → state.running ≡ Some running
-    → (txn : Txn) × (active past state.session ≡ Some txn) × IsRunning level txn running
-running_txn {level} past state running d is = kept_txn level (active past state.session) running (subst (Agree level (active past state.session)) is d.running)
 
 -- another of which it holds that it blocks the statement of the active transaction blocks it
 pub others_block : (level : Level) (past : Past) (s : Statement) (txn : Txn) (asker : Asker) (set : ℕ) → IsAsker level past txn asker

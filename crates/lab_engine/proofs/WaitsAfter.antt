@@ -1,5 +1,5 @@
 -- Whom a session waits for after an event that leaves this as it was.
-use Rattle.lab_engine.proofs.{Common.{Aborted, active, active_after, AlreadyBegun, ap, Begun, Blocks, both_ways, Busy, cases_eq, Command, Committed, cond, eq-eqb, grown, inl, inr, is_over, IsLegal, IsTrue, Level, Listed, ne_eqb, None, none_some, NoTransaction, Op, Outcome, Past, Permitted, refl, Refused, Rows, Run, same_Some, Some, some_of, Statement, subst, sym, Table, Txn, version_by, View, waiting, waiting_after, Waits, WaitsOn, Writes, ℕ, ⊤, ◌==◌, ◌↔◌, ◌∙◌, ◌∷◌, ◌≡◌, ◌≢◌, ◌⊎◌}, Blockers.{blocks_none}, LockSteps.{fresh}, Locks.{are_off}, AfterCommits.{blocks_alike, still_blocked}, AfterReads.{reads_off, reads_on, Unasked}}
+use Rattle.lab_engine.proofs.{Common.{active, active_after, AlreadyBegun, ap, Begun, Blocks, both_ways, Busy, cases_eq, Command, Committed, cond, eq-eqb, grown, inl, inr, is_over, IsLegal, IsTrue, Level, Listed, ne_eqb, None, none_some, NoTransaction, Op, Outcome, Past, Permitted, refl, Refused, Rows, Run, same_Some, Some, some_of, Statement, subst, sym, Table, Txn, version_by, View, waiting, waiting_after, Waits, WaitsOn, Writes, ℕ, ⊤, ◌==◌, ◌↔◌, ◌∙◌, ◌∷◌, ◌≡◌, ◌≢◌, ◌⊎◌}, Blockers.{blocks_none}, LockSteps.{fresh}, Locks.{are_off}, AfterCommits.{blocks_alike, still_blocked}, AfterReads.{reads_off, reads_on, Unasked}}
 use Rattle.std.specs.FinMap as map
 
 -- where nothing commits, who blocks whom is the same
@@ -120,12 +120,11 @@ module _ (level : Level) (setup : Table) (past : Past) (e k : ℕ) (off : e ≢ 
   same_waits (Listed view rows writes) t legal (s, txn, asks, free, effect) before leaves waits =
       reads_waits s t view rows writes txn asks.command_is asks.active_is (sym (same_waiting (Listed view rows writes)) ∙ waits) leaves.0 leaves.1
   same_waits Committed t legal permitted before leaves waits = commits_waits legal permitted (before refl)
-  same_waits Aborted t legal permitted before leaves waits = ends Aborted (λ eq. cc) refl (before refl)
   same_waits (Waits on) t legal permitted before leaves waits = stays (Waits on) (λ eq. cc) refl
   same_waits (Refused Busy) t legal permitted before leaves waits = stays (Refused Busy) (λ eq. cc) refl
   same_waits (Refused NoTransaction) t legal permitted before leaves waits = stays (Refused NoTransaction) (λ eq. cc) refl
   same_waits (Refused AlreadyBegun) t legal permitted before leaves waits = stays (Refused AlreadyBegun) (λ eq. cc) refl
-  same_waits (Refused fault) t legal permitted before leaves waits = ends (Refused fault) (λ eq. cc) refl (before refl)
+  same_waits other t legal permitted before leaves waits = ends other (λ eq. cc) refl (before refl)
 
 -- any outcome but that of a statement that ran
 pub leaves_waiter : (level : Level) (setup : Table) (past : Past) (e k : ℕ) (outcome : Outcome) (s : Statement) → ((view : View) (rows : Rows) (writes : Writes) → outcome ≢ Listed view rows writes)

@@ -56,6 +56,7 @@ pub fn answer_to<R: Rules>(
 }
 
 /// What the rules answer to a command of a session that has no active transaction.
+#[tactic(auto, using(crate::proofs::EventBounds::begun_at_most))]
 fn without_transaction(situation: &Situation, session: Session, command: &Command) -> Outcome
     requires { (level : Kind) × (past : Past) × Describes level past situation.now × (length past < max_events) }
     ensures { (level : Kind) (setup : PlainTable) (past : Past) → Describes level past situation.now → active past session ≡ None

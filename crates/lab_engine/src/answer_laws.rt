@@ -12,6 +12,7 @@ ghost use Rattle.lab_engine.specs.LeastCircle.{IsLeastCircle};
 ghost use Rattle.lab_engine.specs.Answered.{StepsTo, RetriesTo};
 
 /// A session that asks for a statement stands on one least cycle at most.
+#[tactic(auto, using(crate::proofs::Circles::one_least_circle))]
 pub fn least_circle_unique()
     ensures { (level : Level) (setup : Table) (past : Past) (session : ℕ) (s : Statement) (circle other : List ℕ)
         → IsLeastCircle level setup past session s circle → IsLeastCircle level setup past session s other → circle ≡ other }

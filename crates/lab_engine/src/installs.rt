@@ -30,6 +30,7 @@ fn numbers_of(alloc: Global, installed: &[InstalledVersion]) -> Result<Vec<TxnNo
 }
 
 /// Those who installed a row, in order of commits; None where nobody did.
+#[tactic(auto, using(crate::proofs::InstalledChains::named_by, crate::proofs::InstalledChains::some_named))]
 fn installers_of(alloc: Global, kept: &RowState) -> Result<Option<Installers>, NoMemory>
     ensures { IfOk result (λ made. made ≡ if_any (installed_by kept.now.chain)) }
 {

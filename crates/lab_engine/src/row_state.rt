@@ -108,6 +108,7 @@ impl RowState {
     }
 
     /// From now on a session has this version pending, in the place of the one that it had, if any.
+    #[tactic(auto, using(crate::proofs::PendingVersions::roomy_held))]
     pub(crate) fn hold(&mut self, session: Session, version: Version)
         requires { IsReady self.old }
         ensures chain { self.new.chain ≡ self.old.chain }

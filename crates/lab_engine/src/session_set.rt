@@ -29,6 +29,7 @@ impl Model for SessionSet {
 
 impl SessionSet {
     /// The set of nobody.
+    #[tactic(auto, using(crate::proofs::SessionBits::has_nobody))]
     pub fn none() -> SessionSet
         ensures { (n : ℕ) → has result n ≡ false }
     {
@@ -47,6 +48,7 @@ impl SessionSet {
     }
 
     /// Puts a session in.
+    #[tactic(auto, using(crate::proofs::SessionBits::sessions_inserted, crate::proofs::SessionBits::has_inserted))]
     pub fn insert(&mut self, session: Session)
         ensures { (n : ℕ) → has self.new n ≡ (n == session || has self.old n) }
     {
@@ -54,6 +56,7 @@ impl SessionSet {
     }
 
     /// Whether a session is in it.
+    #[tactic(auto, using(crate::proofs::SessionBits::has_tested))]
     pub fn has(self, session: Session) -> bool
         ensures { result ≡ has self session }
     {
@@ -61,6 +64,7 @@ impl SessionSet {
     }
 
     /// Those that another set has too.
+    #[tactic(auto, using(crate::proofs::SessionBits::has_common))]
     pub fn common(self, other: SessionSet) -> SessionSet
         ensures { (n : ℕ) → has result n ≡ (has self n && has other n) }
     {
@@ -70,6 +74,7 @@ impl SessionSet {
     }
 
     /// Those that are in it or in another set.
+    #[tactic(auto, using(crate::proofs::SessionBits::sessions_either, crate::proofs::SessionBits::has_either))]
     pub fn with(self, other: SessionSet) -> SessionSet
         ensures { (n : ℕ) → has result n ≡ (has self n || has other n) }
     {
@@ -79,6 +84,7 @@ impl SessionSet {
     }
 
     /// The least session in it, or None where it has nobody.
+    #[tactic(auto, using(crate::proofs::SessionBits::least_some, crate::proofs::SessionBits::least_least, crate::proofs::SessionBits::least_none))]
     pub fn least(self) -> Option<Session>
         ensures some { IfSome result (λ session. IsTrue (has self session)) }
         ensures least { IfSome result (λ session. (n : ℕ) → IsTrue (has self n) → session ≤ n) }

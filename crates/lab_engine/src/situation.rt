@@ -87,6 +87,7 @@ impl Situation {
     }
 
     /// Whether a session has an active transaction.
+    #[tactic(auto, using(crate::proofs::Describing::some_made, crate::proofs::Describing::some_agree))]
     pub fn is_active(&self, session: Session) -> bool
         ensures { (level : Kind) (past : Past) → Describes level past self.now → result ≡ is_some (active past session) }
     {
@@ -94,6 +95,7 @@ impl Situation {
     }
 
     /// Whether a statement of a session waits.
+    #[tactic(auto, using(crate::proofs::Describing::some_made))]
     pub fn is_waiting(&self, session: Session) -> bool
         ensures { (level : Kind) (past : Past) → Describes level past self.now → result ≡ is_some (waiting past session) }
     {

@@ -41,6 +41,7 @@ impl WaitGraph {
     }
 
     /// From now on a session waits for these.
+    #[tactic(auto, using(crate::proofs::WaitGraphs::put_set))]
     pub fn put(&mut self, session: Session, on: SessionSet)
         ensures { (waiter other : ℕ) → waits_for self.new waiter other ≡ cond (waiter == session) (has on other) (waits_for self.old waiter other) }
     {
@@ -48,6 +49,7 @@ impl WaitGraph {
     }
 
     /// Those that a session waits for.
+    #[tactic(auto, using(crate::proofs::WaitGraphs::own_set))]
     pub fn on(&self, session: Session) -> SessionSet
         ensures { (other : ℕ) → has result other ≡ waits_for self.now session other }
     {
@@ -62,6 +64,7 @@ impl WaitGraph {
     }
 
     /// Whether a session waits for somebody in a set.
+    #[tactic(auto, using(crate::proofs::WaitGraphs::waits_for_one))]
     fn is_waiter(&self, session: Session, set: SessionSet) -> bool
         ensures { IsTrue result ↔ WaitsForOne self.now set session }
     {

@@ -6,15 +6,15 @@ returns-in_default-clause-answer g c past d may h = c.without_transaction.ensure
     (kept_none _ _ (subst (Agree g.R.Rules.kind (active past c.args.session)) (sym c.in_default.ensures) (d.states c.args.session).running))
 
 pub returns-in-Begin-clause-answer : goal.returns-in-Begin-clause-answer
-returns-in-Begin-clause-answer g c past d may h = let t = running_txn past c.args.situation.now d c.args.session c.in-Some.running.now (sym c.in-Some.ensures) in
+returns-in-Begin-clause-answer g c past d may h = let t = running_txn past c.in-Some.running.now (d.states c.args.session) (sym c.in-Some.ensures) in
     ((t.0, gives _ _ _ _ t.0 c.in-Begin.is refl may t.1), (λ eq. cc), λ s run circle eq. cc)
 
 pub returns-in-Abort-clause-answer : goal.returns-in-Abort-clause-answer
-returns-in-Abort-clause-answer g c past d may h = let t = running_txn past c.args.situation.now d c.args.session c.in-Some.running.now (sym c.in-Some.ensures) in
+returns-in-Abort-clause-answer g c past d may h = let t = running_txn past c.in-Some.running.now (d.states c.args.session) (sym c.in-Some.ensures) in
     ((t.0, gives _ _ _ _ t.0 c.in-Abort.is refl may t.1), (λ eq. cc), λ s run circle eq. cc)
 
 pub returns-in-None-clause-answer : goal.returns-in-None-clause-answer
-returns-in-None-clause-answer g c past d may h = let t = running_txn past c.args.situation.now d c.args.session c.in-Some.running.now (sym c.in-Some.ensures) in (
+returns-in-None-clause-answer g c past d may h = let t = running_txn past c.in-Some.running.now (d.states c.args.session) (sym c.in-Some.ensures) in (
   (
     t.0,
     gives _ _ _ _ t.0 c.in-Commit.is refl may t.1,
@@ -25,7 +25,7 @@ returns-in-None-clause-answer g c past d may h = let t = running_txn past c.args
 )
 
 pub returns-in-Some-conflict-clause-answer : goal.returns-in-Some-conflict-clause-answer
-returns-in-Some-conflict-clause-answer g c past d may h = let t = running_txn past c.args.situation.now d c.args.session c.in-Some.running.now (sym c.in-Some.ensures) in
+returns-in-Some-conflict-clause-answer g c past d may h = let t = running_txn past c.in-Some.running.now (d.states c.args.session) (sym c.in-Some.ensures) in
     let asker = c.of-asker.result in
     subst (λ fault. Answers g.R.Rules.kind c.args.setup.now past c.args.session c.args.command.now (Refused fault)) (sym c.fault_of.ensures)
     (subst (λ table. Answers g.R.Rules.kind table past c.args.session c.args.command.now (Refused (conflict_fault c.in-Some-conflict.conflict.kind c.in-Some-conflict.conflict.row c.in-Some-conflict.conflict.by)))
@@ -34,7 +34,7 @@ returns-in-Some-conflict-clause-answer g c past d may h = let t = running_txn pa
     (gives _ _ _ _ t.0 c.in-Commit.is refl may t.1)))
 
 pub returns-in-Run-clause-answer : goal.returns-in-Run-clause-answer
-returns-in-Run-clause-answer g c past d may h = let t = running_txn past c.args.situation.now d c.args.session c.in-Some.running.now (sym c.in-Some.ensures) in
+returns-in-Run-clause-answer g c past d may h = let t = running_txn past c.in-Some.running.now (d.states c.args.session) (sym c.in-Some.ensures) in
     let asker = c.of-asker.result in
     let s = c.in-Run.statement in
     let waits = subst (λ table. AreWaits g.R.Rules.kind table past asker.situation.now.waits) (sym c.of-asker.ensures.setup)

@@ -1,5 +1,4 @@
-use Rattle.std.specs.{List.Sorted.{IsStrictlySortedBy}, Map.{keys_of}}
-use Rattle.lab_engine.proofs.{Common.{ap, cons_option, each_row, entries_in, Kept, laid_over, matching_entries, matching_rows, Option, refl, Row, row_cmp, seen_of, Some, subst, sym, Version, with_row, without_row, [], ◌++◌, ◌∙◌, ◌≡◌}, Overlaid.{walk_step, matching_initial, walked}}
+use Rattle.lab_engine.proofs.{Common.{ap, cons_option, each_row, entries_in, Kept, laid_over, matching_entries, matching_rows, Option, refl, Row, row_cmp, seen_of, Some, subst, sym, Version, with_row, without_row, [], ◌++◌, ◌∙◌, ◌≡◌, IsStrictlySortedBy, keys_of}, Overlaid.{walk_step, matching_initial, walked}}
 use Rattle.lab_engine.proofs.reading.all_matching.Goals as goal
 
 pub loop-row-preserved-in-Some-seen_by : goal.loop-row-preserved-in-Some-seen_by

@@ -1,5 +1,4 @@
-use Rattle.lab_engine.proofs.{Common.{ap, cons_option, IfOk-weaker, IfSome, may_match, Row, seen_in, subst, true, with_row, [], ◌∙◌, ◌≡◌}, Overlaid.{named_matching}}
-use Rattle.lab_table.specs.Statement.{matched}
+use Rattle.lab_engine.proofs.{Common.{ap, cons_option, IfOk-weaker, IfSome, may_match, Row, seen_in, subst, true, with_row, [], ◌∙◌, ◌≡◌, matched}, Overlaid.{named_matching}}
 use Rattle.lab_engine.proofs.reading.rows_matching.Goals as goal
 
 pub returns-in-Some : goal.returns-in-Some

@@ -1,9 +1,9 @@
-use Rattle.lab_engine.proofs.{Common.{BlockedBy, has, IsTrue, subst, sym, ◌↔◌, ◌∙◌}, Waiting.{running_txn, others_block, waits_on_blocking}}
+use Rattle.lab_engine.proofs.{Common.{BlockedBy, has, IsTrue, subst, sym, ◌↔◌, ◌∙◌}, Describing.{running_txn}, Waiting.{others_block, waits_on_blocking}}
 use Rattle.lab_engine.proofs.waits.waits_on.Goals as goal
 
 pub returns : goal.returns
 returns g c = λ past d described.
-    let txn = running_txn past c.args.state.now c.in-Some-running.running described c.in-Some-running.is in
+    let txn = running_txn past c.in-Some-running.running described c.in-Some-running.is in
     let asks = c.of-asker.ensures.is past txn.0 d txn.1 txn.2 in
     let set = c.blockers.result in
     let s = c.in-Some.statement in

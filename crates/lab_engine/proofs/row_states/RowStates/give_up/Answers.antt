@@ -1,20 +1,19 @@
-use Rattle.std.specs.BTreeMap.{get}
-use Rattle.lab_engine.proofs.{Common.{ap, chain_kept, cond, IsSome, kept_at, None, pending_kept, refl, row_cmp, subst, sym, ◌==◌, ◌∙◌}, RowChanges.{changed_if, unchanged, left_off}}
+use Rattle.lab_engine.proofs.{Common.{ap, chain_kept, cond, IsSome, kept_at, None, pending_kept, refl, row_cmp, subst, sym, ◌==◌, ◌∙◌, tree_get}, RowChanges.{changed_if, unchanged, left_off}}
 use Rattle.lab_engine.proofs.row_states.RowStates.give_up.Goals as goal
 
 pub returns-in-Some-clause-chain : goal.returns-in-Some-clause-chain
 returns-in-Some-clause-chain c =
-    unchanged chain_kept c.args.row (kept_at c.args.self.now) c.give_up.new.self (get row_cmp (c.get_mut.follows.lender c.give_up.new.self))
+    unchanged chain_kept c.args.row (kept_at c.args.self.now) c.give_up.new.self (tree_get row_cmp (c.get_mut.follows.lender c.give_up.new.self))
     ((c.get_mut.follows.holds c.give_up.new.self).3 (subst IsSome c.in-Some.ensures.value refl)).0
     (c.give_up.ensures.chain ∙ ap chain_kept c.in-Some.ensures.value)
 
 pub returns-in-Some-clause-pending : goal.returns-in-Some-clause-pending
 returns-in-Some-clause-pending c = λ other n.
-    changed_if (λ o. pending_kept o n) c.args.row (kept_at c.args.self.now) c.give_up.new.self (get row_cmp (c.get_mut.follows.lender c.give_up.new.self))
+    changed_if (λ o. pending_kept o n) c.args.row (kept_at c.args.self.now) c.give_up.new.self (tree_get row_cmp (c.get_mut.follows.lender c.give_up.new.self))
     ((c.get_mut.follows.holds c.give_up.new.self).3 (subst IsSome c.in-Some.ensures.value refl)).0 (n == c.args.session) None
     (c.give_up.ensures.pending n ∙ ap (λ o. cond (n == c.args.session) None (pending_kept o n)) c.in-Some.ensures.value) other
 
 pub returns-in_default-clause-pending : goal.returns-in_default-clause-pending
 returns-in_default-clause-pending c = λ other n.
-    ap (λ m. pending_kept (get row_cmp m other) n) c.get_mut.follows.holds-at-none
+    ap (λ m. pending_kept (tree_get row_cmp m other) n) c.get_mut.follows.holds-at-none
     ∙ left_off (λ o. pending_kept o n) c.args.row (kept_at c.args.self.now) (n == c.args.session) None (ap (λ o. pending_kept o n) (sym c.in_default.ensures.value)) other

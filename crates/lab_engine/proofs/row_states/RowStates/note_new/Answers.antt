@@ -1,5 +1,4 @@
-use Rattle.lab_history.proofs.CountedEntries.{length_new_states}
-use Rattle.lab_engine.proofs.{Common.{ap, append-nil, arith, Bool, filter, is_none, length, List, list_any, map, pending_in, Row, row_eq, sym, take_all, Written, ◌++◌, ◌∙◌}, RowWalks.{noted}}
+use Rattle.lab_engine.proofs.{Common.{ap, append-nil, arith, Bool, filter, is_none, length, List, list_any, map, pending_in, Row, row_eq, sym, take_all, Written, ◌++◌, ◌∙◌, length_new_states}, RowWalks.{noted}}
 use Rattle.lab_engine.proofs.row_states.RowStates.note_new.Goals as goal
 
 pub loop-entry-init : goal.loop-entry-init

@@ -1,5 +1,4 @@
-use Rattle.std.proofs.{Common.{arith, sym, ap, ◌∙◌, length}, lemmas.Result.{on_ok_weaker}}
-use Rattle.lab_history.proofs.CountedEntries.{length_new_states}
+use Rattle.lab_engine.proofs.Common.{ap, arith, length, length_new_states, on_ok_weaker, sym, ◌∙◌}
 use Rattle.lab_engine.proofs.session_state.RunningTxn.reserve.Goals as goal
 
 pub returns-clause-places : goal.returns-clause-places

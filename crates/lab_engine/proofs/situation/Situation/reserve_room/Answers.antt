@@ -1,5 +1,4 @@
-use Rattle.std.specs.Result.{OnOk}
-use Rattle.lab_engine.proofs.{Common.{HoldsOutcome, on_ok_weaker, Outcome, refl, running_of, subst, sym}, Describing.{same_log, same_rows}}
+use Rattle.lab_engine.proofs.{Common.{HoldsOutcome, on_ok_weaker, Outcome, refl, running_of, subst, sym, OnOk}, Describing.{same_log, same_rows}}
 use Rattle.lab_engine.proofs.situation.Situation.reserve_room.Goals as goal
 
 pub reserve_places-requires : goal.reserve_places-requires
