@@ -1,6 +1,7 @@
-"""The scripts that bench/run plays, made by rule: sessions that take turns."""
+"""The scripts that bench/run and bench/native play, made by rule: sessions that take turns; and the engines."""
 from picks import numbers
 
+ENGINES = ("locking", "committed", "snapshot", "optimistic")
 SESSIONS = 9
 COMMANDS = 1_999
 
