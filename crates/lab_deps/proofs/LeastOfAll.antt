@@ -1,5 +1,5 @@
 -- The least edge from one transaction to another is of the first kind that there is, at the least row.
-use Rattle.std.proofs.{Common.{◌≡◌, ◌↔◌, ◌≤◌, ℕ, Bool, true, false, ◌==◌, ◌&&◌, cond, Option, Some, None, refl, sym, ap, ◌∙◌, subst, arith}, lemmas.{Bool.{false≢true, eqb-true, eq-eqb, le-ltb, and_parts, and_from}, Option.{none-some, same_Some}}}
+use Rattle.std.proofs.{Common.{◌≡◌, ◌↔◌, ◌≤◌, ◌+◌, ℕ, Bool, true, false, ◌==◌, ◌&&◌, cond, Option, Some, None, refl, sym, ap, ◌∙◌, subst, arith, inl, inr}, lemmas.{Bool.{cases_eq, false≢true, eqb-true, eq-eqb, le-ltb, and_parts, and_from}, Option.{none-some, same_Some}}}
 use Rattle.std.specs.{Prelude.{Contains, option_map}, Ordering.{is_lt, nat_cmp, ordering_then}, declared.cmp.Ordering.{Ordering, TheVariants.{Less, Equal, Greater}}}
 use Rattle.lab_table.{specs.Row.{Row, row_cmp}, proofs.Tests.{mapped_some}}
 use Rattle.lab_history.specs.{History.{History}, Version.{IsCommitted}}
@@ -11,67 +11,48 @@ use Rattle.lab_deps.specs.LeastRow.{comes_before, IsLeastRow}
 use Rattle.lab_deps.specs.Scopes.{Allows, edges_in}
 use Rattle.lab_deps.specs.Soundness.{Stands}
 use Rattle.lab_deps.specs.declared.{edge.{Edge.{Edge}, Kind.{Kind, TheVariants.{Write, ItemRead, PredicateRead, ItemAnti, PredicateAnti}}}, fault.LocalFault.TheVariants.{InstallOrder}, scope.Scope.{Scope, TheVariants.{All, Writes}}}
-use Rattle.lab_deps.proofs.{CollectedEdges.{edge_is_collected}, EdgeOrders.{same_kind}, ScopedEdges.{are_edges}, WriteEdges.{are_writes, writes_are}}
-
--- what five tests say of the kinds
-abbrev tells : Bool → Bool → Bool → Bool → Bool → Kind → Bool
-tells a b c d e Write = a
-tells a b c d e ItemRead = b
-tells a b c d e PredicateRead = c
-tells a b c d e ItemAnti = d
-tells a b c d e PredicateAnti = e
-
--- the first kind of which they are true
-abbrev first_told : Bool → Bool → Bool → Bool → Bool → Option Kind
-first_told a b c d e = cond a (Some Write) (cond b (Some ItemRead) (cond c (Some PredicateRead) (cond d (Some ItemAnti) (cond e (Some PredicateAnti) None))))
-
-told_is : (a b c d e : Bool) (kind : Kind) → first_told a b c d e ≡ Some kind → tells a b c d e kind ≡ true
-told_is true b c d e kind is = subst (λ k. tells true b c d e k ≡ true) (same_Some Write kind is) refl
-told_is false true c d e kind is = subst (λ k. tells false true c d e k ≡ true) (same_Some ItemRead kind is) refl
-told_is false false true d e kind is = subst (λ k. tells false false true d e k ≡ true) (same_Some PredicateRead kind is) refl
-told_is false false false true e kind is = subst (λ k. tells false false false true e k ≡ true) (same_Some ItemAnti kind is) refl
-told_is false false false false true kind is = subst (λ k. tells false false false false true k ≡ true) (same_Some PredicateAnti kind is) refl
-told_is false false false false false kind is = absurd (none-some kind is)
+use Rattle.lab_deps.proofs.{CollectedEdges.{edge_is_collected}, EachKind.{each_kind}, EdgeOrders.{same_kind}, LeastOfTwo.{fits_ends}, ScopedEdges.{are_edges}, WriteEdges.{are_writes, writes_are}}
 
 -- no kind before the first one, where it is this
 abbrev IsBehind : Option Kind → Kind → Type 0
 IsBehind None other = ⊥
 IsBehind (Some kind) other = kind_place kind ≤ kind_place other
 
-told_least : (a b c d e : Bool) (other : Kind) → tells a b c d e other ≡ true → IsBehind (first_told a b c d e) other
-told_least true b c d e other has = omega arith
-told_least false b c d e Write has = absurd (false≢true has)
-told_least false true c d e ItemRead has = omega arith
-told_least false true c d e PredicateRead has = omega arith
-told_least false true c d e ItemAnti has = omega arith
-told_least false true c d e PredicateAnti has = omega arith
-told_least false false c d e ItemRead has = absurd (false≢true has)
-told_least false false true d e PredicateRead has = omega arith
-told_least false false true d e ItemAnti has = omega arith
-told_least false false true d e PredicateAnti has = omega arith
-told_least false false false d e PredicateRead has = absurd (false≢true has)
-told_least false false false true e ItemAnti has = omega arith
-told_least false false false true e PredicateAnti has = omega arith
-told_least false false false false e ItemAnti has = absurd (false≢true has)
-told_least false false false false true PredicateAnti has = omega arith
-told_least false false false false false PredicateAnti has = absurd (false≢true has)
-
 module _ (a b : Kind → Bool) where
-  told_both : (kind : Kind) → tells (both_have a b Write) (both_have a b ItemRead) (both_have a b PredicateRead) (both_have a b ItemAnti) (both_have a b PredicateAnti) kind ≡ both_have a b kind
-  told_both Write = refl
-  told_both ItemRead = refl
-  told_both PredicateRead = refl
-  told_both ItemAnti = refl
-  told_both PredicateAnti = refl
+  -- of the kinds from a place on this is the first that two sets have
+  record IsFirstFrom (place : ℕ) (found : Option Kind) : Type 0 where
+    pub both : (kind : Kind) → found ≡ Some kind → both_have a b kind ≡ true
+    pub first : (other : Kind) → both_have a b other ≡ true → place ≤ kind_place other → IsBehind found other
+
+  none_left : IsFirstFrom 5 None
+  none_left = record {
+    both = λ kind is. absurd (none-some kind is);
+    first = λ other has. each_kind (λ k. 5 ≤ kind_place k → ⊥) (λ l. omega (arith, l)) (λ l. omega (arith, l)) (λ l. omega (arith, l)) (λ l. omega (arith, l)) (λ l. omega (arith, l)) other;
+  }
+
+  one_more : (kind : Kind) (place : ℕ) (rest : Option Kind) → kind_place kind ≡ place → IsFirstFrom (place + 1) rest → IsFirstFrom place (cond (both_have a b kind) (Some kind) rest)
+  one_more kind place rest at r =
+      elim (both_have a b kind) as (λ t. both_have a b kind ≡ t → IsFirstFrom place (cond t (Some kind) rest)) [
+        | true ↦ λ has. record { both = λ k is. ap (both_have a b) (sym (same_Some kind k is)) ∙ has; first = λ other _ behind. omega (arith, at, behind) }
+        | false ↦ λ off. record {
+          both = r.both;
+          first = λ other has behind. elim (cases_eq (kind_place other) place) [
+            | inl same ↦ absurd (false≢true (sym off ∙ (ap (both_have a b) (same_kind kind other (at ∙ sym same)) ∙ has)))
+            | inr apart ↦ r.first other has (omega (arith, behind, apart))
+          ];
+        }
+      ] refl
+
+  least_first : IsFirstFrom 0 (least_kind a b)
+  least_first = one_more Write 0 _ refl (one_more ItemRead 1 _ refl (one_more PredicateRead 2 _ refl (one_more ItemAnti 3 _ refl (one_more PredicateAnti 4 None refl none_left))))
 
   -- the first kind that two sets have is in both
   first_in_both : (kind : Kind) → least_kind a b ≡ Some kind → both_have a b kind ≡ true
-  first_in_both kind is = sym (told_both kind) ∙ told_is (both_have a b Write) (both_have a b ItemRead) (both_have a b PredicateRead) (both_have a b ItemAnti) (both_have a b PredicateAnti) kind is
+  first_in_both = least_first.both
 
   -- and none in both comes before
   none_first : (other : Kind) → both_have a b other ≡ true → IsBehind (least_kind a b) other
-  none_first other has =
-      told_least (both_have a b Write) (both_have a b ItemRead) (both_have a b PredicateRead) (both_have a b ItemAnti) (both_have a b PredicateAnti) other (told_both other ∙ has)
+  none_first other has = least_first.first other has (omega arith)
 
 -- rows are installed by their committed writers
 pub installed_by : (scope : Scope) (h : History) → Allows scope h → (row : Row) → Stands h (InstallOrder row) → ⊥
@@ -107,16 +88,9 @@ not_less e f from to behind rows =
 
 module _ (scope : Scope) (h : History) (allowed : Allows scope h) (n m : ℕ) (there kinds : Kind → Bool)
     (exact : (kind : Kind) → (there kind ≡ true) ↔ ((row : Row) × Contains (edges_in scope h) (edge_of n m kind row))) where
-  -- what an edge that fits has
-  ends : (e : Edge) → fits n m kinds e ≡ true → (e.from ≡ n) × (e.to ≡ m) × (kinds e.kind ≡ true)
-  ends e fit =
-      let first = and_parts (e.from == n) (e.to == m && kinds e.kind) fit in
-      let second = and_parts (e.to == m) (kinds e.kind) first.1 in
-      (eqb-true e.from n first.0, eqb-true e.to m second.0, second.1)
-
   fits_both : (e : Edge) → Contains (edges_in scope h) e → fits n m kinds e ≡ true → both_have there kinds e.kind ≡ true
   fits_both e has fit =
-      let w = ends e fit in
+      let w = fits_ends n m kinds e fit in
       and_from (there e.kind) (kinds e.kind) ((exact e.kind).1 (e.row, subst (Contains (edges_in scope h)) (λ i. edge_of (w.0 i) (w.1 i) e.kind e.row) has)) w.2
 
   -- where no kind is among both, no edge fits
@@ -166,5 +140,5 @@ module _ (scope : Scope) (h : History) (allowed : Allows scope h) (n m : ℕ) (t
         at None is e has fit =
             absurd (false≢true (sym (l.least some_edge.0 is_edge.3) ∙ ap (comes_before some_edge.0) is))
         at (Some r) is e has fit =
-            let w = ends e fit in
+            let w = fits_ends n m kinds e fit in
             not_less e (edge_of n m kind r) w.0 w.1 (behind e has fit) (λ same. sym (ap (comes_before e.row) is) ∙ l.least e.row (depends_of e has w.0 w.1 same))

@@ -6,25 +6,25 @@ if_found : (found : Option Edge) (P : Edge → Type 0) → ((e : Edge) → found
 if_found None P f = tt
 if_found (Some e) P f = f e refl
 
-module _ (all : List Edge) (n m : ℕ) (kinds : Kind → Bool) (found : Option Edge) (l : IsLeast (fits n m kinds) all found) where
-  -- what an edge that fits has
-  parts : (e : Edge) → fits n m kinds e ≡ true → (e.from ≡ n) × (e.to ≡ m) × (kinds e.kind ≡ true)
-  parts e fit =
-      let first = and_parts (e.from == n) (e.to == m && kinds e.kind) fit in
-      let second = and_parts (e.to == m) (kinds e.kind) first.1 in
-      (eqb-true e.from n first.0, eqb-true e.to m second.0, second.1)
+-- what an edge that fits has
+pub fits_ends : (n m : ℕ) (kinds : Kind → Bool) (e : Edge) → fits n m kinds e ≡ true → (e.from ≡ n) × (e.to ≡ m) × (kinds e.kind ≡ true)
+fits_ends n m kinds e fit =
+    let first = and_parts (e.from == n) (e.to == m && kinds e.kind) fit in
+    let second = and_parts (e.to == m) (kinds e.kind) first.1 in
+    (eqb-true e.from n first.0, eqb-true e.to m second.0, second.1)
 
+module _ (all : List Edge) (n m : ℕ) (kinds : Kind → Bool) (found : Option Edge) (l : IsLeast (fits n m kinds) all found) where
   pub found_there : IfSome found (Contains all)
   found_there = if_found found (Contains all) (λ e is. (l.there e is).0)
 
   pub found_from : IfSome found (λ e. e.from ≡ n)
-  found_from = if_found found (λ e. e.from ≡ n) (λ e is. (parts e (l.there e is).1).0)
+  found_from = if_found found (λ e. e.from ≡ n) (λ e is. (fits_ends n m kinds e (l.there e is).1).0)
 
   pub found_to : IfSome found (λ e. e.to ≡ m)
-  found_to = if_found found (λ e. e.to ≡ m) (λ e is. (parts e (l.there e is).1).1)
+  found_to = if_found found (λ e. e.to ≡ m) (λ e is. (fits_ends n m kinds e (l.there e is).1).1)
 
   pub found_kind : IfSome found (λ e. kinds e.kind ≡ true)
-  found_kind = if_found found (λ e. kinds e.kind ≡ true) (λ e is. (parts e (l.there e is).1).2)
+  found_kind = if_found found (λ e. kinds e.kind ≡ true) (λ e is. (fits_ends n m kinds e (l.there e is).1).2)
 
   not_first : (e : Edge) → Contains all e → e.from ≡ n → e.to ≡ m → kinds e.kind ≡ true → comes_first e found ≡ false
   not_first e there from to kind =

@@ -1,5 +1,5 @@
 -- Cells that gain bits, one after another and all at once.
-use Rattle.std.{proofs.{Common.{◌≡◌, ◌≢◌, ◌≤◌, ◌<◌, ◌+◌, ◌*◌, ℕ, zero, suc, List, [], ◌∷◌, length, get_or, set, take, drop, replicate, refl, sym, ap, ◌∙◌, subst, arith, inl, inr}, lemmas.{Bool.{cases_lt, cases_eq}, List.{length-replicate, length-take, get_or-take, get_or-drop, get_or-set_other, get_or_past}, Nat.{mul-add-lt, Bits.{bit_at_or, bit_at-zero, same_from_bits}}}, Math.Nat.{min-le_left}}, specs.Prelude.{bit_or}}
+use Rattle.std.{proofs.{Common.{◌≡◌, ◌≤◌, ◌<◌, ◌+◌, ◌*◌, ℕ, zero, suc, List, [], ◌∷◌, length, get_or, set, take, drop, replicate, refl, sym, ap, ◌∙◌, subst, arith, inl, inr}, lemmas.{Bool.{cases_lt}, List.{length-replicate, length-take, get_or-take, get_or-drop, get_or_past}, Nat.{mul-add-lt, Bits.{bit_at_or, bit_at-zero, same_from_bits}}}, Math.Nat.{min-le_left}}, specs.Prelude.{bit_or}}
 use Rattle.lab_deps.specs.{Marks.{or_at, marked, all_marked, turns_marked, Reaches}, Turns.{AreMarks}}
 
 or_of_three : (a b c : ℕ) → bit_or (bit_or a b) c ≡ bit_or a (bit_or b c)
@@ -113,17 +113,3 @@ first_marked w reader most ns marks cs low is =
     let long : length {A = ℕ} (replicate (most + 1) 0) ≡ most + 1 = length-replicate (most + 1) 0 in
     ap (λ ms. all_marked (reader * w) ms cs) is
     ∙ (all_of_marked ns (replicate (most + 1) 0) cs (reader * w) 16 (λ k. omega (arith, low k, long)) ∙ ap (marked (reader * w) 1 16 ns) (all_of_none (most + 1) cs (reader * w)))
-
-zero_set : (cs : List ℕ) (at : ℕ) → get_or (set cs at 0) at 0 ≡ 0
-zero_set [] zero = refl
-zero_set [] (suc at) = refl
-zero_set (c ∷ cs) zero = refl
-zero_set (c ∷ cs) (suc at) = zero_set cs at
-
--- a cell is empty where it was, or is the one that is cleared
-pub cleared : (cs : List ℕ) (at k : ℕ) → (k ≢ at → get_or cs k 0 ≡ 0) → get_or (set cs at 0) k 0 ≡ 0
-cleared cs at k before =
-    elim (cases_eq k at) [
-      | inl same ↦ ap (λ n. get_or (set cs at 0) n 0) same ∙ zero_set cs at
-      | inr other ↦ get_or-set_other cs at k 0 0 other ∙ before other
-    ]

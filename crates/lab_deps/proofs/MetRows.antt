@@ -1,5 +1,5 @@
 -- The rows at which one transaction depends on another are found at what one of them wrote.
-use Rattle.std.proofs.{Common.{◌≡◌, ℕ, suc, ◌-◌, ◌≤◌, ◌||◌, Bool, true, false, Option, Some, None, List, refl, sym, ap, ◌∙◌, subst, arith}, lemmas.Bool.{false≢true, eqb-true, eq-eqb, ltb-true, lt-ltb, and_parts, and_from}}
+use Rattle.std.proofs.{Common.{◌≡◌, ℕ, suc, ◌-◌, ◌≤◌, Bool, true, false, Option, Some, None, List, refl, sym, ap, ◌∙◌, subst, arith}, lemmas.Bool.{false≢true, eqb-true, eq-eqb, ltb-true, lt-ltb, and_parts, and_from, or_left, or_right}}
 use Rattle.std.specs.{Prelude.{Contains, is_some, nat_lt, nat_le}, List.Sorted.{IsStrictlySortedBy}}
 use Rattle.std.specs.FinMap as map
 use Rattle.lab_table.{specs.{Row.{Row, row_cmp}, Statement.{matches, may_match}, declared.statement.Statement.{Statement}}, proofs.OneRow.{no_match}}
@@ -23,14 +23,6 @@ le_true a b e = search (arith, e)
 le_is : (a b : ℕ) → a ≤ b → nat_le a b ≡ true
 le_is a b l = search (arith, l)
 
-either_first : (a b : Bool) → a ≡ true → (a || b) ≡ true
-either_first true b is = refl
-either_first false b is = absurd (false≢true is)
-
-either_second : (a b : Bool) → b ≡ true → (a || b) ≡ true
-either_second true b is = refl
-either_second false b is = is
-
 module _ (h : History) where
   turns_change : (s : Statement) (row : Row) (q : ℕ) → turns h s row (suc q) ≡ changes h s row q
   turns_change s row q =
@@ -48,10 +40,10 @@ module _ (h : History) where
   -- an operation looks at a row at which it is tied
   for_looks : (kind : Kind) (op : Op) (row : Row) → looks_for kind op row ≡ true → looks_at op row ≡ true
   for_looks Write op row looks = absurd (false≢true looks)
-  for_looks ItemRead op row looks = either_second (may_match op.statement row) (is_some (map.get op.rows row)) looks
-  for_looks PredicateRead op row looks = either_first (may_match op.statement row) (is_some (map.get op.rows row)) looks
-  for_looks ItemAnti op row looks = either_second (may_match op.statement row) (is_some (map.get op.rows row)) looks
-  for_looks PredicateAnti op row looks = either_first (may_match op.statement row) (is_some (map.get op.rows row)) looks
+  for_looks ItemRead op row looks = or_right (may_match op.statement row) (is_some (map.get op.rows row)) looks
+  for_looks PredicateRead op row looks = or_left (may_match op.statement row) (is_some (map.get op.rows row)) looks
+  for_looks ItemAnti op row looks = or_right (may_match op.statement row) (is_some (map.get op.rows row)) looks
+  for_looks PredicateAnti op row looks = or_left (may_match op.statement row) (is_some (map.get op.rows row)) looks
 
   -- so it isn't tied outside its bounds
   pub outside_fails : (kind : Kind) (n reader : ℕ) (op : Op) (test : Row → Bool) → ((row : Row) → looks_at op row ≡ true → test row ≡ true) → (row : Row) → test row ≡ false

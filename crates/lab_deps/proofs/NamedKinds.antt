@@ -1,41 +1,22 @@
 -- The named sets of kinds are those that their names say.
 use Rattle.std.proofs.Common.{◌≡◌, refl}
-use Rattle.lab_deps.specs.{KindSets.{among, is_any, is_write, is_flow, is_anti, is_item_anti}, declared.{edge.Kind.{Kind, TheVariants.{Write, ItemRead, PredicateRead, ItemAnti, PredicateAnti}}, kinds.TheConstants.Kinds.{ALL, WRITES, FLOW, ANTI, ITEM_ANTI}}}
+use Rattle.lab_deps.specs.{KindSets.{among, is_any, is_write, is_flow, is_anti, is_item_anti}, declared.{edge.Kind.{Kind}, kinds.TheConstants.Kinds.{ALL, WRITES, FLOW, ANTI, ITEM_ANTI}}}
+use Rattle.lab_deps.proofs.EachKind.{each_kind}
 
 pub all_has : (kind : Kind) → among ALL kind ≡ is_any kind
-all_has Write = refl
-all_has ItemRead = refl
-all_has PredicateRead = refl
-all_has ItemAnti = refl
-all_has PredicateAnti = refl
+all_has = each_kind (λ kind. among ALL kind ≡ is_any kind) refl refl refl refl refl
 
 pub writes_has : (kind : Kind) → among WRITES kind ≡ is_write kind
-writes_has Write = refl
-writes_has ItemRead = refl
-writes_has PredicateRead = refl
-writes_has ItemAnti = refl
-writes_has PredicateAnti = refl
+writes_has = each_kind (λ kind. among WRITES kind ≡ is_write kind) refl refl refl refl refl
 
 pub flow_has : (kind : Kind) → among FLOW kind ≡ is_flow kind
-flow_has Write = refl
-flow_has ItemRead = refl
-flow_has PredicateRead = refl
-flow_has ItemAnti = refl
-flow_has PredicateAnti = refl
+flow_has = each_kind (λ kind. among FLOW kind ≡ is_flow kind) refl refl refl refl refl
 
 pub antis_has : (kind : Kind) → among ANTI kind ≡ is_anti kind
-antis_has Write = refl
-antis_has ItemRead = refl
-antis_has PredicateRead = refl
-antis_has ItemAnti = refl
-antis_has PredicateAnti = refl
+antis_has = each_kind (λ kind. among ANTI kind ≡ is_anti kind) refl refl refl refl refl
 
 pub item_antis_has : (kind : Kind) → among ITEM_ANTI kind ≡ is_item_anti kind
-item_antis_has Write = refl
-item_antis_has ItemRead = refl
-item_antis_has PredicateRead = refl
-item_antis_has ItemAnti = refl
-item_antis_has PredicateAnti = refl
+item_antis_has = each_kind (λ kind. among ITEM_ANTI kind ≡ is_item_anti kind) refl refl refl refl refl
 
 pub all_named : among ALL ≡ is_any
 all_named = λ i kind. all_has kind i

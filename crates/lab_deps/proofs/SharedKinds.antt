@@ -1,5 +1,5 @@
 -- Kinds whose bits two cells share.
-use Rattle.std.{proofs.{Common.{◌≡◌, ◌↔◌, ◌||◌, ◌⊎◌, ℕ, Bool, true, false, refl, sym, ap, ◌∙◌, inl, inr}, lemmas.{Bool.{eqb-true, eq-eqb, false≢true, or_cases}, Nat.{and_assoc, and_comm}}}, specs.{Prelude.{bit_and}, Int.Bits.{and_self}}}
+use Rattle.std.{proofs.{Common.{◌≡◌, ◌↔◌, ◌||◌, ℕ, true, sym, ap, ◌∙◌, inl, inr}, lemmas.{Bool.{eqb-true, eq-eqb, false≢true, or_cases, or_left, or_right}, Nat.{and_assoc, and_comm}}}, specs.{Prelude.{bit_and}, Int.Bits.{and_self}}}
 use Rattle.lab_deps.{specs.{KindBits.{bit, has_bit, has_any}, declared.edge.Kind.{Kind, TheVariants.{Write, ItemRead, PredicateRead, ItemAnti, PredicateAnti}}}, proofs.ExactArrows.{no_bit}}
 
 -- bits that stand in both of two cells stand in what they share, and the other way round
@@ -48,19 +48,12 @@ any_bit c some =
       ]
     ]
 
-either_true : (x y : Bool) → (x ≡ true) ⊎ (y ≡ true) → (x || y) ≡ true
-either_true true y some = refl
-either_true false y (inl is) = absurd (false≢true is)
-either_true false y (inr is) = is
-
 bit_any : (c : ℕ) (kind : Kind) → has_bit c kind ≡ true → has_any c ≡ true
-bit_any c Write is = either_true (has_bit c Write) _ (inl is)
-bit_any c ItemRead is = either_true (has_bit c Write) _ (inr (either_true (has_bit c ItemRead) _ (inl is)))
-bit_any c PredicateRead is = either_true (has_bit c Write) _ (inr (either_true (has_bit c ItemRead) _ (inr (either_true (has_bit c PredicateRead) _ (inl is)))))
-bit_any c ItemAnti is =
-    either_true (has_bit c Write) _ (inr (either_true (has_bit c ItemRead) _ (inr (either_true (has_bit c PredicateRead) _ (inr (either_true (has_bit c ItemAnti) _ (inl is)))))))
-bit_any c PredicateAnti is =
-    either_true (has_bit c Write) _ (inr (either_true (has_bit c ItemRead) _ (inr (either_true (has_bit c PredicateRead) _ (inr (either_true (has_bit c ItemAnti) _ (inr is)))))))
+bit_any c Write is = or_left (has_bit c Write) _ is
+bit_any c ItemRead is = or_right (has_bit c Write) _ (or_left (has_bit c ItemRead) _ is)
+bit_any c PredicateRead is = or_right (has_bit c Write) _ (or_right (has_bit c ItemRead) _ (or_left (has_bit c PredicateRead) _ is))
+bit_any c ItemAnti is = or_right (has_bit c Write) _ (or_right (has_bit c ItemRead) _ (or_right (has_bit c PredicateRead) _ (or_left (has_bit c ItemAnti) _ is)))
+bit_any c PredicateAnti is = or_right (has_bit c Write) _ (or_right (has_bit c ItemRead) _ (or_right (has_bit c PredicateRead) _ (or_right (has_bit c ItemAnti) _ is)))
 
 -- two cells share a kind where what they share has some bit
 pub some_shared : (a b : ℕ) → (has_any (bit_and a b) ≡ true) ↔ IsShared a b

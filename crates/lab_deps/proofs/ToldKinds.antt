@@ -4,34 +4,17 @@ use Rattle.std.specs.Prelude.{Contains, bit_and, bit_or}
 use Rattle.std.proofs.lemmas.{Bool.{cases_eq, eq-eqb, eqb-true}, List.{append-nil, get_or-set_same, get_or-set_other, length-set, Elements.{Contains-append_left, Contains-append_right, Contains-append_cases}}, Nat.{and_or_self, and_or_apart, mul-add-lt, same_from_place}}
 use Rattle.lab_table.{specs.Row.{Row}, proofs.Members.{first_member, only_member}}
 use Rattle.lab_deps.specs.{Collected.{apart}, KindBits.{bit, has_bit, place, cell_at, edge_of, Tells}, declared.edge.{Edge.{Edge}, Kind.{Kind, TheVariants.{Write, ItemRead, PredicateRead, ItemAnti, PredicateAnti}}}}
+use Rattle.lab_deps.proofs.EachKind.{each_kind}
 
 -- two kinds are one, or share no bit
+abbrev AreApart : Kind → Kind → Type 0
+AreApart a b = (a ≡ b) ⊎ (bit_and (bit a) (bit b) ≡ 0)
+
 pub kinds_apart : (a b : Kind) → (a ≡ b) ⊎ (bit_and (bit a) (bit b) ≡ 0)
-kinds_apart Write Write = inl refl
-kinds_apart Write ItemRead = inr refl
-kinds_apart Write PredicateRead = inr refl
-kinds_apart Write ItemAnti = inr refl
-kinds_apart Write PredicateAnti = inr refl
-kinds_apart ItemRead Write = inr refl
-kinds_apart ItemRead ItemRead = inl refl
-kinds_apart ItemRead PredicateRead = inr refl
-kinds_apart ItemRead ItemAnti = inr refl
-kinds_apart ItemRead PredicateAnti = inr refl
-kinds_apart PredicateRead Write = inr refl
-kinds_apart PredicateRead ItemRead = inr refl
-kinds_apart PredicateRead PredicateRead = inl refl
-kinds_apart PredicateRead ItemAnti = inr refl
-kinds_apart PredicateRead PredicateAnti = inr refl
-kinds_apart ItemAnti Write = inr refl
-kinds_apart ItemAnti ItemRead = inr refl
-kinds_apart ItemAnti PredicateRead = inr refl
-kinds_apart ItemAnti ItemAnti = inl refl
-kinds_apart ItemAnti PredicateAnti = inr refl
-kinds_apart PredicateAnti Write = inr refl
-kinds_apart PredicateAnti ItemRead = inr refl
-kinds_apart PredicateAnti PredicateRead = inr refl
-kinds_apart PredicateAnti ItemAnti = inr refl
-kinds_apart PredicateAnti PredicateAnti = inl refl
+kinds_apart =
+    each_kind (λ a. (b : Kind) → AreApart a b) (each_kind (AreApart Write) (inl refl) (inr refl) (inr refl) (inr refl) (inr refl))
+    (each_kind (AreApart ItemRead) (inr refl) (inl refl) (inr refl) (inr refl) (inr refl)) (each_kind (AreApart PredicateRead) (inr refl) (inr refl) (inl refl) (inr refl) (inr refl))
+    (each_kind (AreApart ItemAnti) (inr refl) (inr refl) (inr refl) (inl refl) (inr refl)) (each_kind (AreApart PredicateAnti) (inr refl) (inr refl) (inr refl) (inr refl) (inl refl))
 
 pub bit_set : (c : ℕ) (k : Kind) → has_bit (bit_or c (bit k)) k ≡ true
 bit_set c k = eq-eqb (bit_and (bit_or c (bit k)) (bit k)) (bit k) (and_or_self (bit k) c)

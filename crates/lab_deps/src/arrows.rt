@@ -1,43 +1,44 @@
-//! Which kinds of dependencies there are between the transactions of a history.
+//! Which kinds of dependencies there are between the committed transactions of a history.
 
-ghost use Rattle.std.specs.Prelude.{◌≡◌, ◌≢◌, ◌≤◌, ◌<◌, ◌+◌, ◌*◌, ◌++◌, ◌∷◌, [], true, ℕ, List, get_or, set, bit_or, Contains, IfOk, IfSome};
-ghost use Rattle.lab_history.specs.declared.transaction.Txn.{Txn as Transaction};
-ghost use Rattle.lab_deps.specs.KindBits.{bit, has_bit, place, bits_at, bits_of, Tells};
+ghost use Rattle.std.specs.Prelude.{◌≡◌, ◌≤◌, ◌+◌, ◌*◌, ◌++◌, ◌∷◌, [], ℕ, true, List, drop, get_or, length, set, bit_or, IfOk, IfSome};
+ghost use Rattle.std.specs.List.Sorted.{IsStrictlyIncreasing};
+ghost use Rattle.lab_history.specs.History.{History as Recorded};
+ghost use Rattle.lab_history.specs.Limits.{max_transactions};
+ghost use Rattle.lab_deps.specs.KindBits.{bit, has_bit, place, bits_at, Tells};
 ghost use Rattle.lab_deps.specs.Marks.{Reaches, turns_marked};
-ghost use Rattle.lab_deps.specs.Numbering.{HasPlaces};
+ghost use Rattle.lab_deps.specs.Numbering.{AreNodes, HasPlaces, IsNumbering};
 ghost use Rattle.lab_deps.specs.Turns.{AreMarks};
 ghost use Rattle.lab_deps.specs.declared.edge.Edge.{Edge as Spelled};
 
-mod row;
-
 use crate::edge::{Edge, Kind};
+use crate::nodes::{place_in, places_of};
 use crate::turns::Turns;
-use crate::txn_places::{place_in, places_of};
-use lab_history::History;
 use lab_table::{NoMemory, TxnNo};
 use std::alloc::Global;
 
 /// Which kinds of dependencies there are between each two transactions.
 #[derive(Drop)]
 pub struct Arrows {
-    /// The place of each transaction by its number, counted from 1; 0 where there is no such transaction.
+    /// The place of each transaction by its number, counted from 1; 0 where it isn't among them.
     places: Vec<u16>,
     /// One more than there are places.
     width: u16,
-    /// For each two places the bits of the kinds, one row of cells after another.
+    /// For each two places the bits of the kinds, one row of cells after another. Those of a place and itself, and those of
+    /// place 0, say nothing.
     cells: Vec<u8>,
 }
 
 impl Arrows {
-    /// No dependencies between a history's transactions. NoMemory where an allocation was refused.
-    pub fn none(alloc: Global, history: &History) -> Result<Arrows, NoMemory>
+    /// No dependencies between transactions with these numbers. NoMemory where an allocation was refused.
+    pub fn none(alloc: Global, numbers: &[TxnNo]) -> Result<Arrows, NoMemory>
+        requires few { length numbers.now ≤ max_transactions }
+        requires rising { IsStrictlyIncreasing numbers.now }
         ensures told { IfOk result (λ arrows. Tells arrows.places.items arrows.width arrows.cells.items arrows.places.items []) }
-        ensures places { IfOk result (λ arrows. HasPlaces history.now arrows.places.items) }
-        ensures placed { IfOk result (λ arrows. (t : Transaction) → Contains history.now.txns t → place arrows.places.items t.no ≢ 0) }
+        ensures numbered { IfOk result (λ arrows. IsNumbering numbers.now arrows.places.items) }
+        ensures places { IfOk result (λ arrows. (h : Recorded) → AreNodes h numbers.now → HasPlaces h arrows.places.items) }
     {
-        let txns = history.txns().as_slice();
-        let places = places_of(alloc, txns)?;
-        let width = txns.len() as u16 + 1;
+        let places = places_of(alloc, numbers)?;
+        let width = numbers.len() as u16 + 1;
         let cells = vec![in alloc; 0; width as usize * width as usize]?;
         Ok(Arrows {
             places,
@@ -46,16 +47,13 @@ impl Arrows {
         })
     }
 
-    /// What its memory is from.
-    pub fn allocator(&self) -> Global {
-        *self.cells.allocator()
-    }
-
     /// The bits of the kinds from one place to another.
     pub fn bits_at(&self, from: u16, to: u16) -> u8
         ensures { result ≡ bits_at self.now.width self.now.cells.items from to }
     {
-        if from == 0 {
+        if from == to {
+            0
+        } else if from == 0 {
             0
         } else if to == 0 {
             0
@@ -64,22 +62,21 @@ impl Arrows {
         }
     }
 
-    /// The bits of the kinds from one transaction to another.
-    pub fn bits(&self, from: TxnNo, to: TxnNo) -> u8
-        ensures { result ≡ bits_of self.now.places.items self.now.width self.now.cells.items from to }
+    /// The cells from a place to the others.
+    pub fn row(&self, from: u16) -> &[u8]
+        ensures { result.now ≡ drop (from * self.now.width + 1) self.now.cells.items }
     {
-        let i = self.place(from);
-        let j = self.place(to);
-        if i == 0 {
-            0
-        } else if j == 0 {
-            0
-        } else {
-            self.cell(self.at(i, j))
-        }
+        self.cells.get(self.at(from, 1)..).unwrap_or(&[])
     }
 
-    /// The place of a transaction, counted from 1; 0 where there is no such transaction.
+    /// The place of each transaction by its number.
+    pub fn places(&self) -> &[u16]
+        ensures { result.now ≡ self.now.places.items }
+    {
+        &self.places
+    }
+
+    /// The place of a transaction, counted from 1; 0 where it isn't among them.
     pub fn place(&self, number: TxnNo) -> u16
         ensures { result ≡ place self.now.places.items number }
     {
@@ -97,13 +94,6 @@ impl Arrows {
         ensures { result ≡ get_or self.now.cells.items at 0 }
     {
         self.cells.get(at).copied().unwrap_or(0)
-    }
-
-    /// One more than there are places.
-    pub fn width(&self) -> u16
-        ensures { result ≡ self.now.width }
-    {
-        self.width
     }
 
     /// Whether there are cells between a place and all up to another one.
@@ -125,31 +115,6 @@ impl Arrows {
     {
         let width = self.width;
         turns.mark(&mut self.cells, width, reader, place);
-    }
-
-    /// Takes the bits between each transaction and itself away.
-    pub fn clear_own(&mut self)
-        ensures places { self.new.places.items ≡ self.old.places.items }
-        ensures width { self.new.width ≡ self.old.width }
-        ensures told { (made : List ℕ) (es : List Spelled) → Tells self.old.places.items self.old.width self.old.cells.items made es
-            → Tells self.old.places.items self.old.width self.new.cells.items made es }
-        ensures own { (n : ℕ) → n < self.old.width → get_or self.new.cells.items (n * self.old.width + n) 0 ≡ 0 }
-    {
-        for place in 0..self.width {
-            let at = self.at(place, place);
-            self.clear(at);
-        }
-    }
-
-    /// Takes all bits of a cell away.
-    fn clear(&mut self, at: usize)
-        ensures places { self.new.places.items ≡ self.old.places.items }
-        ensures width { self.new.width ≡ self.old.width }
-        ensures cells { self.new.cells.items ≡ set self.old.cells.items at 0 }
-    {
-        if at < self.cells.len() {
-            self.cells[at] = 0;
-        }
     }
 
     /// Sets an edge's bit.

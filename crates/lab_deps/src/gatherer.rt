@@ -1,13 +1,12 @@
 //! What finds the kinds of dependencies.
 
-ghost use Rattle.std.specs.Prelude.{◌≡◌, ◌↔◌, ℕ, true, Contains, OnOk, IfOk};
-ghost use Rattle.lab_table.specs.Row.{Row};
-ghost use Rattle.lab_deps.specs.EdgesByRow.{rows_of, unlisted, walked};
-ghost use Rattle.lab_deps.specs.KindBits.{has_bit, bits_of, edge_of, Tells};
-ghost use Rattle.lab_deps.specs.Numbering.{FitsVersions, where_fits};
+ghost use Rattle.std.specs.Prelude.{OnOk, IfOk};
+ghost use Rattle.lab_deps.specs.EdgesByRow.{unlisted, walked};
+ghost use Rattle.lab_deps.specs.KindBits.{Tells};
+ghost use Rattle.lab_deps.specs.KindsBetween.{IsTold};
+ghost use Rattle.lab_deps.specs.Numbering.{AreNodes, FitsVersions, where_fits};
 ghost use Rattle.lab_deps.specs.Scopes.{Allows, edges_in};
 ghost use Rattle.lab_deps.specs.Sinks.{Grows};
-ghost use Rattle.lab_deps.specs.declared.edge.Kind.{Kind as Way};
 
 use crate::arrows::Arrows;
 use crate::edge::Edge;
@@ -15,10 +14,9 @@ use crate::reading::Reading;
 use crate::row_sink::RowSink;
 use crate::scope::{Scope, add_edges};
 use crate::sink::EdgeSink;
-use crate::versions::Versions;
-use indexmap::IndexMap;
+use crate::versions::{Versions, versions_of_rows};
 use lab_history::History;
-use lab_table::{NoMemory, RowName, Statement};
+use lab_table::{NoMemory, Statement, TxnNo};
 use std::alloc::Global;
 
 /// Cells that are told of edges, and for what a statement answers room.
@@ -28,25 +26,24 @@ struct Gatherer {
     answers: Vec<bool>,
 }
 
-/// The kinds of those dependencies of a history that are meant. NoMemory where an allocation was refused.
+/// The kinds of those dependencies of a history that are meant, between its committed transactions. NoMemory where an
+/// allocation was refused.
 pub fn arrows_of(
     alloc: Global,
     history: &History,
     scope: Scope,
-    rows: &IndexMap<RowName, Versions>,
+    numbers: &[TxnNo],
 ) -> Result<Arrows, NoMemory>
     requires allowed { Allows scope history.now }
-    requires versions { rows.now.entries ≡ rows_of history.now }
-    ensures { IfOk result (λ arrows. (from to : ℕ) (kind : Way) →
-        has_bit (bits_of arrows.places.items arrows.width arrows.cells.items from to) kind ≡ true ↔ ((row : Row) × Contains (edges_in scope history.now) (edge_of from to kind row))) }
+    requires nodes { AreNodes history.now numbers.now }
+    ensures { IfOk result (λ arrows. IsTold (edges_in scope history.now) numbers.now arrows.places.items arrows.width arrows.cells.items) }
 {
-    let arrows = Arrows::none(alloc, history)?;
+    let arrows = Arrows::none(alloc, numbers)?;
+    let rows = versions_of_rows(alloc, history, arrows.places())?;
     let answers = Vec::new(alloc);
     let mut gatherer = Gatherer { arrows, answers };
-    add_edges(&mut gatherer, history, scope, rows)?;
-    let mut arrows = gatherer.arrows;
-    arrows.clear_own();
-    Ok(arrows)
+    add_edges(&mut gatherer, history, scope, &rows)?;
+    Ok(gatherer.arrows)
 }
 
 /// Keeps of each edge its kind.

@@ -29,7 +29,6 @@ static CALLS: [Call; 18] = [
     Call::Edges,
     Call::DependenciesOf,
     Call::DependenciesOfWrites,
-    Call::DependenciesTable,
 ];
 
 /// Fails where a call that makes a statement isn't right with one of its allocations refused, or has no last

@@ -32,7 +32,6 @@ pub enum Call {
     Edges,
     DependenciesOf,
     DependenciesOfWrites,
-    DependenciesTable,
 }
 
 /// Whether a copy lists what its original lists.
@@ -223,10 +222,7 @@ pub fn is_right(alloc: Global, growth: u16, call: Call, inputs: &Inputs) -> Resu
         ),
         Call::RecordingOf => is_recorded(alloc, &inputs.recording),
         Call::RecordingFromLog => is_recorded_from_log(alloc, growth, &inputs.recording),
-        Call::CheckLocal
-        | Call::Edges
-        | Call::DependenciesOf
-        | Call::DependenciesOfWrites
-        | Call::DependenciesTable => is_right_of_dependencies(alloc, call, inputs),
+        Call::CheckLocal | Call::Edges | Call::DependenciesOf | Call::DependenciesOfWrites =>
+            is_right_of_dependencies(alloc, call, inputs),
     }
 }

@@ -5,7 +5,7 @@ ghost use Rattle.lab_deps.specs.Soundness.{IsSound};
 
 use crate::inputs::{Inputs, Named};
 use crate::refused_calls::Call;
-use lab_deps::{Dependencies, Edge, Kind, KindRow, Kinds, Sound, check_local, edges};
+use lab_deps::{Dependencies, Edge, Kind, Kinds, Sound, check_local, edges};
 use lab_history::History;
 use lab_table::NoMemory;
 use std::alloc::Global;
@@ -28,32 +28,22 @@ fn are_due(found: &[Edge], named: &Named) -> bool {
     found.len() == KINDS.len()
 }
 
-/// Whether dependencies of the second transaction on the first are of these kinds.
+/// Whether dependencies of the second transaction on the first are of these kinds, and there are no others.
 fn are_all(found: Dependencies, named: &Named, kinds: Kinds) -> bool {
-    let right = found.kinds(named.first, named.second) == kinds;
+    let right = found.kinds(named.first, named.second) == kinds && are_nodes(&found, named, kinds);
     drop(found);
     right
 }
 
-/// Whether the table of the two transactions has these kinds from the first to the second, and no others.
-fn are_listed(
-    alloc: Global,
-    found: &Dependencies,
-    named: &Named,
-    kinds: Kinds,
-) -> Result<bool, NoMemory> {
-    let numbers = [named.second, named.first];
-    let table = found.table(alloc, &numbers)?;
-    Ok(
-        table.len() == 2
-            && is_row(table.row(0), Kinds::none(), Kinds::none())
-            && is_row(table.row(1), kinds, Kinds::none()),
-    )
-}
-
-/// Whether a row has these kinds to the two transactions of its list.
-fn is_row(row: KindRow<'_>, first: Kinds, second: Kinds) -> bool {
-    row.len() == 2 && row.kinds(0) == first && row.kinds(1) == second
+/// Whether the nodes are those of the two transactions, with these kinds from the first to the second, and no others.
+fn are_nodes(found: &Dependencies, named: &Named, kinds: Kinds) -> bool {
+    found.len() == 2
+        && found.number(0) == named.first
+        && found.number(1) == named.second
+        && found.kinds_at(0, 1) == kinds
+        && found.kinds_at(1, 0) == Kinds::none()
+        && !found.is_bare(0, 0, 2)
+        && found.is_bare(1, 0, 2)
 }
 
 /// Calls on the dependencies of a sound history.
@@ -81,12 +71,6 @@ fn is_right_of_edges(
         Call::DependenciesOf => {
             let found = Dependencies::of(alloc, history, sound)?;
             Ok(are_all(found, named, all))
-        }
-        Call::DependenciesTable => {
-            let found = Dependencies::of(alloc, history, sound)?;
-            let right = are_listed(alloc, &found, named, all);
-            drop(found);
-            right
         }
         _ => {
             let found = Dependencies::of_writes(alloc, history)?;

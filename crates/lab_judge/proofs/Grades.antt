@@ -1,23 +1,18 @@
 -- A history has one level.
 use Rattle.std.{proofs.Common.{◌≡◌, ℕ, ◌+◌, ◌≤◌, cond, List, [], ◌∷◌, refl, arith}, specs.Prelude.{not}}
 use Rattle.lab_history.specs.History.{History}
-use Rattle.lab_deps.specs.declared.edge.{Edge.{Edge}, Kind.{Kind, TheVariants.{Write, ItemRead, PredicateRead, ItemAnti, PredicateAnti}}}
+use Rattle.lab_deps.{specs.declared.edge.{Edge.{Edge}, Kind.{Kind}}, proofs.EachKind.{each_kind}}
 use Rattle.lab_judge.{specs.{Phenomena.{is_write, is_item_anti, count_kind, MeetsPl1, MeetsPl2, MeetsPl299, MeetsPl3, IsGrade}, Places.{is_anti}, declared.report.Grade.{Grade, TheVariants.{BelowPl1, Pl1, Pl2, Pl299, Pl3, Unsound}}}, proofs.ClosedWalks.{times, times_are}}
 
 -- one more, or the same, of two counts
 more_items : (k : Kind) (a b : ℕ) → a ≤ b → cond (is_item_anti k) (1 + a) a ≤ cond (is_anti k) (1 + b) b
-more_items Write a b le = le
-more_items ItemRead a b le = le
-more_items PredicateRead a b le = le
-more_items ItemAnti a b le = omega (arith, le)
-more_items PredicateAnti a b le = omega (arith, le)
+more_items =
+    each_kind (λ k. (a b : ℕ) → a ≤ b → cond (is_item_anti k) (1 + a) a ≤ cond (is_anti k) (1 + b) b) (λ a b le. le) (λ a b le. le) (λ a b le. le) (λ a b le. omega (arith, le)) (λ a b le. omega (arith, le))
 
 more_reads : (k : Kind) (a b : ℕ) → a ≤ b → cond (is_anti k) (1 + a) a ≤ cond (not (is_write k)) (1 + b) b
-more_reads Write a b le = le
-more_reads ItemRead a b le = omega (arith, le)
-more_reads PredicateRead a b le = omega (arith, le)
-more_reads ItemAnti a b le = omega (arith, le)
-more_reads PredicateAnti a b le = omega (arith, le)
+more_reads =
+    each_kind (λ k. (a b : ℕ) → a ≤ b → cond (is_anti k) (1 + a) a ≤ cond (not (is_write k)) (1 + b) b) (λ a b le. le) (λ a b le. omega (arith, le)) (λ a b le. omega (arith, le)) (λ a b le. omega (arith, le))
+    (λ a b le. omega (arith, le))
 
 fewer_items : (es : List Edge) → times is_item_anti es ≤ times is_anti es
 fewer_items [] = omega arith

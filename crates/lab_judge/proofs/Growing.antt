@@ -1,47 +1,28 @@
 -- Graphs that grow by the arrows of dependencies.
-use Rattle.std.{proofs.Common.{◌≡◌, ◌⊎◌, ℕ, ◌*◌, ◌<◌, ◌==◌, ◌&&◌, ◌||◌, Bool, true, false, Some, List, length, get_or, slice_index, refl, sym, ap, ◌∙◌, subst, inl, inr}, specs.Prelude.{◌↔◌, Contains, Decides, slice_get, ⊤}}
-use Rattle.std.proofs.lemmas.{Bool.{both_ways, and_parts, and_from, or_cases, or_left, or_right, eqb-true, eq-eqb, Decides.{Decides-and, Decides-below_or, Decides-eqb}}, Option.{slice_get-get_or, slice_get_within, get_or_from_slice_get}}
+use Rattle.std.{proofs.Common.{◌≡◌, ◌⊎◌, ℕ, ◌*◌, ◌<◌, ◌==◌, ◌&&◌, ◌||◌, Bool, true, false, length, slice_index, refl, sym, ap, ◌∙◌, inl, inr}, specs.Prelude.{◌↔◌, Contains, Decides, ⊤}}
+use Rattle.std.proofs.lemmas.{Bool.{both_ways, and_parts, and_from, or_cases, or_left, or_right, eqb-true, eq-eqb, Decides.{Decides-and, Decides-below_or, Decides-eqb}}, Option.{slice_get-get_or, get_or_from_slice_get}}
 use Rattle.lab_table.specs.Row.{Row}
 use Rattle.lab_order.specs.Arrows.{Arrows, nodes_of, has_arrow, IsArrow}
-use Rattle.lab_deps.specs.{KindBits.{edge_of}, KindSets.{among}, KindsBetween.{KindsBetween, AreKindsTo}, declared.{edge.{Edge.{Edge}, Kind.{Kind}}, kinds.Kinds.{Kinds}}}
+use Rattle.lab_deps.specs.{KindBits.{edge_of}, KindSets.{among}, KindsBetween.{KindsBetween, AreKinds}, declared.{edge.{Edge.{Edge}, Kind.{Kind}}, kinds.Kinds.{Kinds}}}
 use Rattle.lab_judge.specs.{Graphs.{Tie, IsGraphOf}, Joining.{start_node, commit_node, tail, head, Lands, Grows}, Places.{is_anti, is_flow}, PlaceGraphs.{spans, AreSpan, IsPlaceGraph}, declared.joining.Joining.{Joining, TheVariants.{Transactions, StartToCommit, CommitToStart}}}
 use Rattle.lab_judge.proofs.Lists.{of_both}
 
--- no kinds
-abbrev no_kinds : Kinds
-no_kinds = record { bits = 0 }
-
-module _ (net : KindsBetween) (p : ℕ) (all : List Kinds) (told : AreKindsTo net.edges net.numbers (slice_index net.numbers p) all) where
-  -- a dependency between two transactions is of one of the kinds between them
-  its_kind : (test : Kind → Bool) (q : ℕ) (kinds : Kinds) → slice_get all q ≡ Some kinds → Tie test net p q → (kind : Kind) × (among kinds kind ≡ true) × (test kind ≡ true)
-  its_kind test q kinds there t =
-      let e : Edge = t.edge in
-      let from : slice_index net.numbers p ≡ e.from = get_or_from_slice_get net.numbers p e.from 0 t.from in
-      (e.kind, (told.exact q e.to kinds t.to there e.kind).1 (e.row, subst (λ n. Contains net.edges (edge_of n e.to e.kind e.row)) (sym from) t.is_one), t.kind)
-
-  -- so some of the kinds between them are wanted exactly where such a dependency ties them
-  pub meets_tie : (q : ℕ) → p < length net.numbers → q < length all → (kinds : Kinds) → ((d : Kinds) → kinds ≡ get_or all q d) → (wanted : Kinds) (result : Bool)
-      → result ≡ true ↔ ((kind : Kind) × (among kinds kind ≡ true) × (among wanted kind ≡ true)) → result ≡ true ↔ Tie (among wanted) net p q
-  meets_tie q less within kinds is wanted result meets =
-      let from = slice_index net.numbers p in
-      let to = slice_index net.numbers q in
-      let to_is : slice_get net.numbers q ≡ Some to = slice_get-get_or net.numbers q 0 (subst (λ n. q < n) told.size within) in
-      let there : slice_get all q ≡ Some kinds = slice_get-get_or all q kinds within ∙ ap Some (sym (is kinds)) in (
-        λ on.
-            let w : (kind : Kind) × (among kinds kind ≡ true) × (among wanted kind ≡ true) = meets.0 on in
-            let found : (row : Row) × Contains net.edges (edge_of from to w.0 row) = (told.exact q to kinds to_is there w.0).0 w.1 in
-            record { edge = edge_of from to w.0 found.0; is_one = found.1; kind = w.2; from = slice_get-get_or net.numbers p 0 less; to = to_is },
-        λ t. meets.1 (its_kind (among wanted) q kinds there t),
-      )
-
-  -- and where there are no kinds, none does
-  pub bare_ties_none : (test : Kind → Bool) (q : ℕ) → ((kinds : Kinds) (kind : Kind) → slice_get all q ≡ Some kinds → among kinds kind ≡ false) → Tie test net p q → ⊥
-  bare_ties_none test q bare t =
-      let within : q < length all = subst (λ n. q < n) (sym told.size) (slice_get_within net.numbers q t.edge.to t.to) in
-      let kinds = get_or all q no_kinds in
-      let there : slice_get all q ≡ Some kinds = slice_get-get_or all q no_kinds within in
-      let w = its_kind test q kinds there t in
-      both_ways (among kinds w.0) (bare kinds w.0 there) w.1
+-- some of the kinds between two transactions are wanted exactly where a dependency of such a kind ties them
+pub meets_tie : (net : KindsBetween) (p q : ℕ) → p < length net.numbers → q < length net.numbers → (kinds : Kinds) → AreKinds net.edges (slice_index net.numbers p) (slice_index net.numbers q) kinds
+    → (wanted : Kinds) (result : Bool) → result ≡ true ↔ ((kind : Kind) × (among kinds kind ≡ true) × (among wanted kind ≡ true)) → result ≡ true ↔ Tie (among wanted) net p q
+meets_tie net p q low high kinds are wanted result meets =
+    let from = slice_index net.numbers p in
+    let to = slice_index net.numbers q in (
+      λ on.
+          let w : (kind : Kind) × (among kinds kind ≡ true) × (among wanted kind ≡ true) = meets.0 on in
+          let found : (row : Row) × Contains net.edges (edge_of from to w.0 row) = (are w.0).0 w.1 in
+          record { edge = edge_of from to w.0 found.0; is_one = found.1; kind = w.2; from = slice_get-get_or net.numbers p 0 low; to = slice_get-get_or net.numbers q 0 high },
+      λ t.
+          let e : Edge = t.edge in
+          let begins : from ≡ e.from = get_or_from_slice_get net.numbers p e.from 0 t.from in
+          let ends : to ≡ e.to = get_or_from_slice_get net.numbers q e.to 0 t.to in
+          meets.1 (e.kind, (are e.kind).1 (e.row, of_both (λ n m. Contains net.edges (edge_of n m e.kind e.row)) (sym begins) (sym ends) t.is_one), t.kind),
+    )
 
 module _ {test : Kind → Bool} {joining : Joining} {net : KindsBetween} where
   -- where none of those that are looked at are tied, the graph stays

@@ -1,9 +1,9 @@
 -- The committed transactions of a history as nodes, and its edges as what ties them.
-use Rattle.std.{proofs.{Common.{◌≡◌, ℕ, ◌<◌, Bool, true, false, cond, Some, None, Option, Ok, Err, Result, IfOk, List, length, slice_index, refl, sym, ap, ◌∙◌, subst, arith}, lemmas.{Map.Keys.{below_from_sorted, sorted_from_strictly_increasing}, Option.{slice_get-get_or}}}, specs.{Prelude.{Contains, IfSome, slice_get}, List.Sorted.{IsStrictlyIncreasing}, Ordering.{is_lt}}}
+use Rattle.std.{proofs.{Common.{◌≡◌, ℕ, ◌<◌, Bool, true, false, Some, None, Option, Ok, Err, Result, IfOk, List, length, slice_index, refl, sym, ap, ◌∙◌, arith}, lemmas.{Map.Keys.{below_from_sorted, sorted_from_strictly_increasing}, Option.{slice_get-get_or}}}, specs.{Prelude.{Contains, IfSome, slice_get}, List.Sorted.{IsStrictlyIncreasing}, Ordering.{is_lt}}}
 use Rattle.lab_order.specs.{Arrows.{Arrows}, Order.{position}}
 use Rattle.lab_history.specs.{History.{History}, Version.{IsCommitted}}
-use Rattle.lab_deps.{specs.{Edges.{IsEdge}, EdgeOrder.{edge_cmp}, KindSets.{is_any}, KindsBetween.{KindsBetween}, Soundness.{has_committed}, declared.edge.{Edge.{Edge}, Kind.{Kind}}}, proofs.Places.{times, times_count, at_times}}
-use Rattle.lab_judge.{specs.{Graphs.{Tie, IsLeastTie, IsGraphOf, IsNetOf}, LeastWalks.{AreCommitted, HasEdgeAt, IsEdgeGraph, IsLeastEdge}, Runs.{HoldsEachOnce}}, proofs.{Lists.{of_both}, Numbers.{contains_it, stands, read, at_its_place, position_within}, Orders.{committed_in}}}
+use Rattle.lab_deps.{specs.{Edges.{IsEdge}, EdgeOrder.{edge_cmp}, KindSets.{is_any}, KindsBetween.{KindsBetween}, declared.edge.{Edge.{Edge}, Kind.{Kind}}}, proofs.Places.{at_times}}
+use Rattle.lab_judge.{specs.{Graphs.{Tie, IsLeastTie, IsGraphOf, IsNetOf}, LeastWalks.{HasEdgeAt, IsEdgeGraph, IsLeastEdge}, Runs.{HoldsEachOnce}}, proofs.{Lists.{of_both}, Numbers.{contains_it, stands, read, at_its_place, position_within}, Orders.{committed_once, committed_in}}}
 
 module _ (ns : List ℕ) (up : IsStrictlyIncreasing ns) where
   -- a greater node has a greater number
@@ -17,9 +17,7 @@ module _ (ns : List ℕ) (up : IsStrictlyIncreasing ns) where
 module _ (h : History) (ns : List ℕ) (once : HoldsEachOnce h ns) where
   -- a committed transaction is a node
   is_node : (n : ℕ) → IsCommitted h n → Contains ns n
-  is_node n c =
-      let one : times n ns ≡ 1 = times_count n ns ∙ once n ∙ ap (λ o. cond (has_committed o) 1 0) c in
-      contains_it ns n (omega (arith, one))
+  is_node n c = contains_it ns n (omega (arith, committed_once h ns once n c))
 
   -- and stands there
   pub stands_at : (n : ℕ) → IsCommitted h n → slice_get ns (position ns n) ≡ Some n
@@ -74,26 +72,17 @@ module _ {h : History} {allowed : Kind → Bool} {net : KindsBetween} (of : IsNe
 pub net_for : {h : History} {net : KindsBetween} (a : Kind → Bool) → IsNetOf h is_any net → IsNetOf h a net
 net_for a of = record { committed = of.committed; edges = of.edges; all = λ e edge kind. of.all e edge refl }
 
--- a net of committed transactions and of these edges is one of the history
-pub is_net : {h : History} {a : Kind → Bool} (net : KindsBetween) (ns : List ℕ) (es : List Edge) → net.numbers ≡ ns → net.edges ≡ es → AreCommitted h ns → ((e : Edge) → Contains es e → IsEdge h e)
-    → ((e : Edge) → IsEdge h e → a e.kind ≡ true → Contains es e) → IsNetOf h a net
-is_net {h} net ns es numbers_are edges_are committed real all = record {
-  committed = subst (AreCommitted h) (sym numbers_are) committed;
-  edges = λ e there. real e (subst (λ l. Contains l e) edges_are there);
-  all = λ e edge kind. subst (λ l. Contains l e) (sym edges_are) (all e edge kind);
-}
-
--- what is the least edge between two transactions among these is the least that ties their nodes
-pub least_tie : (test : Kind → Bool) (net : KindsBetween) (es : List Edge) → net.edges ≡ es → (a b n m : ℕ) → slice_get net.numbers a ≡ Some n → slice_get net.numbers b ≡ Some m
-    → (E : Type 0) (r : Result (Option Edge) E) → IfOk r (λ found. IfSome found (Contains es)) → IfOk r (λ found. IfSome found (λ e. e.from ≡ n)) → IfOk r (λ found. IfSome found (λ e. e.to ≡ m))
+-- what is the least edge between two transactions is the least that ties their nodes
+pub least_tie : (test : Kind → Bool) (net : KindsBetween) (a b n m : ℕ) → slice_get net.numbers a ≡ Some n → slice_get net.numbers b ≡ Some m
+    → (E : Type 0) (r : Result (Option Edge) E) → IfOk r (λ found. IfSome found (Contains net.edges)) → IfOk r (λ found. IfSome found (λ e. e.from ≡ n)) → IfOk r (λ found. IfSome found (λ e. e.to ≡ m))
     → IfOk r (λ found. IfSome found (λ e. test e.kind ≡ true))
-    → IfOk r (λ found. IfSome found (λ e. (f : Edge) → Contains es f → f.from ≡ n → f.to ≡ m → test f.kind ≡ true → is_lt (edge_cmp f e) ≡ false)) → IfOk r (λ found. IfSome found (IsLeastTie test net a b))
-least_tie test net es same a b n m from_is to_is E (Err x) there from to kind least = tt
-least_tie test net es same a b n m from_is to_is E (Ok None) there from to kind least = tt
-least_tie test net es same a b n m from_is to_is E (Ok (Some e)) there from to kind least = record {
-  is_one = subst (λ l. Contains l e) (sym same) there;
+    → IfOk r (λ found. IfSome found (λ e. (f : Edge) → Contains net.edges f → f.from ≡ n → f.to ≡ m → test f.kind ≡ true → is_lt (edge_cmp f e) ≡ false)) → IfOk r (λ found. IfSome found (IsLeastTie test net a b))
+least_tie test net a b n m from_is to_is E (Err x) there from to kind least = tt
+least_tie test net a b n m from_is to_is E (Ok None) there from to kind least = tt
+least_tie test net a b n m from_is to_is E (Ok (Some e)) there from to kind least = record {
+  is_one = there;
   kind = kind;
   from = from_is ∙ ap Some (sym from);
   to = to_is ∙ ap Some (sym to);
-  least = λ f in_net begins ends allowed. least f (subst (λ l. Contains l f) same in_net) (begins ∙ from) (ends ∙ to) allowed;
+  least = λ f in_net begins ends allowed. least f in_net (begins ∙ from) (ends ∙ to) allowed;
 }

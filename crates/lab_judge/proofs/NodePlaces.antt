@@ -1,23 +1,10 @@
 -- The places of nodes in an order.
-use Rattle.std.proofs.Common.{◌≡◌, ℕ, zero, suc, ◌+◌, ◌<◌, ◌≤◌, ◌==◌, Bool, true, false, cond, Some, List, [], ◌∷◌, length, nat_lt, get_or, set, slice_index, refl, sym, ap, ◌∙◌, subst, arith, inl, inr}
+use Rattle.std.proofs.Common.{◌≡◌, ℕ, zero, suc, ◌+◌, ◌<◌, ◌≤◌, ◌==◌, Bool, true, false, cond, Some, List, [], ◌∷◌, length, get_or, set, slice_index, refl, sym, ap, ◌∙◌, subst, arith, inl, inr}
 use Rattle.std.specs.{Prelude.{Contains}, List.{All, count_by}}
-use Rattle.std.proofs.lemmas.{Bool.{eqb-true, eq-eqb, both_ways, cases_lt, le-ltb, lt-ltb, Decides.{nat_tests}}, List.Elements.{All-head, All-tail}, Option.{slice_get-get_or, get_or_from_slice_get}}
+use Rattle.std.proofs.lemmas.{Bool.{eqb-true, eq-eqb, both_ways, cases_lt, lt-ltb}, List.Elements.{All-head, All-tail}, Option.{slice_get-get_or, get_or_from_slice_get}}
 use Rattle.lab_order.{proofs.Writes.{set_read}, specs.Order.{position}}
 use Rattle.lab_judge.proofs.{Lists.{one_place}, Numbers.{stands, position_within}}
-use Rattle.lab_deps.proofs.Places.{times, times_count}
-
--- how many of a list are below a number
-abbrev below : ℕ → List ℕ → ℕ
-below n [] = 0
-below n (x ∷ xs) = cond (nat_lt x n) (1 + below n xs) (below n xs)
-
-below_none : (ns : List ℕ) → below 0 ns ≡ 0
-below_none [] = refl
-below_none (x ∷ xs) = ap (λ b. cond b (1 + below 0 xs) (below 0 xs)) (le-ltb x 0 (omega arith)) ∙ below_none xs
-
-below_next : (n : ℕ) (ns : List ℕ) → below (suc n) ns ≡ below n ns + times n ns
-below_next n [] = refl
-below_next n (x ∷ xs) = let rest = below_next n xs in grind (arith, nat_tests)
+use Rattle.lab_deps.proofs.{Places.{times, times_count}, RisingNumbers.{below, below_none, below_next}}
 
 below_all : (n : ℕ) (ns : List ℕ) → All (λ a. a < n) ns → below n ns ≡ length ns
 below_all n [] all = refl

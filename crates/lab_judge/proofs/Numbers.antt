@@ -1,19 +1,12 @@
 -- Rising numbers: each comes once, at its own place, and they are one list.
-use Rattle.std.proofs.Common.{◌≡◌, ℕ, zero, suc, ◌+◌, ◌-◌, min, ◌<◌, ◌≤◌, ◌==◌, Bool, true, false, cond, Some, List, [], ◌∷◌, length, get_or, slice_index, refl, sym, ap, ◌∙◌, arith, inl, inr}
+use Rattle.std.proofs.Common.{◌≡◌, ℕ, suc, ◌+◌, ◌<◌, ◌≤◌, ◌==◌, Bool, true, false, cond, Some, List, [], ◌∷◌, length, get_or, refl, sym, ap, ◌∙◌, arith}
 use Rattle.std.specs.{Prelude.{slice_get, Contains}, List.Sorted.{IsStrictlyIncreasing, IsStrictlySortedBy}, Ordering.{nat_cmp}}
-use Rattle.std.proofs.lemmas.{Bool.{cases_order}, Map.Keys.{below_from_sorted, non_decreasing_from_sorted, sorted_from_strictly_increasing, sorted_tail}, Option.{slice_get-get_or, slice_get_within, get_or_from_slice_get}}
+use Rattle.std.proofs.lemmas.{Map.Keys.{non_decreasing_from_sorted, sorted_tail}, Option.{slice_get_within, get_or_from_slice_get}}
 use Rattle.lab_history.specs.Version.{place_in}
 use Rattle.lab_order.specs.Order.{position}
 use Rattle.lab_judge.proofs.Orders.{at_position}
-use Rattle.lab_deps.proofs.Places.{times, times_here, at_times, placed, at_most_once as once_of_places}
-
--- what a list contains stands in it
-pub contained : (ns : List ℕ) (n : ℕ) → Contains ns n → 1 ≤ times n ns
-contained ns n (k, lt, e) = at_times ns k n (slice_get-get_or ns k n lt ∙ ap Some e)
-
--- and what stands in it, it contains
-pub contains_it : (ns : List ℕ) (n : ℕ) → 1 ≤ times n ns → Contains ns n
-contains_it ns n h = let p = placed ns n h in (p.0, slice_get_within ns p.0 n p.2, get_or_from_slice_get ns p.0 n n p.2)
+use Rattle.lab_deps.proofs.{Places.{times, times_here, at_times, placed}, RisingNumbers.{one_place}}
+pub use Rattle.lab_deps.proofs.RisingNumbers.{contained, contains_it, read}
 
 -- a number that a list contains stands at its position
 pub stands : (ns : List ℕ) (n : ℕ) → Contains ns n → slice_get ns (position ns n) ≡ Some n
@@ -22,43 +15,9 @@ stands ns n h = at_position ns n (contained ns n h)
 pub position_within : (ns : List ℕ) (n : ℕ) → Contains ns n → position ns n < length ns
 position_within ns n h = slice_get_within ns (position ns n) n (stands ns n h)
 
--- what stands at a place of a list
-pub read : (ns : List ℕ) (a n : ℕ) → slice_get ns a ≡ Some n → slice_index ns a ≡ n
-read ns a n h = get_or_from_slice_get ns a n 0 h
-
-module _ (ns : List ℕ) (up : IsStrictlyIncreasing ns) where
-  -- no number is at a later place too
-  apart : (p q n : ℕ) → slice_get ns p ≡ Some n → slice_get ns q ≡ Some n → p < q → ⊥
-  apart p q n h k l =
-      let rise = below_from_sorted ns p q 0 (sorted_from_strictly_increasing ns up) l (slice_get_within ns q n k) in
-      omega (arith, rise, read ns p n h, read ns q n k)
-
-  -- equal numbers have one place
-  one_place : (p q n : ℕ) → slice_get ns p ≡ Some n → slice_get ns q ≡ Some n → p ≡ q
-  one_place p q n h k = elim (cases_order p q) [ inl same ↦ same | inr (inl l) ↦ absurd (apart p q n h k l) | inr (inr l) ↦ absurd (apart q p n k h l) ]
-
-  -- the place where a number stands is its position
-  pub at_its_place : (p n : ℕ) → slice_get ns p ≡ Some n → position ns n ≡ p
-  at_its_place p n h = one_place (position ns n) p n (at_position ns n (at_times ns p n h)) h
-
-  pub at_most_once : (n : ℕ) → times n ns ≤ 1
-  at_most_once n = once_of_places ns n (λ p q h k. one_place p q n h k)
-
--- the last of rising numbers is at least as much as there are before it
-up_to : (ns : List ℕ) → IsStrictlyIncreasing ns → (k : ℕ) → k < length ns → k ≤ get_or ns k 0
-up_to ns up zero lt = omega arith
-up_to ns up (suc k) lt =
-    let before : k ≤ get_or ns k 0 = up_to ns up k (omega arith) in
-    let less : get_or ns k 0 < get_or ns (suc k) 0 = below_from_sorted ns k (suc k) 0 (sorted_from_strictly_increasing ns up) (omega arith) lt in
-    omega arith
-
--- how many rising numbers there are
-pub how_many : (ns : List ℕ) (last found : ℕ) → IsStrictlyIncreasing ns → slice_get ns (length ns - 1) ≡ Some last → found ≡ min (length ns) (last + 1) → found ≡ length ns
-how_many ns last found up there is =
-    let lt : length ns - 1 < length ns = slice_get_within ns (length ns - 1) last there in
-    let value : get_or ns (length ns - 1) 0 ≡ last = get_or_from_slice_get ns (length ns - 1) last 0 there in
-    let most : length ns - 1 ≤ get_or ns (length ns - 1) 0 = up_to ns up (length ns - 1) lt in
-    omega (arith, lt, value, most, is)
+-- the place where a rising number stands is its position
+pub at_its_place : (ns : List ℕ) → IsStrictlyIncreasing ns → (p n : ℕ) → slice_get ns p ≡ Some n → position ns n ≡ p
+at_its_place ns up p n h = one_place ns up (position ns n) p n (at_position ns n (at_times ns p n h)) h
 
 -- the first of rising numbers is the least
 first_least : (m : ℕ) (ms : List ℕ) (n : ℕ) → IsStrictlySortedBy nat_cmp (m ∷ ms) → 1 ≤ times n (m ∷ ms) → m ≤ n

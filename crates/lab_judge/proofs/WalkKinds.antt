@@ -1,7 +1,7 @@
 -- Which cycles are which phenomenon.
 use Rattle.std.{proofs.{Common.{◌≡◌, ◌≤◌, Bool, true, List, refl, sym, ap, ◌∙◌, subst, arith}, lemmas.Bool.{false≢true}, Math.Bool.{not-not}}, specs.Prelude.{◌↔◌, not}}
 use Rattle.lab_history.specs.History.{History}
-use Rattle.lab_deps.specs.{KindSets.{is_any, is_write, is_flow, is_anti}, declared.edge.{Edge.{Edge}, Kind.{Kind, TheVariants.{Write, ItemRead, PredicateRead, ItemAnti, PredicateAnti}}}}
+use Rattle.lab_deps.{specs.{KindSets.{is_any, is_write, is_flow, is_anti}, declared.edge.{Edge.{Edge}, Kind.{Kind, TheVariants.{Write}}}}, proofs.EachKind.{each_kind}}
 use Rattle.lab_judge.specs.{Due.{FindsOne}, Judgement.{FindsWalk}, LeastWalks.{IsBackWalk, IsOpenedRound, FindsDue}, Openings.{count_others, IsClosedOf, IsOpenedWalk}, Phenomena.{IsClosedWalk, count_kind, IsG1c, IsGSingle}, declared.report.Finding.{Finding, TheVariants.{Absent, Walk, At, NotJudged}}}
 use Rattle.lab_judge.proofs.{ClosedWalks.{times_are, through_none, each_through}, LeastWalks.{back_closed, opened_walk}}
 
@@ -21,11 +21,8 @@ count_none es = sym (times_are (λ k. not (is_any k)) es) ∙ through_none is_an
 
 -- a write after a write is of that kind
 pub only_write : (k : Kind) → is_write k ≡ true → k ≡ Write
-only_write Write is = refl
-only_write ItemRead is = absurd (false≢true is)
-only_write PredicateRead is = absurd (false≢true is)
-only_write ItemAnti is = absurd (false≢true is)
-only_write PredicateAnti is = absurd (false≢true is)
+only_write =
+    each_kind (λ k. is_write k ≡ true → k ≡ Write) (λ is. refl) (λ is. absurd (false≢true is)) (λ is. absurd (false≢true is)) (λ is. absurd (false≢true is)) (λ is. absurd (false≢true is))
 
 module _ (h : History) where
   -- what is found by cycles of allowed kinds

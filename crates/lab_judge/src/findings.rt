@@ -20,8 +20,6 @@ mod opening;
 mod reads;
 
 use crate::graphs::{graph_among, graph_of};
-use crate::net::Net;
-use crate::nodes::Nodes;
 use crate::report::{Finding, Grade};
 use closed_walk::{find_circle, find_opened};
 use grade::{grade_of, low_grade_of};
@@ -60,7 +58,7 @@ pub(crate) fn find_none() -> Findings
 /// graph. NoMemory where an allocation was refused.
 pub(crate) fn find_walks(
     alloc: Global,
-    net: &Net<'_, '_>,
+    net: &Dependencies<'_>,
     all: &Graph,
 ) -> Result<Findings, NoMemory>
     requires { IsGraphOf (among Kinds.ALL) net.now all.now }
@@ -141,9 +139,7 @@ fn find_listed_circle(alloc: Global, history: &History) -> Result<Finding, NoMem
     requires { (row : Row) → ¬ Stands history.now (fault.InstallOrder row) }
     ensures { IfOk result (FindsOne (IsClosedOf history.now is_write) (IsBackWalk history.now is_write)) }
 {
-    let nodes = Nodes::of(alloc, history)?;
-    let edges = Dependencies::of_writes(alloc, history)?;
-    let net = Net::of(alloc, &nodes, &edges)?;
+    let net = Dependencies::of_writes(alloc, history)?;
     let writes = graph_of(alloc, &net, Kinds::WRITES)?;
     find_circle(alloc, &net, Kinds::WRITES, &writes)
 }

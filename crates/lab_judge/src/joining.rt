@@ -6,8 +6,7 @@ ghost use Rattle.lab_deps.specs.KindSets.{among};
 ghost use Rattle.lab_judge.specs.Graphs.{IsGraphOf};
 ghost use Rattle.lab_judge.specs.Joining.{Grows, tail, head, nodes_for};
 
-use crate::net::Net;
-use lab_deps::Kinds;
+use lab_deps::{Dependencies, Kinds};
 use lab_order::{Graph, NoMemory};
 use std::alloc::Global;
 
@@ -53,15 +52,14 @@ impl Joining {
 pub(crate) fn add_arrows(
     alloc: Global,
     graph: &mut Graph,
-    net: &Net<'_, '_>,
+    net: &Dependencies<'_>,
     kinds: Kinds,
-    joining: Joining,
 ) -> Result<(), NoMemory>
-    requires { nodes_of graph.old ≡ nodes_for joining (length net.now.numbers) }
-    ensures { IfOk result (λ _. Grows (among kinds) joining net.now (λ p q. ⊤) graph.old graph.new) }
+    requires { nodes_of graph.old ≡ length net.now.numbers }
+    ensures { IfOk result (λ _. Grows (among kinds) Joining.Transactions net.now (λ p q. ⊤) graph.old graph.new) }
 {
     for from in 0..net.len() {
-        add_arrows_from(alloc, graph, net, kinds, joining, from)?;
+        add_arrows_from(alloc, graph, net, kinds, from)?;
     }
     Ok(())
 }
@@ -70,25 +68,19 @@ pub(crate) fn add_arrows(
 fn add_arrows_from(
     alloc: Global,
     graph: &mut Graph,
-    net: &Net<'_, '_>,
+    net: &Dependencies<'_>,
     kinds: Kinds,
-    joining: Joining,
     from: u32,
 ) -> Result<(), NoMemory>
-    requires size { nodes_of graph.old ≡ nodes_for joining (length net.now.numbers) }
+    requires size { nodes_of graph.old ≡ length net.now.numbers }
     requires from { from < length net.now.numbers }
-    ensures { IfOk result (λ _. Grows (among kinds) joining net.now (λ p q. p ≡ from) graph.old graph.new) }
+    ensures { IfOk result (λ _. Grows (among kinds) Joining.Transactions net.now (λ p q. p ≡ from) graph.old graph.new) }
 {
-    let count = net.len() as usize;
-    let mut first = 0;
-    for _ in 0..count / 64 + 1 {
-        let beyond = if count - first < 64 {
-            count
-        } else {
-            first + 64
-        };
-        add_arrows_between(alloc, graph, net, kinds, joining, from, first, beyond)?;
-        first = beyond;
+    let count = net.len();
+    for block in 0..count / 64 + 1 {
+        let first = 64 * block;
+        let beyond = count.min(first + 64);
+        add_arrows_between(alloc, graph, net, kinds, from, first, beyond)?;
     }
     Ok(())
 }
@@ -98,28 +90,22 @@ fn add_arrows_from(
 fn add_arrows_between(
     alloc: Global,
     graph: &mut Graph,
-    net: &Net<'_, '_>,
+    net: &Dependencies<'_>,
     kinds: Kinds,
-    joining: Joining,
     from: u32,
-    first: usize,
-    beyond: usize,
+    first: u32,
+    beyond: u32,
 ) -> Result<(), NoMemory>
-    requires size { nodes_of graph.old ≡ nodes_for joining (length net.now.numbers) }
+    requires size { nodes_of graph.old ≡ length net.now.numbers }
     requires from { from < length net.now.numbers }
-    requires order { first ≤ beyond }
     requires beyond { beyond ≤ length net.now.numbers }
-    ensures { IfOk result (λ _. Grows (among kinds) joining net.now (λ p q. (p ≡ from) × (first ≤ q) × (q < beyond)) graph.old graph.new) }
+    ensures { IfOk result (λ _. Grows (among kinds) Joining.Transactions net.now (λ p q. (p ≡ from) × (first ≤ q) × (q < beyond)) graph.old graph.new) }
 {
-    let row = net.row(from);
-    if row.is_bare(first, beyond) {
+    if net.is_bare(from, first, beyond) {
         return Ok(());
     }
     for to in first..beyond {
-        let between = row.kinds(to);
-        if between.meets(kinds) {
-            graph.add(alloc, joining.tail(from), joining.head(to as u32))?;
-        }
+        add_arrow(alloc, graph, net, kinds, Joining::Transactions, from, to)?;
     }
     Ok(())
 }
@@ -128,7 +114,7 @@ fn add_arrows_between(
 pub(crate) fn add_arrows_among(
     alloc: Global,
     graph: &mut Graph,
-    net: &Net<'_, '_>,
+    net: &Dependencies<'_>,
     all: &Graph,
     kinds: Kinds,
     joining: Joining,
@@ -147,7 +133,7 @@ pub(crate) fn add_arrows_among(
 fn add_arrows_to(
     alloc: Global,
     graph: &mut Graph,
-    net: &Net<'_, '_>,
+    net: &Dependencies<'_>,
     all: &Graph,
     kinds: Kinds,
     joining: Joining,
@@ -166,10 +152,11 @@ fn add_arrows_to(
 
 /// Adds the arrow of two transactions, if the second depends on the first in one of these ways. NoMemory where an
 /// allocation was refused.
+#[inline(always)]
 fn add_arrow(
     alloc: Global,
     graph: &mut Graph,
-    net: &Net<'_, '_>,
+    net: &Dependencies<'_>,
     kinds: Kinds,
     joining: Joining,
     from: u32,
@@ -180,8 +167,7 @@ fn add_arrow(
     requires to { to < length net.now.numbers }
     ensures { IfOk result (λ _. Grows (among kinds) joining net.now (λ p q. (p ≡ from) × (q ≡ to)) graph.old graph.new) }
 {
-    let row = net.row(from);
-    let between = row.kinds(to as usize);
+    let between = net.kinds_at(from, to);
     if between.meets(kinds) {
         graph.add(alloc, joining.tail(from), joining.head(to))?;
     }

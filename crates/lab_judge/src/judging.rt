@@ -22,8 +22,6 @@ ghost use Rattle.lab_judge.specs.Promises.{IsPromised};
 
 use crate::findings::{Findings, find_at_fault, find_none, find_walks};
 use crate::graphs::graph_of;
-use crate::net::Net;
-use crate::nodes::Nodes;
 use crate::places::Places;
 use crate::placing::snapshot_verdict;
 use crate::report::Report;
@@ -100,9 +98,7 @@ fn judge_sound(alloc: Global, history: &History, sound: &Sound) -> Result<Report
     requires { IsSound history.now }
     ensures { IfOk result (IsExactJudgement history.now) }
 {
-    let nodes = Nodes::of(alloc, history)?;
-    let edges = Dependencies::of(alloc, history, sound)?;
-    let net = Net::of(alloc, &nodes, &edges)?;
+    let net = Dependencies::of(alloc, history, sound)?;
     let all = graph_of(alloc, &net, Kinds::ALL)?;
     let serial = serial_verdict(alloc, &net, &all)?;
     let snapshot = snapshot_verdict(alloc, &net, &all)?;
@@ -119,7 +115,7 @@ fn judge_sound(alloc: Global, history: &History, sound: &Sound) -> Result<Report
 /// was refused.
 fn find_beside(
     alloc: Global,
-    net: &Net<'_, '_>,
+    net: &Dependencies<'_>,
     all: &Graph,
     serial: &Serial,
 ) -> Result<Findings, NoMemory>

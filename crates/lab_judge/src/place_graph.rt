@@ -11,14 +11,17 @@ ghost use Rattle.lab_judge.specs.Graphs.{IsGraphOf};
 ghost use Rattle.lab_judge.specs.PlaceGraphs.{spans, IsPlaceGraph};
 
 use crate::joining::{Joining, add_arrows_among};
-use crate::net::Net;
-use lab_deps::Kinds;
+use lab_deps::{Dependencies, Kinds};
 use lab_order::{Graph, NoMemory};
 use std::alloc::Global;
 
 /// The graph of the starts and commits of these transactions, by the graph of all dependencies. NoMemory where an
 /// allocation was refused.
-pub(crate) fn place_graph(alloc: Global, net: &Net<'_, '_>, all: &Graph) -> Result<Graph, NoMemory>
+pub(crate) fn place_graph(
+    alloc: Global,
+    net: &Dependencies<'_>,
+    all: &Graph,
+) -> Result<Graph, NoMemory>
     requires { IsGraphOf (among Kinds.ALL) net.now all.now }
     ensures { IfOk result (IsPlaceGraph net.now) }
 {

@@ -11,9 +11,9 @@ ghost use Rattle.lab_judge.specs.Graphs.{IsGraphOf, IsNetOf};
 ghost use Rattle.lab_judge.specs.Runs.{spans_of};
 ghost use Rattle.lab_judge.specs.PlaceGraphs.{point_at, span_in};
 
-use crate::net::Net;
 use crate::place_graph::place_graph;
 use crate::places::{Circle, Places, Point, Spans};
+use lab_deps::Dependencies;
 use lab_order::{Graph, NoMemory, Ordered, order};
 use lab_table::TxnNo;
 use std::alloc::Global;
@@ -24,7 +24,7 @@ use std::alloc::Global;
 /// was refused.
 pub(crate) fn snapshot_verdict(
     alloc: Global,
-    net: &Net<'_, '_>,
+    net: &Dependencies<'_>,
     all: &Graph,
 ) -> Result<Places, NoMemory>
     requires { IsGraphOf (among ALL) net.now all.now }
@@ -64,7 +64,7 @@ fn places_in(alloc: Global, count: u32, order: &[u32]) -> Result<Vec<u32>, NoMem
 /// was refused.
 fn spans_in(
     alloc: Global,
-    net: &Net<'_, '_>,
+    net: &Dependencies<'_>,
     places: &[u32],
 ) -> Result<Vec<(TxnNo, u32, u32)>, NoMemory>
     requires { length places.now ≡ 2 * length net.now.numbers }
@@ -73,13 +73,22 @@ fn spans_in(
     let mut spans = Vec::with_capacity(alloc, net.len() as usize)?;
     for place in 0..net.len() {
         let start = 2 * place as usize;
-        spans.push((net.number(place), places[start], places[start + 1]))?;
+        spans.push((number_at(net, place), places[start], places[start + 1]))?;
     }
     Ok(spans)
 }
 
+/// The transaction of a node.
+fn number_at(net: &Dependencies<'_>, node: u32) -> TxnNo
+    requires { node < length net.now.numbers }
+    ensures value { result ≡ slice_index net.now.numbers node }
+    ensures node { position net.now.numbers result ≡ node }
+{
+    net.number(node)
+}
+
 /// The starts and commits at these nodes, in the same order. NoMemory where an allocation was refused.
-fn points_of(alloc: Global, net: &Net<'_, '_>, circle: &[u32]) -> Result<Vec<Point>, NoMemory>
+fn points_of(alloc: Global, net: &Dependencies<'_>, circle: &[u32]) -> Result<Vec<Point>, NoMemory>
     requires { All (λ node. node < 2 * length net.now.numbers) circle.now }
     ensures { IfOk result (λ points. points.items ≡ map (point_at net.now.numbers) circle.now) }
 {
@@ -91,7 +100,7 @@ fn points_of(alloc: Global, net: &Net<'_, '_>, circle: &[u32]) -> Result<Vec<Poi
 }
 
 /// The start or the commit at a node.
-fn point_of(net: &Net<'_, '_>, node: u32) -> Point
+fn point_of(net: &Dependencies<'_>, node: u32) -> Point
     requires { node < 2 * length net.now.numbers }
     ensures { result ≡ point_at net.now.numbers node }
 {

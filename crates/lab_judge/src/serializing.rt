@@ -7,10 +7,9 @@ ghost use Rattle.lab_deps.specs.KindSets.{among, is_any};
 ghost use Rattle.lab_judge.specs.Due.{IsDueSerial};
 ghost use Rattle.lab_judge.specs.Graphs.{IsGraphOf, IsNetOf};
 
-use crate::net::Net;
 use crate::serial::{Order, Serial};
 use crate::walks::walk_round;
-use lab_deps::Kinds;
+use lab_deps::{Dependencies, Kinds};
 use lab_order::{Graph, NoMemory, Ordered, order};
 use lab_table::TxnNo;
 use std::alloc::Global;
@@ -20,7 +19,7 @@ use std::alloc::Global;
 /// allocation was refused.
 pub(crate) fn serial_verdict(
     alloc: Global,
-    net: &Net<'_, '_>,
+    net: &Dependencies<'_>,
     graph: &Graph,
 ) -> Result<Serial, NoMemory>
     requires { IsGraphOf (among Kinds.ALL) net.now graph.now }
@@ -39,7 +38,7 @@ pub(crate) fn serial_verdict(
 }
 
 /// The transactions of these nodes, in the same order. NoMemory where an allocation was refused.
-fn numbers_of(alloc: Global, net: &Net<'_, '_>, order: &[u32]) -> Result<Vec<TxnNo>, NoMemory>
+fn numbers_of(alloc: Global, net: &Dependencies<'_>, order: &[u32]) -> Result<Vec<TxnNo>, NoMemory>
     requires { All (λ node. node < length net.now.numbers) order.now }
     ensures { IfOk result (λ numbers. numbers.items ≡ map (λ node. slice_index net.now.numbers node) order.now) }
 {

@@ -1,15 +1,14 @@
 //! Walks along dependencies.
 
-ghost use Rattle.std.specs.Prelude.{IfOk};
+ghost use Rattle.std.specs.Prelude.{◌≡◌, ◌<◌, None, length, IfOk, IfSome};
 ghost use Rattle.lab_order.specs.Trails.{IsRing, IsChainBy};
 ghost use Rattle.lab_history.specs.History.{History};
 ghost use Rattle.lab_deps.specs.KindSets.{among};
-ghost use Rattle.lab_judge.specs.Graphs.{Tie, IsNetOf};
+ghost use Rattle.lab_judge.specs.Graphs.{Tie, IsLeastTie, IsNetOf};
 ghost use Rattle.lab_judge.specs.LeastWalks.{GoesAlong, GoesRound};
 
-use crate::net::Net;
 use crate::serial::Walk;
-use lab_deps::{Edge, Kinds};
+use lab_deps::{Dependencies, Edge, Kinds};
 use lab_order::NoMemory;
 use std::alloc::Global;
 
@@ -17,7 +16,7 @@ use std::alloc::Global;
 /// the least of these, by kind and row. It begins with the first node. NoMemory where an allocation was refused.
 pub(crate) fn walk_round(
     alloc: Global,
-    net: &Net<'_, '_>,
+    net: &Dependencies<'_>,
     allowed: Kinds,
     circle: Vec<u32>,
 ) -> Result<Walk, NoMemory>
@@ -34,7 +33,7 @@ pub(crate) fn walk_round(
 /// by kind and row. NoMemory where an allocation was refused.
 pub(crate) fn walk_along(
     alloc: Global,
-    net: &Net<'_, '_>,
+    net: &Dependencies<'_>,
     allowed: Kinds,
     from: u32,
     way: &[u32],
@@ -45,11 +44,27 @@ pub(crate) fn walk_along(
     let mut walk = Vec::with_capacity(alloc, way.len())?;
     let mut at = from;
     for next in way {
-        let Some(edge) = net.least(at, *next, allowed)? else {
+        let Some(edge) = least_between(net, at, *next, allowed)? else {
             unreachable!()
         };
         walk.push(edge)?;
         at = *next;
     }
     Ok(walk)
+}
+
+/// The least dependency of one of these kinds from the transaction of one node to that of another, by kind and row, if
+/// there is one. NoMemory where an allocation was refused.
+pub(crate) fn least_between(
+    net: &Dependencies<'_>,
+    from: u32,
+    to: u32,
+    kinds: Kinds,
+) -> Result<Option<Edge>, NoMemory>
+    requires from { from < length net.now.numbers }
+    requires to { to < length net.now.numbers }
+    ensures found { IfOk result (λ found. IfSome found (IsLeastTie (among kinds) net.now from to)) }
+    ensures none { IfOk result (λ found. found ≡ None → ¬ Tie (among kinds) net.now from to) }
+{
+    net.least(net.number(from), net.number(to), kinds)
 }

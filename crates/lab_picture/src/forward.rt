@@ -57,7 +57,7 @@ fn near_pairs(alloc: Global, columns: &[TxnNo]) -> Result<Vec<Pair>, NoMemory>
 /// The least dependency of the second of two transactions on the first; None where there is none. NoMemory where an
 /// allocation was refused.
 fn least_of(edges: &Dependencies<'_>, pair: Pair) -> Result<Option<Edge>, NoMemory>
-    ensures { (h : Held) → ((e : Dependency) → Contains edges.now e ↔ IsEdge h e) → IfOk result (IsLeastOf h pair) }
+    ensures { (h : Held) → ((e : Dependency) → Contains edges.now.edges e ↔ IsEdge h e) → IfOk result (IsLeastOf h pair) }
 {
     edges.least(pair.from, pair.to, Kinds::ALL)
 }
@@ -68,7 +68,7 @@ fn least_of_all(
     edges: &Dependencies<'_>,
     pairs: &[Pair],
 ) -> Result<Vec<Option<Edge>>, NoMemory>
-    ensures { (h : Held) → ((e : Dependency) → Contains edges.now e ↔ IsEdge h e) → IfOk result (λ found. AreLeastOf h pairs.now found.items) }
+    ensures { (h : Held) → ((e : Dependency) → Contains edges.now.edges e ↔ IsEdge h e) → IfOk result (λ found. AreLeastOf h pairs.now found.items) }
 {
     let mut found = Vec::new(alloc);
     for pair in pairs {

@@ -14,11 +14,10 @@ ghost use Rattle.lab_judge.specs.LeastWalks.{IsBackWalk, IsWayBack, IsTurnToLeas
 ghost use Rattle.lab_judge.specs.Openings.{AllowsAllOrNone, IsClosedOf, IsOpenedWalk};
 
 use crate::findings::opening::first_opening;
-use crate::net::Net;
 use crate::report::Finding;
 use crate::serial::Walk;
-use crate::walks::{walk_along, walk_round};
-use lab_deps::{Edge, Kinds};
+use crate::walks::{least_between, walk_along, walk_round};
+use lab_deps::{Dependencies, Edge, Kinds};
 use lab_order::{Graph, NoMemory, Ordered, Ways, order, path};
 use std::alloc::Global;
 
@@ -26,7 +25,7 @@ use std::alloc::Global;
 /// refused.
 pub(crate) fn find_circle(
     alloc: Global,
-    net: &Net<'_, '_>,
+    net: &Dependencies<'_>,
     allowed: Kinds,
     graph: &Graph,
 ) -> Result<Finding, NoMemory>
@@ -47,7 +46,7 @@ pub(crate) fn find_circle(
 /// refused.
 pub(crate) fn find_opened(
     alloc: Global,
-    net: &Net<'_, '_>,
+    net: &Dependencies<'_>,
     allowed: Kinds,
     graph: &Graph,
     ways: &Ways<'_>,
@@ -61,7 +60,7 @@ pub(crate) fn find_opened(
     let Some(ends) = first_opening(net, ways, opening) else {
         return Ok(Finding::Absent);
     };
-    let Some(edge) = net.least(ends.from, ends.to, opening)? else {
+    let Some(edge) = least_between(net, ends.from, ends.to, opening)? else {
         unreachable!()
     };
     let mut walk = way_back(alloc, net, allowed, graph, ends.to, ends.from)?;
@@ -73,7 +72,7 @@ pub(crate) fn find_opened(
 /// allocation was refused.
 fn way_back(
     alloc: Global,
-    net: &Net<'_, '_>,
+    net: &Dependencies<'_>,
     allowed: Kinds,
     graph: &Graph,
     from: u32,

@@ -6,8 +6,7 @@ ghost use Rattle.lab_order.specs.Path.{Reaches};
 ghost use Rattle.lab_deps.specs.KindSets.{among};
 ghost use Rattle.lab_judge.specs.Graphs.{Tie};
 
-use crate::net::Net;
-use lab_deps::Kinds;
+use lab_deps::{Dependencies, Kinds};
 use lab_order::Ways;
 
 /// The nodes that a dependency joins.
@@ -19,7 +18,7 @@ pub(crate) struct Ends {
 
 /// The first two nodes, by the first and then by the second, between which a dependency opens a walk, and from the second
 /// of which a path of the graph leads back to the first; or None.
-pub(crate) fn first_opening(net: &Net<'_, '_>, ways: &Ways<'_>, opening: Kinds) -> Option<Ends>
+pub(crate) fn first_opening(net: &Dependencies<'_>, ways: &Ways<'_>, opening: Kinds) -> Option<Ends>
     requires { nodes_of ways.now ≡ length net.now.numbers }
     ensures found { IfSome result (λ ends. Tie (among opening) net.now ends.from ends.to × Reaches ways.now ends.to ends.from) }
     ensures first { IfSome result (λ ends. (p q : ℕ) → p < ends.from → Reaches ways.now q p → ¬ Tie (among opening) net.now p q) }
@@ -35,18 +34,17 @@ pub(crate) fn first_opening(net: &Net<'_, '_>, ways: &Ways<'_>, opening: Kinds) 
 }
 
 /// The first node that leads back to a node, and whose transaction depends on that of it in one of these ways, or None.
-fn first_leading(net: &Net<'_, '_>, ways: &Ways<'_>, kinds: Kinds, from: u32) -> Option<u32>
+fn first_leading(net: &Dependencies<'_>, ways: &Ways<'_>, kinds: Kinds, from: u32) -> Option<u32>
     requires from { from < length net.now.numbers }
     requires nodes { nodes_of ways.now ≡ length net.now.numbers }
     ensures found { IfSome result (λ to. Tie (among kinds) net.now from to × Reaches ways.now to from) }
     ensures least { IfSome result (λ to. (k : ℕ) → k < to → Reaches ways.now k from → ¬ Tie (among kinds) net.now from k) }
     ensures none { result ≡ None → (to : ℕ) → Reaches ways.now to from → ¬ Tie (among kinds) net.now from to }
 {
-    let row = net.row(from);
-    for to in 0..row.len() {
-        let between = row.kinds(to);
-        if between.meets(kinds) && ways.lead(to as u32, from) {
-            return Some(to as u32);
+    for to in 0..net.len() {
+        let between = net.kinds_at(from, to);
+        if between.meets(kinds) && ways.lead(to, from) {
+            return Some(to);
         }
     }
     None

@@ -1,29 +1,24 @@
 use Rattle.std.{proofs.Common.{◌≡◌, ◌∙◌, ◌<◌, ◌≤◌, ◌*◌, sym, ap, map, subst, length, arith}, specs.{List.{All, count_by}, Prelude.{◌==◌, ℕ, Contains, slice_index}}}
-use Rattle.lab_order.specs.{Knots.{IsBackCircle}, Order.{IsOrdered, IsAnswered, position}}
-use Rattle.lab_deps.proofs.Places.{times_count}
+use Rattle.lab_order.specs.{Arrows.{nodes_of}, Knots.{IsBackCircle}, Order.{IsOrdered, IsAnswered, position}}
+use Rattle.lab_deps.proofs.Places.{times, times_count}
 use Rattle.lab_judge.specs.{PlaceGraphs.{point_at, span_in}, LeastPlaces.{IsLower}, Places.{IsArrow}}
 use Rattle.lab_judge.proofs.{GraphNodes.{within, circle_within, once_in}, NodePlaces.{no_more}, PointNodes.{back_circle}, SnapshotVerdicts.{due_places}}
 use Rattle.lab_judge.proofs.placing.snapshot_verdict.Goals as goal
 
-pub places_in-requires-clause-within : goal.places_in-requires-clause-within
-places_in-requires-clause-within c =
-    let ordered = subst (IsOrdered c.in_ok-graph.graph) c.in-Order.is c.in_ok-order.ensures.ordered in
-    subst (All (λ n. n < 2 * c.len.result)) (sym c.deref.ensures.value)
-    (subst (λ k. All (λ n. n < k) c.in-Order.order.items) (c.in_ok-graph.ensures.size ∙ ap (λ k. 2 * k) (sym c.len.ensures.count))
-    (within c.in_ok-graph.graph c.in_ok-order.ensures.graph c.in-Order.order.items ordered))
-
-pub places_in-requires-clause-once : goal.places_in-requires-clause-once
-places_in-requires-clause-once c = λ node.
-    let ordered = subst (IsOrdered c.in_ok-graph.graph) c.in-Order.is c.in_ok-order.ensures.ordered in
-    subst (λ l. count_by (λ n. n == node) l ≤ 1) (sym c.deref.ensures.value)
-    (subst (λ k. k ≤ 1) (times_count node c.in-Order.order.items) (once_in c.in_ok-graph.graph c.in-Order.order.items ordered.each_once node))
-
-pub places_in-requires-clause-few : goal.places_in-requires-clause-few
-places_in-requires-clause-few c =
-    let ordered = subst (IsOrdered c.in_ok-graph.graph) c.in-Order.is c.in_ok-order.ensures.ordered in
-    let most = no_more _ c.in-Order.order.items (within c.in_ok-graph.graph c.in_ok-order.ensures.graph c.in-Order.order.items ordered) (once_in c.in_ok-graph.graph c.in-Order.order.items ordered.each_once) in
-    let size = ap length c.deref.ensures.value in
-    omega (arith, most, size, c.in_ok-graph.ensures.size, c.len.ensures.count, c.len.ensures.few)
+pub places_in-requires : goal.places_in-requires
+places_in-requires c =
+    let graph = c.in_ok-graph.graph in
+    let order = c.in-Order.order.items in
+    let ordered = subst (IsOrdered graph) c.in-Order.is c.in_ok-order.ensures.ordered in
+    let inside : All (λ n. n < nodes_of graph) order = within graph c.in_ok-order.ensures.graph order ordered in
+    let once : (a : ℕ) → times a order ≤ 1 = once_in graph order ordered.each_once in
+    let most = no_more (nodes_of graph) order inside once in
+    record {
+      within = subst (All (λ n. n < 2 * c.len.result)) (sym c.deref.ensures.value)
+          (subst (λ k. All (λ n. n < k) order) (c.in_ok-graph.ensures.size ∙ ap (λ k. 2 * k) (sym c.len.ensures.count)) inside);
+      once = λ node. subst (λ l. count_by (λ n. n == node) l ≤ 1) (sym c.deref.ensures.value) (subst (λ k. k ≤ 1) (times_count node order) (once node));
+      few = omega (arith, most, ap length c.deref.ensures.value, c.in_ok-graph.ensures.size, c.len.ensures.count, c.len.ensures.few);
+    }
 
 pub returns-in-Order : goal.returns-in-Order
 returns-in-Order c = λ h of.

@@ -3,8 +3,8 @@ use Rattle.lab_deps.specs.KindSets.{among}
 use Rattle.lab_judge.{specs.Graphs.{Tie, IsLeastTie}, proofs.{Chains.{step}, LeastWalks.{steps_on, gone_along}, Nets.{least_edge}}}
 use Rattle.lab_judge.proofs.walks.walk_along.Goals as goal
 
-pub least-requires : goal.least-requires
-least-requires c =
+pub least_between-requires : goal.least_between-requires
+least_between-requires c =
     let tie = (step (Tie (among c.args.allowed) c.args.net.now) c.loop-next.at c.loop-next.next-index c.args.way.now c.loop-next-test.true c.loop-next.invariant.rest).0 in
     record { from = slice_get_within _ _ _ tie.from; to = slice_get_within _ _ _ tie.to }
 

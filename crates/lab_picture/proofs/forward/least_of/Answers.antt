@@ -5,4 +5,4 @@ use Rattle.lab_picture.proofs.forward.least_of.Goals as goal
 pub returns : goal.returns
 returns c =
     let l = c.least.ensures in
-    λ h exact. least_of_listed h c.args.edges.now c.args.pair (among ALL) c.least.result all_has exact l.found l.from l.to l.least l.none
+    λ h exact. least_of_listed h c.args.edges.now.edges c.args.pair (among ALL) c.least.result all_has exact l.found l.from l.to l.least l.none

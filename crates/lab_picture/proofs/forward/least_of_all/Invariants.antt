@@ -6,4 +6,4 @@ use Rattle.lab_picture.proofs.forward.least_of_all.Given as goal
 
 -- the least of each two so far are found
 abbrev pub invariant-loop-pair : goal.invariant-loop-pair
-invariant-loop-pair l = (h : History) → ((e : Edge) → Contains l.edges e ↔ IsEdge h e) → AreLeastOf h (take l.pair-index l.pairs) l.found.items
+invariant-loop-pair l = (h : History) → ((e : Edge) → Contains l.edges.edges e ↔ IsEdge h e) → AreLeastOf h (take l.pair-index l.pairs) l.found.items

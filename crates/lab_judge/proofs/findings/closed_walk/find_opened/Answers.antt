@@ -9,8 +9,8 @@ returns-in_default c = λ h of.
     none_opened of (among c.args.allowed) (among c.args.opening) c.args.graph.now c.requires.graph c.requires.allowed
     (λ p q back. c.first_opening.ensures.none c.in_default.is p q (subst (λ g. Reaches g q p) (sym c.requires.ways) back))
 
-pub least-requires : goal.least-requires
-least-requires c =
+pub least_between-requires : goal.least_between-requires
+least_between-requires c =
     let tie = (subst (λ o. IfSome o (λ ends. Tie (among c.args.opening) c.args.net.now ends.from ends.to × Reaches c.args.ways.now ends.to ends.from)) c.in-Some.is c.first_opening.ensures.found).0 in
     record { from = slice_get_within _ _ _ tie.from; to = slice_get_within _ _ _ tie.to }
 

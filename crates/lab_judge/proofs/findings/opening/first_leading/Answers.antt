@@ -7,17 +7,17 @@ use Rattle.lab_judge.proofs.findings.opening.first_leading.Goals as goal
 pub returns-then-lead-clause-found : goal.returns-then-lead-clause-found
 returns-then-lead-clause-found c =
     let to = c.loop-to.to in
-    let inside : to < length c.row-row.result = subst (λ n. to < n) c.len-to-end.ensures c.loop-to-test.true in
+    let inside : to < length c.args.net.now.numbers = subst (λ n. to < n) c.len-to-end.ensures.count c.loop-to-test.true in
     let tied : c.meets.result ≡ true ↔ Tie (among c.args.kinds) c.args.net.now c.args.from to =
-    meets_tie c.args.net.now c.args.from c.row-row.result c.row-row.ensures.kinds to c.requires.from inside c.kinds-between.result c.kinds-between.ensures c.args.kinds c.meets.result c.meets.ensures in
+    meets_tie c.args.net.now c.args.from to c.requires.from inside c.kinds_at-between.result c.kinds_at-between.ensures.kinds c.args.kinds c.meets.result c.meets.ensures in
     (tied.0 c.if-meets.true, c.lead.ensures.0 c.if-lead.true)
 
 pub loop-to-preserved : goal.loop-to-preserved
 loop-to-preserved c k less back t =
     let to = c.loop-to.to in
-    let inside : to < length c.row-row.result = subst (λ n. to < n) c.len-to-end.ensures c.loop-to-test.true in
+    let inside : to < length c.args.net.now.numbers = subst (λ n. to < n) c.len-to-end.ensures.count c.loop-to-test.true in
     let tied : c.meets.result ≡ true ↔ Tie (among c.args.kinds) c.args.net.now c.args.from to =
-    meets_tie c.args.net.now c.args.from c.row-row.result c.row-row.ensures.kinds to c.requires.from inside c.kinds-between.result c.kinds-between.ensures c.args.kinds c.meets.result c.meets.ensures in
+    meets_tie c.args.net.now c.args.from to c.requires.from inside c.kinds_at-between.result c.kinds_at-between.ensures.kinds c.args.kinds c.meets.result c.meets.ensures in
     let here : Reaches c.args.ways.now to c.args.from → ¬ Tie (among c.args.kinds) c.args.net.now c.args.from to =
     elim c.else-meets.branch [
       | else-meets-via-then-meets+else-lead w ↦ λ on _. both_ways w.lead.result w.if-lead.false (w.lead.ensures.1 on)
@@ -33,4 +33,4 @@ loop-to-preserved c k less back t =
 pub returns-clause-none : goal.returns-clause-none
 returns-clause-none c = λ _ to back t.
     let within = slice_get_within _ to _ t.to in
-    c.loop-to.invariant to (omega (arith, within, c.loop-to-test.false, c.len-to-end.ensures, c.row-row.ensures.kinds.size)) back t
+    c.loop-to.invariant to (omega (arith, within, c.loop-to-test.false, c.len-to-end.ensures.count)) back t

@@ -1,5 +1,5 @@
 use Rattle.std.proofs.Common.{◌<◌, ◌≤◌, ℕ, get_or}
-use Rattle.lab_deps.proofs.dependencies.table.greatest.Given as goal
+use Rattle.lab_deps.proofs.dependencies.greatest.Given as goal
 
 -- none of the cells so far is greater
 abbrev pub invariant-loop-cell : goal.invariant-loop-cell

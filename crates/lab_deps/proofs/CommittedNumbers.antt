@@ -1,13 +1,16 @@
 -- The numbers of the committed transactions, each once.
-use Rattle.std.{proofs.{Common.{◌≡◌, ℕ, ◌≤◌, ◌==◌, Bool, true, false, cond, Some, List, [], ◌∷◌, map, refl, sym, ap, ◌∙◌, subst, arith, inl, inr}, lemmas.{Bool.{eqb-true, cases_lt, false≢true}, List.Elements.{All-map, All-contains, filter_passes}}}, specs.{Prelude.{Contains, filter, option_map}, List.{All, Sorted.{IsStrictlyIncreasing}}}}
+use Rattle.std.{proofs.{Common.{◌≡◌, ℕ, ◌+◌, ◌≤◌, ◌==◌, Bool, true, false, cond, Some, List, [], ◌∷◌, length, map, refl, sym, ap, ◌∙◌, subst, arith, inl, inr}, lemmas.{Bool.{eqb-true, cases_Bool, cases_lt, false≢true}, List.{length-map, Sums.{length-filter, count_by-le-length}, Elements.{All-map, All-contains, filter_passes}, Sorted.{length_permutation}}}}, specs.{Prelude.{Contains, count_by, filter, option_map}, List.{All, dedup, dedup_from, Sorted.{IsStrictlyIncreasing, IsPermutation}}}}
 use Rattle.lab_history.specs.{History.{History}, Version.{outcome_of, find_txn}, declared.transaction.Txn.{Txn}}
-use Rattle.lab_deps.{specs.Soundness.{has_committed}, proofs.Places.{times, times_count, times_here, times_more}}
-use Rattle.lab_judge.{specs.Runs.{HoldsEachOnce}, proofs.Numbers.{contained, contains_it, at_most_once}}
+use Rattle.lab_deps.{specs.Soundness.{has_committed}, proofs.{Places.{times, times_count, times_here, times_more}, RisingNumbers.{contained, contains_it, at_most_once}}}
 
 module _ (test : ℕ → Bool) where
   -- the numbers of the transactions whose number passes a test
   abbrev pub numbers_that : List Txn → List ℕ
   numbers_that ts = map (λ t. t.no) (filter (λ t. test t.no) ts)
+
+  -- there are no more of them than transactions
+  pub few_numbers : (ts : List Txn) → length (numbers_that ts) ≤ length ts
+  few_numbers ts = omega (arith, length-map (filter (λ t. test t.no) ts) (λ t. t.no), length-filter (λ t. test t.no) ts, count_by-le-length (λ t. test t.no) ts)
 
   -- each passes it
   passes : (ts : List Txn) → All (λ n. test n ≡ true) (numbers_that ts)
@@ -30,13 +33,29 @@ module _ (test : ℕ → Bool) where
             ]
       ] refl h
 
+-- where doubles are taken out, there is no more
+fewer_from : {A : Type 0} (same : A → A → Bool) (k : A) (xs : List A) → length (dedup_from same k xs) ≤ length xs + 1
+fewer_from same k [] = omega arith
+fewer_from same k (x ∷ xs) = elim (cases_Bool (same x k)) [
+  | inl dropped ↦ rw dropped (omega (arith, fewer_from same k xs))
+  | inr kept ↦ rw kept (omega (arith, fewer_from same x xs))
+]
+
+no_more_left : {A : Type 0} (same : A → A → Bool) (xs ys : List A) → ys ≡ dedup same xs → length ys ≤ length xs
+no_more_left same [] ys is = omega (arith, ap length is)
+no_more_left same (x ∷ xs) ys is = omega (arith, ap length is, fewer_from same x xs)
+
+-- nor where they were put in order before
+pub few_left : (kept xs ys : List ℕ) → IsPermutation kept xs → ys ≡ dedup (λ x y. x == y) xs → length ys ≤ length kept
+few_left kept xs ys moved is = omega (arith, no_more_left (λ x y. x == y) xs ys is, length_permutation kept xs moved)
+
 -- whether a number is a committed transaction's
 abbrev pub is_committed : History → ℕ → Bool
 is_committed h n = has_committed (outcome_of h n)
 
 -- rising numbers that are those of the committed transactions hold each once
 pub each_once : (h : History) (ns kept : List ℕ) → IsStrictlyIncreasing ns → kept ≡ numbers_that (is_committed h) h.txns
-    → ((n : ℕ) → Contains ns n → Contains kept n) → ((n : ℕ) → Contains kept n → Contains ns n) → HoldsEachOnce h ns
+    → ((n : ℕ) → Contains ns n → Contains kept n) → ((n : ℕ) → Contains kept n → Contains ns n) → (n : ℕ) → count_by (λ m. m == n) ns ≡ cond (is_committed h n) 1 0
 each_once h ns kept up is from into n = sym (times_count n ns) ∙ at (is_committed h n) refl
   where
     at : (b : Bool) → is_committed h n ≡ b → times n ns ≡ cond b 1 0
