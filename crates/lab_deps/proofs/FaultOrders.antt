@@ -3,16 +3,12 @@ use Rattle.std.proofs.{Common.{◌≡◌, ℕ, suc, ◌<◌, ◌==◌, true, fal
 use Rattle.std.specs.{Prelude.{nat_le, slice_get}, Ordering.{is_lt, ordering_reverse}, declared.cmp.Ordering.{Ordering, TheVariants.{Less, Equal, Greater}}}
 use Rattle.lab_table.specs.Row.{Row, row_cmp, rows_total, rows_apart}
 use Rattle.lab_history.specs.{History.{History}, Version.{IsCommitted, find_txn}, declared.transaction.Txn.{Txn}}
-use Rattle.lab_deps.specs.FaultKinds.{parts_of, op_fault, row_fault, fault_of}
-use Rattle.lab_deps.specs.Soundness.{Stands}
-use Rattle.lab_deps.specs.Refusal.{is_uncommitted_read, IsAnswer}
-use Rattle.lab_deps.specs.FaultOrder.{kind_place, where_is, place_among, ComesBefore, IsFirst}
+use Rattle.lab_deps.{specs.{FaultKinds.{parts_of, op_fault, row_fault, fault_of}, Soundness.{Stands}, Refusal.{is_uncommitted_read, IsAnswer}, FaultOrder.{kind_place, where_is, place_among, ComesBefore, IsFirst}}, proofs.Found.{committed_there}}
 use Rattle.lab_deps.specs.declared.{check.TheConstants.{KINDS}, fault.{FaultParts.{FaultParts}, LocalFault.{LocalFault}}, kind.{OpFault.{OpFault}, RowFault.{RowFault}}}
 use Rattle.lab_deps.specs.declared.fault.FaultParts.TheVariants as parts
 use Rattle.lab_deps.specs.declared.fault.LocalFault.TheVariants as fault
 use Rattle.lab_deps.specs.declared.kind.OpFault.TheVariants as kind
 use Rattle.lab_deps.specs.declared.kind.RowFault.TheVariants as row_kind
-use Rattle.lab_deps.proofs.Found.{committed_there}
 
 -- the fault of a fault's kind and place is that fault
 pub made_again : (f : LocalFault) → fault_of (parts_of f) ≡ f

@@ -3,13 +3,7 @@ use Rattle.std.proofs.{Common.{◌≡◌, ◌↔◌, ◌≤◌, ◌+◌, ℕ, Bo
 use Rattle.std.specs.{Prelude.{Contains, option_map}, Ordering.{is_lt, nat_cmp, ordering_then}, declared.cmp.Ordering.{Ordering, TheVariants.{Less, Equal, Greater}}}
 use Rattle.lab_table.{specs.Row.{Row, row_cmp}, proofs.Tests.{mapped_some}}
 use Rattle.lab_history.specs.{History.{History}, Version.{IsCommitted}}
-use Rattle.lab_deps.specs.Edges.{Depends, IsEdge}
-use Rattle.lab_deps.specs.EdgeOrder.{kind_place, edge_cmp}
-use Rattle.lab_deps.specs.KindBits.{edge_of}
-use Rattle.lab_deps.specs.LeastEdge.{fits, comes_first, both_have, least_kind, IsLeast}
-use Rattle.lab_deps.specs.LeastRow.{comes_before, IsLeastRow}
-use Rattle.lab_deps.specs.Scopes.{Allows, edges_in}
-use Rattle.lab_deps.specs.Soundness.{Stands}
+use Rattle.lab_deps.specs.{Edges.{Depends, IsEdge}, EdgeOrder.{kind_place, edge_cmp}, KindBits.{edge_of}, LeastEdge.{fits, comes_first, both_have, least_kind, IsLeast}, LeastRow.{comes_before, IsLeastRow}, Scopes.{Allows, edges_in}, Soundness.{Stands}}
 use Rattle.lab_deps.specs.declared.{edge.{Edge.{Edge}, Kind.{Kind, TheVariants.{Write, ItemRead, PredicateRead, ItemAnti, PredicateAnti}}}, fault.LocalFault.TheVariants.{InstallOrder}, scope.Scope.{Scope, TheVariants.{All, Writes}}}
 use Rattle.lab_deps.proofs.{CollectedEdges.{edge_is_collected}, EachKind.{each_kind}, EdgeOrders.{same_kind}, LeastOfTwo.{fits_ends}, ScopedEdges.{are_edges}, WriteEdges.{are_writes, writes_are}}
 

@@ -4,13 +4,8 @@ use Rattle.std.specs.{Prelude.{Contains, is_some, nat_lt, nat_le}, List.Sorted.{
 use Rattle.std.specs.FinMap as map
 use Rattle.lab_table.{specs.{Row.{Row, row_cmp}, Statement.{matches, may_match}, declared.statement.Statement.{Statement}}, proofs.OneRow.{no_match}}
 use Rattle.lab_history.specs.{History.{History}, Version.{IsCommitted, IsOp, installers, place_in, new_state, state_at, viewed}, declared.operation.Op.{Op}}
-use Rattle.lab_deps.specs.Collected.{committed_ops}
-use Rattle.lab_deps.specs.Edges.{differ, changes, place_of, InstallsAt, Depends}
-use Rattle.lab_deps.specs.EdgesByRow.{looks_at}
-use Rattle.lab_deps.specs.LeastRow.{first_row, least_at, IsLeastRow}
-use Rattle.lab_deps.specs.Meetings.{is_next, installs_next, turns, is_tied, tied_in, looks_for, meets, Meets, HasWritten}
+use Rattle.lab_deps.specs.{Collected.{committed_ops}, Edges.{differ, changes, place_of, InstallsAt, Depends}, EdgesByRow.{looks_at}, LeastRow.{first_row, least_at, IsLeastRow}, Meetings.{is_next, installs_next, turns, is_tied, tied_in, looks_for, meets, Meets, HasWritten}, Soundness.{Stands}}
 use Rattle.lab_deps.specs.{FirstOf.{first_entry}, RowTests.{state_after}}
-use Rattle.lab_deps.specs.Soundness.{Stands}
 use Rattle.lab_deps.specs.declared.{edge.Kind.{Kind, TheVariants.{Write, ItemRead, PredicateRead, ItemAnti, PredicateAnti}}, fault.LocalFault.TheVariants.{InstallOrder}}
 use Rattle.lab_deps.proofs.{EndStates.{same_after}, InstalledOnce.{found_place, row_written, writing_op}, LeastRows.{least_like, entry_least, row_least, least_of_ops}, Places.{place_there}, Readers.{committed_has, has_committed}}
 

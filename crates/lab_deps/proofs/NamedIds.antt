@@ -1,8 +1,7 @@
 -- Rows of the initial table that are left out, and whose numbers a statement lists.
-use Rattle.std.proofs.Common.{◌≡◌, ◌≢◌, ℕ, ℤ, nat_abs, Bool, true, false, ◌||◌, Option, Some, None, List, [], ◌∷◌, ◌++◌, ◌⊎◌, inl, inr, refl, sym, ap, ◌∙◌, subst}
+use Rattle.std.proofs.{Common.{◌≡◌, ◌≢◌, ℕ, ℤ, nat_abs, Bool, true, false, ◌||◌, Option, Some, None, List, [], ◌∷◌, ◌++◌, ◌⊎◌, inl, inr, refl, sym, ap, ◌∙◌, subst}, Math.Bool.{or-false}}
 use Rattle.std.specs.{Prelude.{pos, option_map}, Bool.{then_some}, FinMap.{get}, Ordering.{int_eq}}
 use Rattle.std.proofs.lemmas.{Bool.{false≢true, or_cases, Decides.{Decides-int_eq}}, List.Folds.{list_any-append}, Option.{none-some, same_Some}}
-use Rattle.std.proofs.Math.Bool.{or-false}
 use Rattle.lab_table.{specs.{Row.{Row, id_of, numbered, row_made}, NamedRow.{has_number}, Statement.{may_match}}, proofs.Tests.{mapped_some}}
 use Rattle.lab_history.specs.{History.{History}, declared.operation.Op.{Op}}
 use Rattle.lab_deps.{specs.{Broken.{is_unlisted, IsUnlisted}, FirstOf.{IsLess, IsLeastRow, least}}, proofs.{FirstOf.{first_like, least_where, not_itself}, RuledOut.{may_be_unlisted}, OwnTable.{own_table}}}

@@ -2,9 +2,7 @@
 use Rattle.std.{proofs.{Common.{◌≡◌, ℕ, suc, ◌+◌, ◌==◌, Bool, true, false, not, cond, Option, Some, None, List, [], ◌∷◌, ◌++◌, refl, sym, ap, ◌∙◌}, lemmas.Bool.{false≢true, and_parts, not-true}}, specs.{Prelude.{is_some, option_map}, List.{list_all}, FinMap.{get}}}
 use Rattle.lab_table.specs.{Row.{Row}, Statement.{matches}, declared.statement.Statement.{Statement}}
 use Rattle.lab_history.specs.{History.{History}, Version.{viewed}, declared.operation.Op.{Op}}
-use Rattle.lab_deps.specs.Edges.{differ, place_of}
-use Rattle.lab_deps.specs.Collected.{apart_in, read_by, passed_by}
-use Rattle.lab_deps.specs.EdgesByRow.{Chain, edges_by, walk, walked_in, is_steady, looks_at, found_at_row}
+use Rattle.lab_deps.specs.{Edges.{differ, place_of}, Collected.{apart_in, read_by, passed_by}, EdgesByRow.{Chain, edges_by, walk, walked_in, is_steady, looks_at, found_at_row}}
 use Rattle.lab_deps.specs.declared.{edge.{Edge.{Edge}, Kind.TheVariants.{ItemRead, ItemAnti}}, reading.Reading.{Reading}, versions.Version.{Version}}
 
 alike : (a b : Bool) → differ a b ≡ false → b ≡ a

@@ -8,8 +8,7 @@ use Rattle.lab_deps.specs.declared.{check.TheConstants.{KINDS}, fault.{FaultPart
 use Rattle.lab_deps.specs.declared.fault.FaultParts.TheVariants as parts
 use Rattle.lab_deps.specs.declared.kind.OpFault.TheVariants as kind
 use Rattle.lab_deps.specs.declared.kind.RowFault.TheVariants as row_kind
-use Rattle.lab_deps.proofs.BrokenStands.{decides_dangling, decides_aborted_read, decides_intermediate, decides_rows, lists_due, decides_writes}
-use Rattle.lab_deps.proofs.FaultOrders.{made_again, op_place, row_place, op_told, row_told, at_place, same_kind, same_row_kind, kinds_apart, reads_last}
+use Rattle.lab_deps.proofs.{BrokenStands.{decides_dangling, decides_aborted_read, decides_intermediate, decides_rows, lists_due, decides_writes}, FaultOrders.{made_again, op_place, row_place, op_told, row_told, at_place, same_kind, same_row_kind, kinds_apart, reads_last}}
 use Rattle.lab_deps.proofs.{LaterReads.{later_stands, later_found}, MissedWrites.{first_misses, tested_all}, Searches.{get_take, taken_get}}
 
 -- a kind stands at its place among the kinds, and at no other

@@ -1,6 +1,5 @@
 -- Cells that tell which kinds of edges there are.
-use Rattle.std.proofs.Common.{◌≡◌, ◌≢◌, ◌⊎◌, ◌<◌, ◌==◌, ℕ, true, false, cond, List, [], ◌∷◌, ◌++◌, length, get_or, set, refl, sym, ap, ◌∙◌, subst, inl, inr}
-use Rattle.std.specs.Prelude.{Contains, bit_and, bit_or}
+use Rattle.std.{proofs.Common.{◌≡◌, ◌≢◌, ◌⊎◌, ◌<◌, ◌==◌, ℕ, true, false, cond, List, [], ◌∷◌, ◌++◌, length, get_or, set, refl, sym, ap, ◌∙◌, subst, inl, inr}, specs.Prelude.{Contains, bit_and, bit_or}}
 use Rattle.std.proofs.lemmas.{Bool.{cases_eq, eq-eqb, eqb-true}, List.{append-nil, get_or-set_same, get_or-set_other, length-set, Elements.{Contains-append_left, Contains-append_right, Contains-append_cases}}, Nat.{and_or_self, and_or_apart, mul-add-lt, same_from_place}}
 use Rattle.lab_table.{specs.Row.{Row}, proofs.Members.{first_member, only_member}}
 use Rattle.lab_deps.specs.{Collected.{apart}, KindBits.{bit, has_bit, place, cell_at, edge_of, Tells}, declared.edge.{Edge.{Edge}, Kind.{Kind, TheVariants.{Write, ItemRead, PredicateRead, ItemAnti, PredicateAnti}}}}

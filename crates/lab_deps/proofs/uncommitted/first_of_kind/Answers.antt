@@ -1,6 +1,5 @@
 use Rattle.std.proofs.Common.{refl, sym, subst, inr}
-use Rattle.lab_deps.specs.Search.{IsTestedAt}
-use Rattle.lab_deps.proofs.TestedFaults.{only_kind}
+use Rattle.lab_deps.{specs.Search.{IsTestedAt}, proofs.TestedFaults.{only_kind}}
 use Rattle.lab_deps.proofs.uncommitted.first_of_kind.Goals as goal
 
 pub returns-in_err-found-clause-none : goal.returns-in_err-found-clause-none
