@@ -59,48 +59,57 @@ const BEFORE_AND_AFTER: &[(u32, u32)] = &[(0, 1), (1, 2), (2, 0)];
 /// An insert, a delete of the row and an insert again.
 const REBORN: &[(u32, u32)] = &[(0, 1), (0, 2), (1, 2)];
 
-/// Whether both answer the same of these arrows.
-fn are_alike(alloc: Global, nodes: u32, arrows: &[(u32, u32)]) -> Result<bool, NoMemory> {
-    let graph = graph_of(alloc, nodes, arrows)?;
+/// Whether both answer the same of these arrows; they don't where memory is refused.
+fn are_alike(alloc: Global, nodes: u32, arrows: &[(u32, u32)]) -> bool {
+    let Ok(graph) = graph_of(alloc, nodes, arrows) else {
+        return false;
+    };
     let answer = order(alloc, &graph);
     drop(graph);
-    let answer = answer?;
-    let alike = is_scanned(alloc, nodes, arrows, &answer);
-    drop(answer);
-    alike
+    match answer {
+        Ok(answer) => {
+            let alike = is_scanned(alloc, nodes, arrows, &answer);
+            drop(answer);
+            alike
+        }
+        Err(_) => false,
+    }
 }
 
 /// Whether scanning answers this.
-fn is_scanned(
-    alloc: Global,
-    nodes: u32,
-    arrows: &[(u32, u32)],
-    answer: &Ordered,
-) -> Result<bool, NoMemory> {
-    let scanned = scanning_order(alloc, nodes, arrows)?;
-    let alike = parts(answer) == parts(&scanned);
-    drop(scanned);
-    Ok(alike)
+fn is_scanned(alloc: Global, nodes: u32, arrows: &[(u32, u32)], answer: &Ordered) -> bool {
+    match scanning_order(alloc, nodes, arrows) {
+        Ok(scanned) => {
+            let alike = parts(answer) == parts(&scanned);
+            drop(scanned);
+            alike
+        }
+        Err(_) => false,
+    }
 }
 
 /// Whether both answer the same of the arrows of a seed.
-fn seed_alike(alloc: Global, seed: u32) -> Result<bool, NoMemory>
+fn seed_alike(alloc: Global, seed: u32) -> bool
     requires { seed < 50 }
 {
     let nodes = 1 + seed * 7 % 40;
-    let arrows = some_arrows(alloc, seed, nodes, nodes * (1 + seed % 3), seed % 2 == 0)?;
-    let alike = are_alike(alloc, nodes, &arrows);
-    drop(arrows);
-    alike
+    match some_arrows(alloc, seed, nodes, nodes * (1 + seed % 3), seed % 2 == 0) {
+        Ok(arrows) => {
+            let alike = are_alike(alloc, nodes, &arrows);
+            drop(arrows);
+            alike
+        }
+        Err(_) => false,
+    }
 }
 
 #[test]
 fn orders_by_counts_are_those_by_scanning(rt: HostRuntime) -> Result<(), Fail> {
     for arrows in [TWO_ORDERS, BEFORE_AND_AFTER, REBORN] {
-        assert!(rt; are_alike(rt.alloc(), 3, arrows)?, "{arrows:?}");
+        assert!(rt; are_alike(rt.alloc(), 3, arrows), "{arrows:?}");
     }
     for seed in 0..50 {
-        assert!(rt; seed_alike(rt.alloc(), seed)?, "{seed}");
+        assert!(rt; seed_alike(rt.alloc(), seed), "{seed}");
     }
     Ok(())
 }

@@ -86,5 +86,10 @@ fn circle_behind(
 }
 
 fn how_many_before(nodes: &[u32], node: u32) -> usize {
-    nodes.iter().take_while(|n| **n != node).count()
+    for (place, other) in nodes.iter().enumerate() {
+        if *other == node {
+            return place;
+        }
+    }
+    nodes.len()
 }
