@@ -11,7 +11,7 @@ use std::alloc::Global;
 use std::process::Abort;
 use std::test::Fail;
 
-static CALLS: [Call; 18] = [
+static CALLS: [Call; 17] = [
     Call::ByRowCopy,
     Call::NumbersCopy,
     Call::TableCopy,
