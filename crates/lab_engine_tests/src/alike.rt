@@ -56,35 +56,39 @@ pub fn alike_outcomes(a: &Outcome, b: &Outcome) -> bool {
     }
 }
 
-/// Whether two statements have one text. None where memory is refused.
-fn alike_statements(alloc: Global, a: &Statement, b: &Statement) -> Option<bool> {
-    let text = print_statement(alloc, a).ok()?;
-    Some(text == print_statement(alloc, b).ok()?)
+/// Whether two statements have one text; they haven't where memory is refused.
+fn alike_statements(alloc: Global, a: &Statement, b: &Statement) -> bool {
+    let text = print_statement(alloc, a).ok();
+    let other = print_statement(alloc, b).ok();
+    let alike = text.is_some() && text == other;
+    drop(text);
+    drop(other);
+    alike
 }
 
-/// Whether two commands are the same; statements are where they have one text. None where memory is refused.
-pub fn alike_commands(alloc: Global, a: &Command, b: &Command) -> Option<bool> {
+/// Whether two commands are the same; statements are where they have one text.
+pub fn alike_commands(alloc: Global, a: &Command, b: &Command) -> bool {
     match (a, b) {
         (Command::Run(statement), Command::Run(other)) => alike_statements(alloc, statement, other),
-        (Command::Begin, Command::Begin) => Some(true),
-        (Command::Commit, Command::Commit) => Some(true),
-        (Command::Abort, Command::Abort) => Some(true),
-        _ => Some(false),
+        (Command::Begin, Command::Begin) => true,
+        (Command::Commit, Command::Commit) => true,
+        (Command::Abort, Command::Abort) => true,
+        _ => false,
     }
 }
 
-/// Whether two logs have the same events. None where memory is refused.
-pub fn alike_logs(alloc: Global, a: &[LogEvent], b: &[LogEvent]) -> Option<bool> {
+/// Whether two logs have the same events.
+pub fn alike_logs(alloc: Global, a: &[LogEvent], b: &[LogEvent]) -> bool {
     if a.len() != b.len() {
-        return Some(false);
+        return false;
     }
     for (event, other) in a.iter().zip(b) {
         if event.session != other.session
-            || !alike_commands(alloc, &event.command, &other.command)?
+            || !alike_commands(alloc, &event.command, &other.command)
             || !alike_outcomes(&event.outcome, &other.outcome)
         {
-            return Some(false);
+            return false;
         }
     }
-    Some(true)
+    true
 }

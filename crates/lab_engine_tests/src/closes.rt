@@ -194,7 +194,9 @@ fn start(alloc: Global, script: &Script, spoil: Spoil) -> Option<Table> {
 
 /// The table where row 1 has another value.
 fn other_table(alloc: Global) -> Option<Table> {
-    let other = parse_script(alloc, OTHER).ok()?;
+    let Ok(other) = parse_script(alloc, OTHER) else {
+        return None;
+    };
     let table = other.setup.copy(alloc).ok();
     drop(other);
     table
@@ -209,10 +211,13 @@ struct Tables {
 }
 
 fn tables_of(alloc: Global, script: &Script, spoil: Spoil) -> Option<Tables> {
-    let bench = script.setup.copy(alloc).ok()?;
-    let lab = start(alloc, script, spoil)?;
-    let shadow = start(alloc, script, spoil)?;
-    Some(Tables { bench, lab, shadow })
+    let bench = script.setup.copy(alloc).ok();
+    let lab = start(alloc, script, spoil);
+    let shadow = start(alloc, script, spoil);
+    match bench.zip(lab).zip(shadow) {
+        Some(((bench, lab), shadow)) => Some(Tables { bench, lab, shadow }),
+        None => None,
+    }
 }
 
 /// The same on the engine that a number names.
@@ -224,7 +229,9 @@ fn both_on<R: Wait>(
     spoil: Spoil,
     at: usize,
 ) -> Option<Both> {
-    let script = parse_script(alloc, text).ok()?;
+    let Ok(script) = parse_script(alloc, text) else {
+        return None;
+    };
     let both = both_of(rt, alloc, number, &script, spoil, at);
     drop(script);
     both
@@ -305,38 +312,39 @@ fn is_alike<R: Wait>(
     text: &[u8],
     spoil: Spoil,
     at: usize,
-) -> Option<bool> {
-    let both = both_on(rt, alloc, number, text, spoil, at)?;
-    let is_due = !matches!(spoil, Spoil::Nothing) || both.closed.is_some() == both.deadlocks;
-    Some(is_due && both.closed == both.plain)
+) -> bool {
+    match both_on(rt, alloc, number, text, spoil, at) {
+        Some(both) => {
+            let is_due = !matches!(spoil, Spoil::Nothing)
+                || both.closed.is_some() == both.deadlocks;
+            is_due && both.closed == both.plain
+        }
+        None => false,
+    }
 }
 
 /// Whether it is so at the end of each run of a script. What is spoiled stands at the events from an index on.
-fn are_alike<R: Wait>(rt: &R, alloc: Global, text: &[u8], from: usize, to: usize) -> Option<bool> {
+fn are_alike<R: Wait>(rt: &R, alloc: Global, text: &[u8], from: usize, to: usize) -> bool {
     for number in 0..3u32 {
         for spoil in &SPOILS {
             for at in from..to {
-                if !is_alike(rt, alloc, number, text, *spoil, at)? {
-                    return Some(false);
+                if !is_alike(rt, alloc, number, text, *spoil, at) {
+                    return false;
                 }
             }
         }
     }
-    Some(true)
+    true
 }
 
 #[test]
 fn runs_end_as_by_a_plainer_body(rt: HostRuntime) -> Result<(), Fail> {
     let alloc = rt.alloc();
-    assert_eq!(rt; are_alike(&rt, alloc, PLAIN, 0, 12), Some(true));
-    assert_eq!(rt; are_alike(&rt, alloc, WAITING, 0, 12), Some(true));
-    assert_eq!(rt; are_alike(&rt, alloc, REFUSING, 0, 12), Some(true));
+    for text in [PLAIN, WAITING, REFUSING] {
+        assert!(rt; are_alike(&rt, alloc, text, 0, 12), "{text:?}");
+    }
     for number in 0..LISTINGS {
-        assert_eq!(rt;
-            are_alike(&rt, alloc, listing(number), 2, 5),
-            Some(true),
-            "{number}"
-        );
+        assert!(rt; are_alike(&rt, alloc, listing(number), 2, 5), "{number}");
     }
     Ok(())
 }
@@ -354,11 +362,14 @@ fn shows_end<R: Wait + Abort>(
     Ok(())
 }
 
+fn differs(session: Session, place: usize) -> Option<CloseFault> {
+    Some(CloseFault::ReceiptDiffers { session, place })
+}
+
 #[test]
 fn spoiled_seats_are_told(rt: HostRuntime) -> Result<(), Fail> {
     let one = Session::new(1).ok_or("a session")?;
     let two = Session::new(2).ok_or("a session")?;
-    let differs = |session, place| Some(CloseFault::ReceiptDiffers { session, place });
     let missing = Some(CloseFault::SeatMissing { session: two });
     let repeated = Some(CloseFault::SeatRepeated { session: two });
     shows_end(&rt, rt.alloc(), Spoil::Nothing, 0, None)?;

@@ -3,11 +3,11 @@
 ghost use Rattle.std.specs.Prelude.{◌≡◌, []};
 
 use crate::alike::{alike_logs, alike_outcomes};
+use crate::compared::{Compared, level_alike};
 use crate::listings::{LISTINGS, listing};
 use crate::plain::PlainEngine;
 use crate::recordings::is_plain;
 use lab_engine::{Engine, Level, LogEvent, Outcome, Recording};
-use lab_levels::on_engine;
 use lab_script::{Line, Script, parse_script};
 use lab_session::play_script;
 use lab_table::{Command, NoMemory, Session, Table};
@@ -79,11 +79,11 @@ fn made_script(alloc: Global, seed: u32) -> Result<Vec<u8>, NoMemory> {
     Ok(text)
 }
 
-/// Whether two answers are alike; None where one of them had no memory.
-fn alike_answers(outcome: Option<Outcome>, due: Option<Outcome>) -> Option<bool> {
+/// Whether two answers are alike; they aren't where one of them had no memory.
+fn alike_answers(outcome: Option<Outcome>, due: Option<Outcome>) -> bool {
     let alike = match (&outcome, &due) {
-        (Some(outcome), Some(due)) => Some(alike_outcomes(outcome, due)),
-        _ => None,
+        (Some(outcome), Some(due)) => alike_outcomes(outcome, due),
+        _ => false,
     };
     drop(outcome);
     drop(due);
@@ -97,13 +97,13 @@ fn step_alike<E: Engine>(
     plain: &mut PlainEngine,
     session: Session,
     command: &Command,
-) -> Option<bool> {
+) -> bool {
     if engine.log().len() >= 100_000 {
-        return None;
+        return false;
     }
     let outcome = engine.step(alloc, session, command).ok();
-    let alike = alike_answers(outcome, plain.step(alloc, session, command))?;
-    Some(alike && engine.retryable() == plain.retryable(alloc)?)
+    alike_answers(outcome, plain.step(alloc, session, command))
+        && plain.retryable(alloc) == Some(engine.retryable())
 }
 
 /// The same of a retry of a session that waits.
@@ -112,13 +112,13 @@ fn retry_alike<E: Engine>(
     engine: &mut E,
     plain: &mut PlainEngine,
     session: Session,
-) -> Option<bool> {
+) -> bool {
     if engine.log().len() >= 100_000 || !engine.is_waiting(session) {
-        return None;
+        return false;
     }
     let outcome = engine.retry(alloc, session).ok();
-    let alike = alike_answers(outcome, plain.retry(alloc, session))?;
-    Some(alike && engine.retryable() == plain.retryable(alloc)?)
+    alike_answers(outcome, plain.retry(alloc, session))
+        && plain.retryable(alloc) == Some(engine.retryable())
 }
 
 /// The same of all that is done at a line: at two of three lines the retryable session is retried; the command is
@@ -130,21 +130,21 @@ fn line_alike<E: Engine>(
     place: usize,
     session: Session,
     command: &Command,
-) -> Option<bool> {
+) -> bool {
     if place % 3 != 0 {
         if let Some(retryable) = engine.retryable() {
-            if !retry_alike(alloc, engine, plain, retryable)? {
-                return Some(false);
+            if !retry_alike(alloc, engine, plain, retryable) {
+                return false;
             }
         }
     }
-    if !step_alike(alloc, engine, plain, session, command)? {
-        return Some(false);
+    if !step_alike(alloc, engine, plain, session, command) {
+        return false;
     }
     if place % 5 == 0 && engine.is_waiting(session) {
         return retry_alike(alloc, engine, plain, session);
     }
-    Some(true)
+    true
 }
 
 /// Whether an engine answers as a plain one to these lines, event for event, and both have the same log in the end.
@@ -153,10 +153,10 @@ fn lines_alike<E: Engine>(
     engine: &mut E,
     plain: &mut PlainEngine,
     lines: &[Line],
-) -> Option<bool> {
+) -> bool {
     for (place, line) in lines.iter().enumerate() {
-        if !line_alike(alloc, engine, plain, place, line.session, &line.command)? {
-            return Some(false);
+        if !line_alike(alloc, engine, plain, place, line.session, &line.command) {
+            return false;
         }
     }
     alike_logs(alloc, engine.log(), &plain.log)
@@ -168,11 +168,11 @@ fn plain_engine(alloc: Global, level: Level, setup: &Table) -> Option<PlainEngin
 }
 
 /// The same of a script.
-fn runs_alike<E: Engine + Drop>(alloc: Global, engine: E, script: &Script) -> Option<bool> {
+pub fn runs_alike<E: Engine + Drop>(alloc: Global, engine: E, script: &Script) -> bool {
     let mut engine = engine;
     let Some(plain) = plain_engine(alloc, engine.level(), engine.setup()) else {
         drop(engine);
-        return None;
+        return false;
     };
     let mut plain = plain;
     let alike = lines_alike(alloc, &mut engine, &mut plain, script.lines.as_slice());
@@ -181,31 +181,36 @@ fn runs_alike<E: Engine + Drop>(alloc: Global, engine: E, script: &Script) -> Op
     alike
 }
 
-/// Gives a plain engine the calls of a log: a retry where it finds a session retryable, and else the event's command.
-fn follow(alloc: Global, plain: &mut PlainEngine, log: &[LogEvent]) -> Option<()> {
-    for event in log {
-        let answer = match plain.retryable(alloc)? {
-            Some(session) => plain.retry(alloc, session),
-            None => plain.step(alloc, event.session, &event.command),
-        };
-        drop(answer?);
-    }
-    Some(())
+/// Gives a plain engine the call of an event: a retry where it finds a session retryable, and else the event's command.
+/// Whether it had memory.
+fn follows(alloc: Global, plain: &mut PlainEngine, event: &LogEvent) -> bool {
+    let answer = match plain.retryable(alloc) {
+        Some(Some(session)) => plain.retry(alloc, session),
+        Some(None) => plain.step(alloc, event.session, &event.command),
+        None => None,
+    };
+    let is_answered = answer.is_some();
+    drop(answer);
+    is_answered
 }
 
 /// Whether a plain engine that is given a recording's calls has its log then, and the history of that log is its
 /// history.
-fn follows_alike(alloc: Global, plain: &mut PlainEngine, recording: &Recording) -> Option<bool> {
-    follow(alloc, plain, recording.log())?;
-    if !alike_logs(alloc, recording.log(), &plain.log)? {
-        return Some(false);
+fn follows_alike(alloc: Global, plain: &mut PlainEngine, recording: &Recording) -> bool {
+    for event in recording.log() {
+        if !follows(alloc, plain, event) {
+            return false;
+        }
     }
-    is_plain(alloc, recording.history(), &plain.setup, &plain.log, BELOW)
+    alike_logs(alloc, recording.log(), &plain.log)
+        && is_plain(alloc, recording.history(), &plain.setup, &plain.log, BELOW)
 }
 
 /// Whether it is so of a plain engine of the recording's level and table.
-fn is_followed(alloc: Global, recording: &Recording) -> Option<bool> {
-    let plain = plain_engine(alloc, recording.level(), recording.setup())?;
+fn is_followed(alloc: Global, recording: &Recording) -> bool {
+    let Some(plain) = plain_engine(alloc, recording.level(), recording.setup()) else {
+        return false;
+    };
     let mut plain = plain;
     let alike = follows_alike(alloc, &mut plain, recording);
     drop(plain);
@@ -213,13 +218,17 @@ fn is_followed(alloc: Global, recording: &Recording) -> Option<bool> {
 }
 
 /// Whether it is so of the play of a script.
-fn plays_alike<E: Engine + Drop>(alloc: Global, engine: E, script: &Script) -> Option<bool>
+pub fn plays_alike<E: Engine + Drop>(alloc: Global, engine: E, script: &Script) -> bool
     requires { E.events engine ≡ [] }
 {
-    let recording = play_script(alloc, engine, script).ok()?;
-    let alike = is_followed(alloc, &recording);
-    drop(recording);
-    alike
+    match play_script(alloc, engine, script) {
+        Ok(recording) => {
+            let alike = is_followed(alloc, &recording);
+            drop(recording);
+            alike
+        }
+        Err(_) => false,
+    }
 }
 
 /// The scripts by their numbers: the listings, and behind them those that are made.
@@ -233,39 +242,23 @@ fn script_of(alloc: Global, number: u32) -> Option<Script> {
     script
 }
 
-/// Whether the engine of a level runs and plays a script as a plain one.
-fn level_alike(alloc: Global, level: Level, script: &Script) -> Option<bool> {
-    let setup = script.setup.copy(alloc).ok()?;
-    let alike = on_engine!(
-        level,
-        alloc,
-        setup,
-        |engine| runs_alike(alloc, engine, script)
-    );
-    if !alike? {
-        return Some(false);
+/// Whether runs and plays are so of the script of a number.
+fn is_alike(alloc: Global, level: Level, number: u32) -> bool {
+    match script_of(alloc, number) {
+        Some(script) => {
+            let alike = level_alike(alloc, level, &script, Compared::Run)
+                && level_alike(alloc, level, &script, Compared::Play);
+            drop(script);
+            alike
+        }
+        None => false,
     }
-    let setup = script.setup.copy(alloc).ok()?;
-    on_engine!(
-        level,
-        alloc,
-        setup,
-        |engine| plays_alike(alloc, engine, script)
-    )
-}
-
-/// The same of the script of a number.
-fn is_alike(alloc: Global, level: Level, number: u32) -> Option<bool> {
-    let script = script_of(alloc, number)?;
-    let alike = level_alike(alloc, level, &script);
-    drop(script);
-    alike
 }
 
 /// Fails where it isn't so of each script.
 fn shows_alike(rt: &impl Abort, alloc: Global, level: Level) {
     for number in 0..LISTINGS + 200 {
-        assert_eq!(rt; is_alike(alloc, level, number), Some(true), "{number}");
+        assert!(rt; is_alike(alloc, level, number), "{number}");
     }
 }
 

@@ -143,7 +143,9 @@ fn answers<E: Engine + Drop>(
     session: Session,
     command: &Command,
 ) -> Option<bool> {
-    let receipt = bench.step(alloc, session, command).ok()?;
+    let Ok(receipt) = bench.step(alloc, session, command) else {
+        return None;
+    };
     let is_answered = is_answered(&receipt.outcome);
     drop(receipt);
     Some(is_answered)
@@ -160,14 +162,21 @@ fn submit<R: Wait, E: Engine + Drop>(
 ) -> Option<()>
     requires { place < length seats.old.items }
 {
-    let seat = lab.submit(rt, alloc, seats.remove(place), command).ok()?;
-    seats.insert(place, seat).ok()
+    match lab.submit(rt, alloc, seats.remove(place), command) {
+        Ok(seat) => seats.insert(place, seat).ok(),
+        Err((seat, _)) => {
+            drop(seat);
+            None
+        }
+    }
 }
 
 /// A new seat of the session at a place.
 fn spare(alloc: Global, place: usize) -> Option<Seat> {
     let engine = SnapshotEngine::new(alloc, Table::new(alloc));
-    let (lab, seats) = Lab::start(alloc, engine, 9).ok()?;
+    let Ok((lab, seats)) = Lab::start(alloc, engine, 9) else {
+        return None;
+    };
     drop(lab);
     let mut seats = seats;
     let seat = taken(&mut seats, place);
@@ -191,13 +200,34 @@ pub struct Handed {
     pub seats: Vec<Seat>,
 }
 
-/// The sessions from 1 to a number.
-fn sessions(alloc: Global, last: u8) -> Option<Vec<Session>> {
-    let mut sessions = Vec::new(alloc);
-    for number in 1..=last {
-        sessions.push(Session::new(number)?).ok()?;
+/// So many sessions, from 1 on.
+fn sessions(alloc: Global, count: usize) -> Option<Vec<Session>> {
+    Vec::from_slice(alloc, Session::ALL.get(..count)?).ok()
+}
+
+/// Leaves out the seat at a place.
+fn leave_out(seats: &mut Vec<Seat>, owners: &mut Vec<Session>, place: usize) -> Option<()> {
+    if place >= owners.len() || place >= seats.len() {
+        return None;
     }
-    Some(sessions)
+    owners.remove(place);
+    drop(seats.remove(place));
+    Some(())
+}
+
+/// Adds a second seat of the session at a place.
+fn repeat(
+    alloc: Global,
+    seats: &mut Vec<Seat>,
+    owners: &mut Vec<Session>,
+    place: usize,
+) -> Option<()> {
+    let owner = *owners.get(place)?;
+    owners.push(owner).ok()?;
+    match spare(alloc, place) {
+        Some(seat) => seats.push(seat).ok(),
+        None => None,
+    }
 }
 
 /// Leaves of the seats of nine sessions what is handed in where three are there, and says whose they are.
@@ -209,19 +239,12 @@ fn spoil_seats(
 ) -> Option<Vec<Session>> {
     let mut owners = sessions(alloc, 3)?;
     seats.truncate(3);
-    match spoil {
-        Spoil::SeatMissing if place < owners.len() => {
-            drop(taken(seats, place)?);
-            owners.remove(place);
-        }
-        Spoil::SeatRepeated => {
-            let owner = *owners.get(place)?;
-            owners.push(owner).ok()?;
-            seats.push(spare(alloc, place)?).ok()?;
-        }
-        _ => {}
-    }
-    Some(owners)
+    let spoiled = match spoil {
+        Spoil::SeatMissing => leave_out(seats, &mut owners, place),
+        Spoil::SeatRepeated => repeat(alloc, seats, &mut owners, place),
+        _ => Some(()),
+    };
+    spoiled.and(Some(owners))
 }
 
 /// What is handed in of the seats of nine sessions.

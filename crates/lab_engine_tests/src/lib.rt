@@ -6,6 +6,8 @@ mod alike;
 #[cfg(test)]
 mod closes;
 #[cfg(test)]
+mod compared;
+#[cfg(test)]
 mod engines;
 #[cfg(test)]
 mod handed;

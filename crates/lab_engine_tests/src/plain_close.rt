@@ -12,7 +12,7 @@ pub fn is_answered(outcome: &Outcome) -> bool {
 
 fn is_call_at(alloc: Global, call: &Call, place: usize, event: &LogEvent) -> bool {
     call.receipt.place == place
-        && alike_commands(alloc, &call.command, &event.command) == Some(true)
+        && alike_commands(alloc, &call.command, &event.command)
         && alike_outcomes(&call.receipt.outcome, &event.outcome)
 }
 
@@ -57,7 +57,13 @@ fn difference_of(
 }
 
 fn count_of(owners: &[Session], session: Session) -> usize {
-    owners.iter().filter(|owner| **owner == session).count()
+    let mut count = 0usize;
+    for owner in owners {
+        if *owner == session {
+            count = count.saturating_add(1);
+        }
+    }
+    count
 }
 
 /// Why a bench of this log isn't closed with these seats, whose sessions are `owners`; None where it is.

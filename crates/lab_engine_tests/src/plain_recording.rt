@@ -6,7 +6,7 @@ use lab_history::{
     History, Installed, Installers, Op, Ops, Outcome as End, Parts, State, Txn, Txns,
 };
 use lab_table::{Command, NoMemory, RowName, Session, Table, TxnNo};
-use std::alloc::Global;
+use std::alloc::{AllocError, Global};
 
 /// The number of a session's active transaction after these events.
 fn active(past: &[LogEvent], session: Session) -> Option<TxnNo> {
@@ -45,32 +45,33 @@ fn add_ops(
 ) -> Result<(), NoMemory> {
     for (place, event) in log.iter().enumerate() {
         if active(&log[..place], event.session) == Some(number) {
-            if let Some(op) = op_of(alloc, event)? {
-                ops.push(op)?;
-            }
+            add_op(alloc, ops, event)?;
         }
     }
     Ok(())
 }
 
-fn op_of(alloc: Global, event: &LogEvent) -> Result<Option<Op>, NoMemory> {
-    let Outcome::Rows { view, rows, writes } = &event.outcome else {
-        return Ok(None);
-    };
-    let Command::Run(statement) = &event.command else {
-        return Ok(None);
-    };
-    // The statement comes last, since it is the largest to let go.
-    let view = view.copy(alloc)?;
-    let rows = rows.copy(alloc)?;
-    let writes = writes.copy(alloc)?;
-    let statement = statement.copy(alloc)?;
-    Ok(Some(Op {
-        statement,
-        view,
-        rows,
-        writes,
-    }))
+/// Adds the operation of an event, if it is one.
+fn add_op(alloc: Global, ops: &mut Vec<Op>, event: &LogEvent) -> Result<(), NoMemory> {
+    match (&event.outcome, &event.command) {
+        (Outcome::Rows { view, rows, writes }, Command::Run(statement)) => {
+            let listed = view.copy(alloc).ok().zip(rows.copy(alloc).ok());
+            let written = writes.copy(alloc).ok().zip(statement.copy(alloc).ok());
+            match listed.zip(written) {
+                Some(((view, rows), (writes, statement))) => {
+                    ops.push(Op {
+                        statement,
+                        view,
+                        rows,
+                        writes,
+                    })?;
+                    Ok(())
+                }
+                None => Err(AllocError),
+            }
+        }
+        _ => Ok(()),
+    }
 }
 
 /// The transactions that committed, in order of their commits.
@@ -227,7 +228,9 @@ fn history_of(
     commits: &[TxnNo],
     rows: &[RowName],
 ) -> Option<History> {
-    let txns = txns(alloc, log, commits).ok()?;
+    let Ok(txns) = txns(alloc, log, commits) else {
+        return None;
+    };
     let initial = setup.copy(alloc).ok();
     let end_table = end_table(alloc, setup, &txns, commits, rows);
     let installed = installed(alloc, &txns, commits, rows);

@@ -2,11 +2,12 @@
 
 ghost use Rattle.std.specs.Prelude.{◌≡◌, []};
 
+use crate::compared::{Compared, level_alike};
 use crate::plain_recording::plain_history;
 use lab_engine::{Engine, LogEvent};
 use lab_history::History;
 use lab_history_file::write_history;
-use lab_levels::{LEVELS, on_engine};
+use lab_levels::LEVELS;
 use lab_script::{Script, parse_script};
 use lab_session::play_script;
 use lab_table::{NoMemory, Table};
@@ -46,11 +47,14 @@ fn made_script(alloc: Global, seed: u32) -> Result<Vec<u8>, NoMemory> {
     Ok(text)
 }
 
-/// Whether two histories have one text.
-fn same_text(alloc: Global, a: &History, b: &History) -> Option<bool> {
-    let one = write_history(alloc, a).ok()?;
-    let other = write_history(alloc, b).ok()?;
-    Some(one.as_slice() == other.as_slice())
+/// Whether two histories have one text; they haven't where memory is refused.
+fn same_text(alloc: Global, a: &History, b: &History) -> bool {
+    let text = write_history(alloc, a).ok();
+    let other = write_history(alloc, b).ok();
+    let same = text.is_some() && text == other;
+    drop(text);
+    drop(other);
+    same
 }
 
 /// Whether the plainer body finds a history in a log, of rows of `test` that have a number below this one.
@@ -60,53 +64,54 @@ pub fn is_plain(
     setup: &Table,
     log: &[LogEvent],
     below: u32,
-) -> Option<bool> {
-    let plain = plain_history(alloc, setup, log, below)?;
-    let same = same_text(alloc, history, &plain);
-    drop(plain);
-    same
+) -> bool {
+    match plain_history(alloc, setup, log, below) {
+        Some(plain) => {
+            let same = same_text(alloc, history, &plain);
+            drop(plain);
+            same
+        }
+        None => false,
+    }
 }
 
 /// Whether it finds the history of a play in the play's log.
-fn plays_plain<E: Engine + Drop>(alloc: Global, engine: E, script: &Script) -> Option<bool>
+pub fn plays_plain<E: Engine + Drop>(alloc: Global, engine: E, script: &Script) -> bool
     requires { E.events engine ≡ [] }
 {
-    let recording = play_script(alloc, engine, script).ok()?;
-    let plain = is_plain(
-        alloc,
-        recording.history(),
-        recording.setup(),
-        recording.log(),
-        5,
-    );
-    drop(recording);
-    plain
-}
-
-/// The same on each engine.
-fn each_plain(alloc: Global, script: &Script) -> Option<bool> {
-    for level in LEVELS {
-        let setup = script.setup.copy(alloc).ok()?;
-        let plain = on_engine!(
-            level,
-            alloc,
-            setup,
-            |engine| plays_plain(alloc, engine, script)
-        );
-        if !plain? {
-            return Some(false);
+    match play_script(alloc, engine, script) {
+        Ok(recording) => {
+            let plain = is_plain(
+                alloc,
+                recording.history(),
+                recording.setup(),
+                recording.log(),
+                5,
+            );
+            drop(recording);
+            plain
         }
+        Err(_) => false,
     }
-    Some(true)
 }
 
-/// The same of the script of a seed.
-fn seed_plain(alloc: Global, seed: u32) -> Option<bool> {
+/// The script of a seed.
+fn script_of(alloc: Global, seed: u32) -> Option<Script> {
     let text = made_script(alloc, seed).ok()?;
     let script = parse_script(alloc, &text).ok();
     drop(text);
-    let script = script?;
-    let plain = each_plain(alloc, &script);
+    script
+}
+
+/// Whether it is so of the script of a seed on each engine.
+fn seed_plain(alloc: Global, seed: u32) -> bool {
+    let Some(script) = script_of(alloc, seed) else {
+        return false;
+    };
+    let mut plain = true;
+    for level in LEVELS {
+        plain = plain && level_alike(alloc, level, &script, Compared::History);
+    }
     drop(script);
     plain
 }
@@ -115,7 +120,7 @@ fn seed_plain(alloc: Global, seed: u32) -> Option<bool> {
 fn recordings_are_those_of_a_plainer_body(rt: HostRuntime) -> Result<(), Fail> {
     let alloc = rt.alloc();
     for seed in 0..40 {
-        assert_eq!(rt; seed_plain(alloc, seed), Some(true));
+        assert!(rt; seed_plain(alloc, seed), "{seed}");
     }
     Ok(())
 }

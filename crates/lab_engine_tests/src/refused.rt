@@ -53,7 +53,7 @@ fn script_text(number: u32) -> &'static [u8] {
 }
 
 /// What the next turn of a bench came to.
-#[derive(Clone, Copy, Debug, PartialEq, Eq)]
+#[derive(Clone, Copy)]
 enum Turn {
     Retried,
     Stepped,
@@ -94,7 +94,9 @@ fn take_turn<E: Engine>(alloc: Global, bench: &mut Bench<E>, line: Option<&Line>
 
 /// What a bench's log reads.
 fn logged<E: Engine>(alloc: Global, bench: &Bench<E>) -> Option<Vec<u8>> {
-    let recording = bench.close(alloc, 0, &[]).ok()?;
+    let Ok(recording) = bench.close(alloc, 0, &[]) else {
+        return None;
+    };
     let text = print_log(alloc, &recording).ok();
     drop(recording);
     text
@@ -122,7 +124,7 @@ fn take_refused<E: Engine>(
     refuse(alloc, growth);
     let turn = take_turn(alloc, bench, line);
     let refused = was_refused(alloc);
-    if turn != Turn::NoMemory {
+    if !matches!(turn, Turn::NoMemory) {
         return Some((turn, refused));
     }
     if !refused || said(bench) != before || logged(alloc, bench)? != log {
@@ -199,7 +201,9 @@ fn played_at(
     place: usize,
     growth: u16,
 ) -> Option<Play> {
-    let setup = script.setup.copy(alloc).ok()?;
+    let Ok(setup) = script.setup.copy(alloc) else {
+        return None;
+    };
     let lines = script.lines.as_slice();
     on_engine!(
         level,
@@ -232,32 +236,55 @@ fn refusals_at(
     None
 }
 
-/// The same of each turn in order. The first place that isn't as is due, if there is one.
+/// The first of so many turns that isn't as is due, if there is one.
+fn first_wrong(
+    alloc: Global,
+    level: Level,
+    script: &Script,
+    turns: usize,
+    due: &[u8],
+) -> Option<usize> {
+    for place in 0..turns {
+        if refusals_at(alloc, level, script, place, due).is_none() {
+            return Some(place);
+        }
+    }
+    None
+}
+
+/// The same of each turn of a play.
 fn wrong_place(alloc: Global, level: Level, script: &Script) -> Option<usize> {
-    let Some(due) = played_at(alloc, level, script, 0, 0) else {
-        return Some(0);
-    };
-    let wrong = (0..due.turns).find(|place| refusals_at(
-        alloc, level, script, *place, &due.log,
-    ).is_none());
-    drop(due);
-    wrong
+    match played_at(alloc, level, script, 0, 0) {
+        Some(due) => {
+            let wrong = first_wrong(alloc, level, script, due.turns, &due.log);
+            drop(due);
+            wrong
+        }
+        None => Some(0),
+    }
+}
+
+/// The same of the script of a number; None where there is no script.
+fn wrong_of(alloc: Global, level: Level, number: u32) -> Option<Option<usize>> {
+    match parse_script(alloc, script_text(number)) {
+        Ok(script) => {
+            let wrong = wrong_place(alloc, level, &script);
+            drop(script);
+            Some(wrong)
+        }
+        Err(_) => None,
+    }
 }
 
 #[test]
 fn benches_that_are_refused_memory_are_as_before(rt: HostRuntime) -> Result<(), Fail> {
     for number in 0..SCRIPTS {
         for level in LEVELS {
-            let script = parse_script(rt.alloc(), script_text(number)).ok();
-            assert!(rt; script.is_some(), "script {number}");
-            if let Some(script) = script {
-                let wrong = wrong_place(rt.alloc(), level, &script);
-                drop(script);
-                assert!(rt;
-                    wrong.is_none(),
-                    "script {number} at {level:?}: turn {wrong:?}"
-                );
-            }
+            let wrong = wrong_of(rt.alloc(), level, number);
+            assert!(rt;
+                wrong == Some(None),
+                "script {number} at {level:?}: turn {wrong:?}"
+            );
         }
     }
     Ok(())
