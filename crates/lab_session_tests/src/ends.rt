@@ -2,11 +2,12 @@
 
 ghost use Rattle.std.specs.Prelude.{◌≡◌, []};
 
-use crate::refused::lines_submitted;
+use crate::calls::asked;
+use crate::runs::{NOTHING, all_submitted};
 use lab_engine::{Engine, EngineFault, Level, Outcome};
 use lab_levels::{LockEngine, on_engine};
 use lab_refusal_tests::{refuse, was_refused};
-use lab_script::{Line, parse_script};
+use lab_script::{Line, Script, parse_script};
 use lab_session::{Bench, Lab, Seat};
 use lab_table::{Command, Session, Table};
 use std::alloc::Global;
@@ -75,7 +76,7 @@ commit; -- T3
 ";
 
 /// The end of session 1's transaction, and what is due.
-#[derive(Clone, Copy, Debug, PartialEq, Eq)]
+#[derive(Clone, Copy, PartialEq, Eq)]
 enum End {
     Committed,
     Aborted,
@@ -115,34 +116,34 @@ fn end_of(outcome: &Outcome) -> Option<End> {
     }
 }
 
-fn stepped<E: Engine>(alloc: Global, bench: &mut Bench<E>, lines: &[Line]) -> Option<()> {
+/// Steps the lines of a script.
+pub fn stepped<E: Engine>(alloc: Global, bench: &mut Bench<E>, lines: &[Line]) -> Option<()> {
     for line in lines {
         bench.step(alloc, line.session, &line.command).ok()?;
     }
     Some(())
 }
 
-/// Gives session 1's end with the first allocation refused. What it came to, and whether an allocation was refused.
-fn ended<E: Engine>(alloc: Global, bench: &mut Bench<E>, end: End) -> Option<(Option<End>, bool)> {
+/// Gives session 1's end with the first allocation refused. What it came to; None too where an allocation was refused.
+fn ended<E: Engine>(alloc: Global, bench: &mut Bench<E>, end: End) -> Option<End> {
     let session = Session::new(1)?;
     let command = command_of(end);
     refuse(alloc, 1);
     let answered = bench.step(alloc, session, &command);
     let refused = was_refused(alloc);
     drop(command);
-    let receipt = answered.ok()?;
-    let made = end_of(&receipt.outcome);
-    drop(receipt);
-    Some((made, refused))
+    match answered {
+        Ok(receipt) => {
+            let made = end_of(&receipt.outcome);
+            drop(receipt);
+            if refused { None } else { made }
+        }
+        Err(_) => None,
+    }
 }
 
 /// The same after the lines of a script, on a fresh engine.
-fn ended_after<E: Engine + Drop>(
-    alloc: Global,
-    engine: E,
-    lines: &[Line],
-    end: End,
-) -> Option<(Option<End>, bool)>
+fn ended_after<E: Engine + Drop>(alloc: Global, engine: E, lines: &[Line], end: End) -> Option<End>
     requires { E.events engine ≡ [] }
 {
     let mut bench = Bench::new(engine);
@@ -155,37 +156,38 @@ fn ended_after<E: Engine + Drop>(
 }
 
 /// The same on the engine of a level.
-fn ended_at(
-    alloc: Global,
-    level: Level,
-    setup: Table,
-    lines: &[Line],
-    end: End,
-) -> Option<(Option<End>, bool)> {
-    on_engine!(
-        level,
-        alloc,
-        setup,
-        |engine| ended_after(alloc, engine, lines, end)
-    )
+fn ended_at(alloc: Global, level: Level, script: &Script, end: End) -> Option<End> {
+    match script.setup.copy(alloc) {
+        Ok(setup) => {
+            let lines = script.lines.as_slice();
+            on_engine!(
+                level,
+                alloc,
+                setup,
+                |engine| ended_after(alloc, engine, lines, end)
+            )
+        }
+        Err(_) => None,
+    }
 }
 
-fn end_made(alloc: Global, level: Level, before: &[u8], end: End) -> Option<(Option<End>, bool)> {
-    let script = parse_script(alloc, before).ok()?;
-    let Ok(setup) = script.setup.copy(alloc) else {
-        drop(script);
-        return None;
-    };
-    let made = ended_at(alloc, level, setup, script.lines.as_slice(), end);
-    drop(script);
-    made
+/// The same of the script of this text.
+fn end_made(alloc: Global, level: Level, before: &[u8], end: End) -> Option<End> {
+    match parse_script(alloc, before) {
+        Ok(script) => {
+            let made = ended_at(alloc, level, &script, end);
+            drop(script);
+            made
+        }
+        Err(_) => None,
+    }
 }
 
 #[test]
 fn an_end_is_refused_no_memory(rt: HostRuntime) -> Result<(), Fail> {
     for (level, before, end) in ENDS {
         let made = end_made(rt.alloc(), level, before, end);
-        assert_eq!(rt; made, Some((Some(end), false)), "{level:?}");
+        assert!(rt; made == Some(end), "{level:?}");
     }
     Ok(())
 }
@@ -204,33 +206,36 @@ select * from test where id = 1; -- T1
 select * from test where id = 1; -- T1
 ";
 
-/// Gives the last seat's abort with the first allocation refused. What it came to, and whether an allocation was refused.
+/// Gives the last seat's abort with the first allocation refused. What it came to; None too where an allocation was
+/// refused.
 fn aborted<R: Wait>(
     rt: &R,
     alloc: Global,
     lab: &Lab<LockEngine>,
     seats: &mut Vec<Seat>,
-) -> Option<(Option<End>, bool)> {
+) -> Option<End> {
     let seat = seats.pop()?;
     refuse(alloc, 1);
-    let answered = lab.submit(rt, alloc, seat, Command::Abort);
+    let answered = asked(rt, alloc, lab, seat, Command::Abort);
     let refused = was_refused(alloc);
-    let seat = answered.ok()?;
-    let made = seat.reply().and_then(end_of);
-    drop(seat);
-    Some((made, refused))
+    match answered {
+        Some(seat) => {
+            let made = seat.reply().and_then(end_of);
+            drop(seat);
+            if refused { None } else { made }
+        }
+        None => None,
+    }
 }
 
 /// The same after these lines, in a lab of one session.
-fn aborted_after<R: Wait>(
-    rt: &R,
-    alloc: Global,
-    setup: Table,
-    lines: &[Line],
-) -> Option<(Option<End>, bool)> {
+fn aborted_after<R: Wait>(rt: &R, alloc: Global, setup: Table, lines: &[Line]) -> Option<End> {
     let engine = LockEngine::new(alloc, setup);
-    let (lab, mut seats) = Lab::start(alloc, engine, 1).ok()?;
-    let made = match lines_submitted(rt, alloc, &lab, &mut seats, lines) {
+    let Ok((lab, mut seats)) = Lab::start(alloc, engine, 1) else {
+        return None;
+    };
+    let mut was = false;
+    let made = match all_submitted(rt, alloc, &lab, &mut seats, lines, NOTHING, &mut was) {
         Some(()) => aborted(rt, alloc, &lab, &mut seats),
         None => None,
     };
@@ -240,20 +245,19 @@ fn aborted_after<R: Wait>(
 }
 
 /// The same after so many lines of that transaction.
-fn aborted_behind<R: Wait>(rt: &R, alloc: Global, calls: usize) -> Option<(Option<End>, bool)> {
-    let script = parse_script(alloc, LOOKS).ok()?;
-    let Ok(setup) = script.setup.copy(alloc) else {
-        drop(script);
+fn aborted_behind<R: Wait>(rt: &R, alloc: Global, calls: usize) -> Option<End> {
+    let Ok(script) = parse_script(alloc, LOOKS) else {
         return None;
     };
-    let made = match script.lines.as_slice().get(..calls) {
+    let Script { setup, lines } = script;
+    let made = match lines.as_slice().get(..calls) {
         Some(lines) => aborted_after(rt, alloc, setup, lines),
         None => {
             drop(setup);
             None
         }
     };
-    drop(script);
+    drop(lines);
     made
 }
 
@@ -262,7 +266,7 @@ fn aborted_behind<R: Wait>(rt: &R, alloc: Global, calls: usize) -> Option<(Optio
 fn the_last_abort_of_a_seat_is_refused_no_memory(rt: HostRuntime) -> Result<(), Fail> {
     for calls in 1..=10usize {
         let made = aborted_behind(&rt, rt.alloc(), calls);
-        assert_eq!(rt; made, Some((Some(End::Aborted), false)), "{calls}");
+        assert!(rt; made == Some(End::Aborted), "{calls}");
     }
     Ok(())
 }

@@ -104,7 +104,9 @@ fn fill(lines: &mut Lines, session: Session) -> Result<(), NoMemory> {
 
 fn filling_script(alloc: Global) -> Option<Script> {
     let session = Session::new(3)?;
-    let mut script = parse_script(alloc, WAITING).ok()?;
+    let Ok(mut script) = parse_script(alloc, WAITING) else {
+        return None;
+    };
     if fill(&mut script.lines, session).is_err() {
         drop(script);
         return None;

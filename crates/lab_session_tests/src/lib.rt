@@ -7,6 +7,8 @@
 #[cfg(test)]
 mod again;
 #[cfg(test)]
+mod calls;
+#[cfg(test)]
 mod ends;
 #[cfg(test)]
 mod engines;
@@ -20,6 +22,8 @@ mod given_up;
 mod goes_on;
 #[cfg(test)]
 mod instrumented;
+#[cfg(test)]
+mod listings;
 #[cfg(test)]
 mod meeting;
 #[cfg(test)]

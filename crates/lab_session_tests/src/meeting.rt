@@ -62,7 +62,9 @@ fn events<R: Threads + Wait + Sync>(
     text: &[u8],
     gate: &Meeting,
 ) -> Option<usize> {
-    let script = parse_script(alloc, text).ok()?;
+    let Ok(script) = parse_script(alloc, text) else {
+        return None;
+    };
     let played = played(rt, alloc, &script, gate);
     drop(script);
     let recording = played?;

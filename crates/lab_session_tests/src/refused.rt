@@ -1,19 +1,18 @@
-//! Calls with each of their allocations refused in turn: they answer want of memory and nothing else, what they would
-//! change is as it was, and the same call with memory answers as if nothing had been.
+//! Calls of benches with each of their allocations refused in turn: they answer want of memory and nothing else, what
+//! they would change is as it was, and the same call with memory answers as if nothing had been.
 
-use lab_engine::Recording;
+use crate::ends::stepped;
 use lab_locking::LockEngine;
 use lab_refusal_tests::{refuse, was_refused};
-use lab_script::{Line, parse_script};
-use lab_session::{Bench, BenchFault, CloseFault, Lab, LabFault, Seat, print_log};
+use lab_script::parse_script;
+use lab_session::{Bench, BenchFault, CloseFault, print_log};
 use lab_statement::parse_statement;
-use lab_table::{Command, Session, Table};
+use lab_table::{Command, Session};
 use std::alloc::Global;
-use std::sync::Wait;
 use std::test::Fail;
 
 /// What a call came to.
-#[derive(Clone, Copy, Debug, PartialEq, Eq)]
+#[derive(Clone, Copy)]
 enum Made {
     Right,
     Wrong,
@@ -76,17 +75,11 @@ const CALLS: [(Call, &[u8], &[u8]); 3] = [
     (Call::Close, RETRIED, b""),
 ];
 
-/// Steps the lines of a script.
-fn stepped(alloc: Global, bench: &mut Bench<LockEngine>, lines: &[Line]) -> Option<()> {
-    for line in lines {
-        bench.step(alloc, line.session, &line.command).ok()?;
-    }
-    Some(())
-}
-
 /// A bench after the lines of a script.
 fn bench_after(alloc: Global, text: &[u8]) -> Option<Bench<LockEngine>> {
-    let script = parse_script(alloc, text).ok()?;
+    let Ok(script) = parse_script(alloc, text) else {
+        return None;
+    };
     let mut bench = Bench::new(LockEngine::new(alloc, script.setup));
     let stepped = stepped(alloc, &mut bench, script.lines.as_slice());
     drop(script.lines);
@@ -99,7 +92,9 @@ fn bench_after(alloc: Global, text: &[u8]) -> Option<Bench<LockEngine>> {
 
 /// The text of a bench's log.
 fn logged(alloc: Global, bench: &Bench<LockEngine>) -> Option<Vec<u8>> {
-    let recording = bench.close(alloc, 0, &[]).ok()?;
+    let Ok(recording) = bench.close(alloc, 0, &[]) else {
+        return None;
+    };
     let text = print_log(alloc, &recording).ok();
     drop(recording);
     text
@@ -138,18 +133,18 @@ fn make(
 }
 
 /// Whether a bench has logged what stood in its log, and what is added.
-fn has_logged(
-    alloc: Global,
-    bench: &Bench<LockEngine>,
-    stood: &[u8],
-    added: &[u8],
-) -> Option<bool> {
-    let text = logged(alloc, bench)?;
+fn has_logged(alloc: Global, bench: &Bench<LockEngine>, stood: &[u8], added: &[u8]) -> bool {
+    let Some(text) = logged(alloc, bench) else {
+        return false;
+    };
     if text.len() < stood.len() {
-        return Some(false);
+        drop(text);
+        return false;
     }
     let (front, rest) = text.as_slice().split_at(stood.len());
-    Some(front == stood && rest == added)
+    let has_logged = front == stood && rest == added;
+    drop(text);
+    has_logged
 }
 
 /// Makes a call on a bench with this allocation refused, and where it had no memory once more. Whether an allocation
@@ -167,18 +162,15 @@ fn made_right(
     refuse(alloc, growth);
     let made = make(alloc, bench, call, session, command);
     let refused = was_refused(alloc);
-    if made == Made::Wrong || (made == Made::NoMemory && !refused) {
-        return None;
-    }
-    if made == Made::NoMemory {
-        if !has_logged(alloc, bench, stood, b"")? {
-            return None;
+    match made {
+        Made::Right => Some(refused),
+        Made::NoMemory if refused => {
+            let is_right = has_logged(alloc, bench, stood, b"")
+                && matches!(make(alloc, bench, call, session, command), Made::Right);
+            if is_right { Some(refused) } else { None }
         }
-        if make(alloc, bench, call, session, command) != Made::Right {
-            return None;
-        }
+        Made::NoMemory | Made::Wrong => None,
     }
-    Some(refused)
 }
 
 /// The same, and None too where the call's log isn't what is due.
@@ -201,11 +193,9 @@ fn made_and_logged(
         command,
         stood.as_slice(),
     );
-    if has_logged(alloc, bench, stood.as_slice(), added) == Some(true) {
-        refused
-    } else {
-        None
-    }
+    let has_logged = has_logged(alloc, bench, stood.as_slice(), added);
+    drop(stood);
+    if has_logged { refused } else { None }
 }
 
 /// The same on a bench after the lines of a script.
@@ -237,291 +227,6 @@ fn a_bench_that_is_refused_memory_is_as_before(rt: HostRuntime) -> Result<(), Fa
         let mut succeeded = false;
         for growth in 1..2_000u16 {
             let refused = refused_once(rt.alloc(), growth, call, before, added);
-            assert!(rt; refused.is_some(), "{call:?}, at growth {growth}");
-            if refused == Some(false) {
-                succeeded = true;
-                break;
-            }
-        }
-        assert!(rt; succeeded, "{call:?}");
-    }
-    Ok(())
-}
-
-fn setup(alloc: Global) -> Option<Table> {
-    let script = parse_script(alloc, STEPPED).ok()?;
-    Some(script.setup)
-}
-
-/// A new lab of two sessions, with this allocation refused, and None where it had no memory. And whether an allocation
-/// was refused.
-fn start(alloc: Global, growth: u16, refused: &mut bool) -> Option<(Lab<LockEngine>, Vec<Seat>)> {
-    let engine = LockEngine::new(alloc, setup(alloc)?);
-    refuse(alloc, growth);
-    let made = Lab::start(alloc, engine, 2);
-    *refused = was_refused(alloc);
-    made.ok()
-}
-
-/// The same, where it had no memory once more.
-fn started(alloc: Global, growth: u16, refused: &mut bool) -> Option<(Lab<LockEngine>, Vec<Seat>)> {
-    match start(alloc, growth, refused) {
-        Some(started) => Some(started),
-        None if *refused => start(alloc, 0, &mut false),
-        None => None,
-    }
-}
-
-/// Submits a line of a script.
-fn submitted<R: Wait>(
-    rt: &R,
-    alloc: Global,
-    lab: &Lab<LockEngine>,
-    seats: &mut Vec<Seat>,
-    line: &Line,
-) -> Option<()> {
-    let place = usize::from(line.session.number()) - 1;
-    if place >= seats.len() {
-        return None;
-    }
-    let command = line.command.copy(alloc).ok()?;
-    let seat = lab.submit(rt, alloc, seats.remove(place), command).ok()?;
-    seats.insert(place, seat).ok()
-}
-
-/// Submits lines in order, each by its session's seat.
-pub fn lines_submitted<R: Wait>(
-    rt: &R,
-    alloc: Global,
-    lab: &Lab<LockEngine>,
-    seats: &mut Vec<Seat>,
-    lines: &[Line],
-) -> Option<()> {
-    for line in lines {
-        submitted(rt, alloc, lab, seats, line)?;
-    }
-    Some(())
-}
-
-/// Submits the lines before the calls.
-fn all_submitted<R: Wait>(
-    rt: &R,
-    alloc: Global,
-    lab: &Lab<LockEngine>,
-    seats: &mut Vec<Seat>,
-) -> Option<()> {
-    let script = parse_script(alloc, STEPPED).ok()?;
-    let submitted = lines_submitted(rt, alloc, lab, seats, script.lines.as_slice());
-    drop(script);
-    submitted
-}
-
-/// A seat that was handed back for want of memory, with as many calls as before.
-fn handed_back(refused: (Seat, LabFault), calls: usize) -> Option<Seat> {
-    let (seat, fault) = refused;
-    if fault == (LabFault::NoMemory { waiting: false }) && seat.calls().len() == calls {
-        Some(seat)
-    } else {
-        drop(seat);
-        None
-    }
-}
-
-/// Submits session 1's update once more, where it was refused for want of memory.
-fn updated_again<R: Wait>(
-    rt: &R,
-    alloc: Global,
-    lab: &Lab<LockEngine>,
-    refused: (Seat, LabFault),
-    calls: usize,
-) -> Option<Seat> {
-    let seat = handed_back(refused, calls)?;
-    let Some(command) = update(alloc) else {
-        drop(seat);
-        return None;
-    };
-    lab.submit(rt, alloc, seat, command).ok()
-}
-
-/// Submits session 1's update with this allocation refused, and where it had no memory once more. And whether an
-/// allocation was refused.
-fn updated<R: Wait>(
-    rt: &R,
-    alloc: Global,
-    lab: &Lab<LockEngine>,
-    seat: Seat,
-    command: Command,
-    growth: u16,
-    refused: &mut bool,
-) -> Option<Seat> {
-    let calls = seat.calls().len();
-    refuse(alloc, growth);
-    let made = lab.submit(rt, alloc, seat, command);
-    *refused = was_refused(alloc);
-    match made {
-        Ok(seat) => Some(seat),
-        Err(handed_back) if *refused => updated_again(rt, alloc, lab, handed_back, calls),
-        Err(handed_back) => {
-            drop(handed_back);
-            None
-        }
-    }
-}
-
-/// The same in the list of the seats.
-fn first_updated<R: Wait>(
-    rt: &R,
-    alloc: Global,
-    lab: &Lab<LockEngine>,
-    seats: &mut Vec<Seat>,
-    growth: u16,
-    refused: &mut bool,
-) -> Option<()> {
-    if seats.is_empty() {
-        return None;
-    }
-    let command = update(alloc)?;
-    let seat = updated(rt, alloc, lab, seats.remove(0), command, growth, refused)?;
-    seats.push(seat).ok()
-}
-
-/// Submits the lines before the calls, and session 1's update.
-fn submitted_and_updated<R: Wait>(
-    rt: &R,
-    alloc: Global,
-    lab: &Lab<LockEngine>,
-    seats: &mut Vec<Seat>,
-    growth: u16,
-    refused: &mut bool,
-) -> Option<()> {
-    all_submitted(rt, alloc, lab, seats)?;
-    first_updated(rt, alloc, lab, seats, growth, refused)
-}
-
-/// Closes a lab once more, where it was refused for want of memory.
-fn closed_again(
-    alloc: Global,
-    refused: (Lab<LockEngine>, Vec<Seat>, CloseFault),
-) -> Option<Recording> {
-    let (lab, seats, fault) = refused;
-    if fault != CloseFault::NoMemory {
-        drop(lab);
-        drop(seats);
-        return None;
-    }
-    lab.close(alloc, seats).ok()
-}
-
-/// Closes a lab with this allocation refused, and where it had no memory once more. And whether an allocation was
-/// refused.
-fn closed(
-    alloc: Global,
-    lab: Lab<LockEngine>,
-    seats: Vec<Seat>,
-    growth: u16,
-    refused: &mut bool,
-) -> Option<Recording> {
-    refuse(alloc, growth);
-    let made = lab.close(alloc, seats);
-    *refused = was_refused(alloc);
-    match made {
-        Ok(recording) => Some(recording),
-        Err(handed_back) if *refused => closed_again(alloc, handed_back),
-        Err(handed_back) => {
-            drop(handed_back);
-            None
-        }
-    }
-}
-
-/// The calls of a lab.
-#[derive(Clone, Copy, Debug, PartialEq, Eq)]
-enum LabCall {
-    Start,
-    Submit,
-    Close,
-}
-
-/// The recording of a lab's run with an allocation of one of its calls refused, and whether one was.
-fn lab_run<R: Wait>(
-    rt: &R,
-    alloc: Global,
-    refusing: LabCall,
-    growth: u16,
-    refused: &mut bool,
-) -> Option<Recording> {
-    let (mut at_start, mut at_submit, mut at_close) = (false, false, false);
-    // Another call has no allocation refused: 0.
-    let of = |call| if call == refusing { growth } else { 0 };
-    let (lab, mut seats) = started(alloc, of(LabCall::Start), &mut at_start)?;
-    let updated = submitted_and_updated(
-        rt,
-        alloc,
-        &lab,
-        &mut seats,
-        of(LabCall::Submit),
-        &mut at_submit,
-    );
-    if updated.is_none() {
-        drop(lab);
-        drop(seats);
-        return None;
-    }
-    let recording = closed(alloc, lab, seats, of(LabCall::Close), &mut at_close)?;
-    *refused = at_start || at_submit || at_close;
-    Some(recording)
-}
-
-/// The log of that run.
-fn lab_log<R: Wait>(
-    rt: &R,
-    alloc: Global,
-    refusing: LabCall,
-    growth: u16,
-    refused: &mut bool,
-) -> Option<Vec<u8>> {
-    let recording = lab_run(rt, alloc, refusing, growth, refused)?;
-    let text = print_log(alloc, &recording).ok();
-    drop(recording);
-    text
-}
-
-const LAB_LOG: &[u8] = b"T1 begin: begun 1
-T2 begin: begun 2
-T1 select * from test where id = 1: rows (1, 10)
-T1 select * from test where id = 1: rows (1, 10)
-T2 select * from test where id = 1: rows (1, 10)
-T2 select * from test where id = 1: rows (1, 10)
-T2 commit: committed
-T2 commit: refused NoTransaction
-T2 commit: refused NoTransaction
-T2 commit: refused NoTransaction
-T2 commit: refused NoTransaction
-T1 update test set value = 11 where id = 1: rows (1, 10)
-";
-
-/// Whether an allocation was refused in that run; None where its log isn't what is due.
-fn lab_refused_once<R: Wait>(
-    rt: &R,
-    alloc: Global,
-    refusing: LabCall,
-    growth: u16,
-) -> Option<bool> {
-    let mut refused = false;
-    let text = lab_log(rt, alloc, refusing, growth, &mut refused)?;
-    if text.as_slice() == LAB_LOG {
-        Some(refused)
-    } else {
-        None
-    }
-}
-
-#[test]
-fn a_lab_that_is_refused_memory_is_as_before(rt: HostRuntime) -> Result<(), Fail> {
-    for call in [LabCall::Start, LabCall::Submit, LabCall::Close] {
-        let mut succeeded = false;
-        for growth in 1..2_000u16 {
-            let refused = lab_refused_once(&rt, rt.alloc(), call, growth);
             assert!(rt; refused.is_some(), "{call:?}, at growth {growth}");
             if refused == Some(false) {
                 succeeded = true;

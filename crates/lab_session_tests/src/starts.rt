@@ -23,7 +23,7 @@ impl Gate for Open {
 }
 
 /// What a play came to.
-#[derive(Clone, Copy, Debug, PartialEq, Eq)]
+#[derive(Clone, Copy)]
 struct Play {
     fault: Option<PlayFault>,
     /// Whether an allocation was refused.

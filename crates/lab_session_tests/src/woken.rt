@@ -105,7 +105,9 @@ impl Gate for Beside {
 
 /// The text of the log of that play.
 fn beside_log<R: Threads + Wait + Sync>(rt: &R, alloc: Global, gate: &Beside) -> Option<Vec<u8>> {
-    let script = parse_script(alloc, BESIDE).ok()?;
+    let Ok(script) = parse_script(alloc, BESIDE) else {
+        return None;
+    };
     let played = played(rt, alloc, &script, &gate.counts, gate);
     drop(script);
     let recording = played?;
@@ -220,7 +222,9 @@ fn all_rounds(alloc: Global, round: &[Line]) -> Result<Lines, NoMemory> {
 
 /// How many events a play of these rounds has.
 fn rounds_events<R: Threads + Wait + Sync>(rt: &R, alloc: Global, gate: &Rounds) -> Option<usize> {
-    let one = parse_script(alloc, ROUND).ok()?;
+    let Ok(one) = parse_script(alloc, ROUND) else {
+        return None;
+    };
     let lines = all_rounds(alloc, one.lines.as_slice());
     let Script { setup, lines: _ } = one;
     let Ok(lines) = lines else {
