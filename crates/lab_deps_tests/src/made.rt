@@ -169,7 +169,8 @@ fn shows_made(rt: &impl Abort, alloc: Global, text: &str) -> Result<(), Fail> {
     assert_eq!(rt; writes.count(), 9, "{text}");
     shows_the_same(rt, &found, text);
     drop(found);
-    is_told_to(rt, alloc, text)
+    is_told_to(rt, alloc, text);
+    Ok(())
 }
 
 #[test]

@@ -114,12 +114,14 @@ fn edges_of_play<E: Engine + Drop>(
 ) -> Result<usize, &'static str>
     requires { E.events engine ≡ [] }
 {
-    let played = play_script(alloc, engine, script)
-        .ok()
-        .ok_or("a recording")?;
-    let edges = edges_of(alloc, &played);
-    drop(played);
-    edges
+    match play_script(alloc, engine, script) {
+        Ok(played) => {
+            let edges = edges_of(alloc, &played);
+            drop(played);
+            edges
+        }
+        Err(_) => Err("a recording"),
+    }
 }
 
 /// How many edges the plays of a script on the engines have together.
@@ -141,12 +143,16 @@ fn edges_of_plays(alloc: Global, script: &Script) -> Result<usize, &'static str>
 /// How many edges the plays of the script that a seed chooses have together.
 fn edges_of_seed(alloc: Global, seed: u32) -> Result<usize, &'static str> {
     let text = made(alloc, seed).ok().ok_or("memory")?;
-    let script = parse_script(alloc, &text).ok();
+    let script = parse_script(alloc, &text);
     drop(text);
-    let script = script.ok_or("a script")?;
-    let edges = edges_of_plays(alloc, &script);
-    drop(script);
-    edges
+    match script {
+        Ok(script) => {
+            let edges = edges_of_plays(alloc, &script);
+            drop(script);
+            edges
+        }
+        Err(_) => Err("a script"),
+    }
 }
 
 #[test]
