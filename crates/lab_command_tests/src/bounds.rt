@@ -26,6 +26,8 @@ fn reads_within_its_bounds(rt: HostRuntime) -> Result<(), Fail> {
         );
         assert_eq!(rt; status_of(run), 2);
         assert_eq!(rt; writer.text.as_slice(), *text);
+        drop(writer);
+        drop(notes);
     }
     for (interrupted, wanted) in [(19_999_998, 0), (19_999_999, 3)] {
         let mut reader = Source::new(b"setup ();", 9_000, interrupted, 0);
@@ -41,6 +43,8 @@ fn reads_within_its_bounds(rt: HostRuntime) -> Result<(), Fail> {
         );
         assert_eq!(rt; status_of(run), wanted, "after {interrupted} calls");
         assert_eq!(rt; reader.calls, 20_000_000);
+        drop(writer);
+        drop(notes);
     }
     Ok(())
 }

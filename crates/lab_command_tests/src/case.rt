@@ -21,7 +21,7 @@ use std::test::Fail;
 use std::thread::Threads;
 
 /// A subcommand and its options.
-#[derive(Clone, Copy, Debug)]
+#[derive(Clone, Copy)]
 pub enum Subcommand {
     Serial,
     Run {
@@ -65,7 +65,7 @@ pub enum Subcommand {
 }
 
 /// What is done with files.
-#[derive(Clone, Copy, Debug)]
+#[derive(Clone, Copy)]
 pub enum Task {
     Batch,
     Chain(Asked),
@@ -150,14 +150,18 @@ pub fn given<T: Files + Threads + Wait + Sync, R: Read, W: Write, N: Write>(
                 to: &mut shown,
                 is_shown: true,
             };
-            shrink(alloc, reader, writer, notes, asked, left)
+            let ending = shrink(alloc, reader, writer, notes, asked, left);
+            drop(shown);
+            ending
         }
         Subcommand::Case { name } => case_script(alloc, name, writer),
         Subcommand::Matrix => matrix(alloc, writer),
         Subcommand::MatrixAt { levels } => matrix_at(alloc, writer, levels),
         Subcommand::OfFiles { task, names } => {
             let mut shown = Sink::new(alloc, 9_000, 0);
-            return with_files(rt, alloc, task, names, writer, notes, &mut shown);
+            let run = with_files(rt, alloc, task, names, writer, notes, &mut shown);
+            drop(shown);
+            return run;
         }
     };
     match ending {
@@ -197,6 +201,9 @@ pub fn check(
                 "of {:?}",
                 case.input
             );
+            drop(reader);
+            drop(writer);
+            drop(notes);
         }
     }
     Ok(())

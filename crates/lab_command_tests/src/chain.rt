@@ -227,6 +227,9 @@ fn runs_in_parts_are_written_as_is_due(rt: HostRuntime) -> Result<(), Fail> {
                 "of {:?}",
                 due.names
             );
+            drop(writer);
+            drop(notes);
+            drop(shown);
         }
     }
     Ok(())
@@ -284,6 +287,9 @@ fn hints_come_behind_what_is_written(rt: HostRuntime) -> Result<(), Fail> {
                 <= writer.text.len().saturating_mul(hint),
             "at call {fails_at}"
         );
+        drop(writer);
+        drop(notes);
+        drop(shown);
         if fails_at > calls {
             break;
         }

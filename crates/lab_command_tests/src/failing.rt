@@ -60,6 +60,8 @@ fn writes_nothing_after_a_failed_read(rt: HostRuntime) -> Result<(), Fail> {
         );
         assert_eq!(rt; status_of(run), case.status);
         assert!(rt; 1 < whole.calls && whole.calls < 1_000);
+        drop(written);
+        drop(notes);
         for fails_at in 1..=whole.calls.min(1_000) {
             for fault in FAULTS {
                 let mut reader = Source::new(case.input, 10, 0, fails_at);
@@ -80,6 +82,8 @@ fn writes_nothing_after_a_failed_read(rt: HostRuntime) -> Result<(), Fail> {
                     writer.calls == 0 && notes.calls == 0,
                     "{fault:?} at call {fails_at}"
                 );
+                drop(writer);
+                drop(notes);
             }
         }
     }
@@ -184,6 +188,7 @@ fn cut<T: Threads + Wait + Sync + Abort>(
         &mut notes,
     );
     assert!(rt; run.is_ok() || notes.calls == 0);
+    drop(notes);
     run
 }
 
@@ -202,8 +207,10 @@ fn try_failed_writes<T: Threads + Wait + Sync + Abort>(rt: &T, alloc: Global, ca
     let mut whole = Sink::new(alloc, 10, 0);
     let run = cut(rt, alloc, case, &mut whole);
     assert_eq!(rt; status_of(run), case.status);
-    assert!(rt; 1 < whole.calls && whole.calls < 1_000);
-    for fails_at in 1..=whole.calls.min(1_000) {
+    let calls = whole.calls;
+    drop(whole);
+    assert!(rt; 1 < calls && calls < 1_000);
+    for fails_at in 1..=calls.min(1_000) {
         let mut writer = Sink::new(alloc, 10, fails_at);
         let run = cut(rt, alloc, case, &mut writer);
         assert_eq!(rt; run, Err(RunFault::Unwritten), "at call {fails_at}");
@@ -212,6 +219,7 @@ fn try_failed_writes<T: Threads + Wait + Sync + Abort>(rt: &T, alloc: Global, ca
             case.text.starts_with(writer.text.as_slice()),
             "at call {fails_at}"
         );
+        drop(writer);
     }
     let mut writer = Sink::new(alloc, 9_000, 0);
     writer.flush_fails = true;
@@ -221,6 +229,7 @@ fn try_failed_writes<T: Threads + Wait + Sync + Abort>(rt: &T, alloc: Global, ca
     assert!(rt; case.text.starts_with(writer.text.as_slice()));
     // What `chain` says of parts is flushed before what it says of the run.
     assert_eq!(rt; writer.text.as_slice() == case.text, !is_chain(case));
+    drop(writer);
 }
 
 #[test]
@@ -266,16 +275,20 @@ fn writes_nothing_where_memory_is_refused(rt: HostRuntime) -> Result<(), Fail> {
             );
             let refused = was_refused(rt.alloc());
             refuse(rt.alloc(), 0);
+            let is_whole = writer.text.as_slice() == case.text;
+            let is_empty = writer.calls == 0;
+            drop(writer);
+            drop(notes);
             if !refused {
                 assert_eq!(rt; status_of(run), case.status);
-                assert_eq!(rt; writer.text.as_slice(), case.text);
+                assert!(rt; is_whole, "of {:?}", case.input);
                 succeeded = true;
                 break;
             }
             // An allocation that was refused may be tried again with a smaller size, and then all is written.
-            let wanted = if writer.calls == 0 {
+            let wanted = if is_empty {
                 4
-            } else if writer.text.as_slice() == case.text {
+            } else if is_whole {
                 case.status
             } else {
                 3

@@ -102,6 +102,9 @@ fn a_file_on_which_a_call_fails_is_told(rt: HostRuntime) -> Result<(), Fail> {
                 );
                 assert_eq!(rt; run, Ok(3), "{fault:?} at call {fails_at}");
                 assert!(rt; !notes.text.is_empty(), "{fault:?} at call {fails_at}");
+                drop(writer);
+                drop(notes);
+                drop(shown);
             }
         }
     }
@@ -223,6 +226,9 @@ fn a_file_that_changes_is_told_as_it_was_read(rt: HostRuntime) -> Result<(), Fai
                 status_of(run) == if due.starts_with(b"== ") { 2 } else { 0 },
                 "at call {turns_at}"
             );
+            drop(writer);
+            drop(notes);
+            drop(shown);
         }
     }
     Ok(())
@@ -265,6 +271,9 @@ fn an_opening_without_memory_ends_the_run(rt: HostRuntime) -> Result<(), Fail> {
         );
         assert_eq!(rt; run, Err(RunFault::NoMemory));
         assert!(rt; front.starts_with(writer.text.as_slice()));
+        drop(writer);
+        drop(notes);
+        drop(shown);
     }
     Ok(())
 }

@@ -59,6 +59,9 @@ fn the_front_stands_where_memory_is_refused(rt: HostRuntime) -> Result<(), Fail>
                 "{run:?} at growth {growth} of {:?}",
                 due.names
             );
+            drop(writer);
+            drop(notes);
+            drop(shown);
             if !refused {
                 succeeded = true;
                 break;
