@@ -1,10 +1,9 @@
 //! `hermitage_lab`: scripts of transactions in, and proved answers out.
 #![tactic(auto)]
 
-mod command_line;
 mod engines;
 mod files;
-mod help;
+mod names;
 mod playing;
 mod streams;
 mod told;
@@ -15,15 +14,16 @@ ghost use Rattle.std.specs.Prelude.{◌≡◌, ◌≢◌, Ok, Err};
 ghost use Rattle.clap.specs.Values.{kind_of};
 ghost use Rattle.clap.specs.declared.error.kind.ErrorKind.TheVariants.{DisplayHelp, DisplayVersion, OutOfMemory};
 
-use crate::command_line::Names;
 use crate::engines::levels_of;
 use crate::files::{Task, run_files};
+use crate::names::all_names;
 use crate::playing::{run_compare, run_play};
 use crate::streams::Streams;
 use crate::told::told;
 use crate::wanting::wanted;
 use clap::ArgMatches;
 use lab_case_commands::{case, matrix, matrix_at};
+use lab_command_line::{Names, command};
 use lab_commands::{judge, serial};
 use lab_explain::explain;
 use lab_hints::{Choices, note_words};
@@ -223,8 +223,8 @@ fn main(rt: HostRuntime) -> ExitCode {
         Ok(None) => return ExitCode::from(ARGUMENTS_REFUSED),
         Err(fault) => return ExitCode::from(told(&rt, fault)),
     };
-    let names = Names::all();
-    let Ok(command) = command_line::command(rt.alloc(), &names) else {
+    let names = all_names();
+    let Ok(command) = command(rt.alloc(), &names) else {
         return ExitCode::from(told(&rt, RunFault::NoMemory));
     };
     let ended = match command.try_get_matches_from(given.as_slice()) {

@@ -1,0 +1,11 @@
+//! The names that arguments may give.
+
+/// The names that arguments may give.
+#[derive(Drop)]
+pub struct Names {
+    pub cases: [&'static str; 10],
+    pub engines: [&'static str; 4],
+    pub tellings: [&'static str; 4],
+    pub phenomena: [&'static str; 7],
+    pub requirements: [&'static str; 5],
+}
