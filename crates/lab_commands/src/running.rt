@@ -9,13 +9,13 @@ ghost use Rattle.lab_commands.specs.Playing.{IsScriptedPlay, IsScriptedRefusal, 
 ghost use Rattle.lab_commands.specs.ReadScripts.{run_whole};
 
 use crate::free::Free;
+use crate::play_note::note_play;
 use crate::player::Player;
 use crate::recording_answer::recording_answer;
 use crate::refusals::{print_play_refusal, print_script_refusal};
 use crate::scripted::Scripted;
 use crate::shown::Shown;
 use lab_engine::Level;
-use lab_hints::note_play;
 use lab_script::{Script, parse_script};
 use lab_session::PlayFault;
 use lab_statement::ScriptFault;

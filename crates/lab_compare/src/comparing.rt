@@ -10,9 +10,8 @@ ghost use Rattle.lab_compare.specs.declared.side.Side.{Side as SideOf};
 
 use crate::comparison::print_comparison;
 use crate::playing::sides_of;
-use lab_commands::{print_play_refusal, print_script_refusal};
+use lab_commands::{note_play, print_play_refusal, print_script_refusal};
 use lab_engine::Level;
-use lab_hints::note_play;
 use lab_script::{Script, parse_script};
 use lab_session::PlayFault;
 use lab_statement::ScriptFault;

@@ -2,7 +2,7 @@
 //!
 //! [`note_script`] shows the faulty line of a script, what was found where and what may stand there, or tells which
 //! sessions begin no transaction; [`note_file`] what was found at the place of a history file that is wrong, and what is
-//! wanted there; [`note_play`] which limit a play came to. [`note_named_file`] says the same of one of many files, behind its
+//! wanted there; [`note_rule`] which rule a play didn't keep. [`note_named_file`] says the same of one of many files, behind its
 //! name, and [`note_unopened`] and [`note_unread`] why there is none. [`note_newer_rows`] tells a cause of a record's fault,
 //! and [`note_words`] what to type in place of words that a subcommand refuses. They are called once the answer is written,
 //! read the input again, and look themselves for the rest: in a script along a table of the grammar's forms, in a file in the
@@ -39,7 +39,9 @@ mod walk;
 mod wanted;
 mod words;
 
+pub use limits::limit_rule;
 pub use notes::{
-    note_file, note_named_file, note_newer_rows, note_play, note_script, note_unopened, note_unread,
+    note_file, note_named_file, note_newer_rows, note_play, note_rule, note_script, note_unopened,
+    note_unread,
 };
 pub use words::{Choices, note_words};

@@ -1,14 +1,13 @@
 //! Writing hints behind an answer.
 
 use crate::file::file_hint;
-use crate::play::{long_file_hint, play_hint};
+use crate::play::{long_file_hint, rule_hint};
 use crate::script::script_hint;
 use crate::silent::{left_out_hint, silent_play_hint};
 use crate::text::put_shown;
 use lab_history_file::read_history;
 use lab_script::parse_script;
-use lab_session::PlayFault;
-use lab_table::NoMemory;
+use lab_table::{NoMemory, Session};
 use std::alloc::Global;
 use std::io::{Error, Write};
 
@@ -55,20 +54,19 @@ fn hint_of_refused_play(alloc: Global, input: &[u8]) -> Result<Vec<u8>, NoMemory
     }
 }
 
-/// Writes what there is to say of a play beside the answer: on its fault if it has one, else on the fault of its script or
-/// of its history's file, or that no transaction begins in it.
-pub fn note_play<N: Write>(
-    alloc: Global,
-    input: &[u8],
-    is_refused: bool,
-    fault: Option<PlayFault>,
-    notes: &mut N,
-) {
-    match fault {
-        Some(fault) => put_hint(notes, play_hint(alloc, &fault)),
-        None if is_refused => put_hint(notes, hint_of_refused_play(alloc, input)),
-        None => put_hint(notes, silent_play_hint(alloc, input)),
+/// Writes what there is to say beside the answer of a play that keeps the rules: on the fault of its script or of its
+/// history's file, or that no transaction begins in it.
+pub fn note_play<N: Write>(alloc: Global, input: &[u8], is_refused: bool, notes: &mut N) {
+    if is_refused {
+        put_hint(notes, hint_of_refused_play(alloc, input));
+    } else {
+        put_hint(notes, silent_play_hint(alloc, input));
     }
+}
+
+/// Writes which rule a play, or a session of it, didn't keep.
+pub fn note_rule<N: Write>(alloc: Global, session: Option<Session>, rule: &str, notes: &mut N) {
+    put_hint(notes, rule_hint(alloc, session, rule));
 }
 
 /// A hint on a file that is none.
