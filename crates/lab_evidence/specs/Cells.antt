@@ -11,8 +11,8 @@ use Rattle.lab_history.specs.declared.operation.State.{State as Left}
 use Rattle.lab_history.specs.declared.operation.Op.{Op}
 use Rattle.lab_history.specs.declared.operation.VersionName.{VersionName}
 use Rattle.lab_history.specs.declared.operation.VersionName.TheVariants.{Initial, Of}
-use Rattle.lab_picture.specs.Effect.{state_text}
-use Rattle.lab_picture.specs.Named.{is_named}
+use Rattle.lab_drawing.specs.Text.{state_text}
+use Rattle.lab_drawing.specs.Rows.{is_named}
 use Rattle.lab_evidence.specs.Markup.{op_text, row_text}
 use Rattle.lab_evidence.specs.Scope.{Scope}
 use Rattle.lab_evidence.specs.Tags.{count_open}

@@ -7,8 +7,8 @@ use Rattle.lab_history.specs.Version.{ops_of, op_at, viewed, last_write, install
 use Rattle.lab_history.specs.declared.operation.Op.{Op}
 use Rattle.lab_history.specs.declared.operation.VersionName.{VersionName}
 use Rattle.lab_history.specs.declared.operation.VersionName.TheVariants.{Initial, Of}
-use Rattle.lab_picture.specs.Effect.{state_text}
-use Rattle.lab_picture.specs.declared.drawing.Spot.{Spot}
+use Rattle.lab_drawing.specs.Text.{state_text}
+use Rattle.lab_drawing.specs.declared.drawing.Spot.{Spot}
 use Rattle.lab_explain.specs.Clauses.{txn_name}
 use Rattle.lab_evidence.specs.declared.questions.Did.{Did}
 use Rattle.lab_evidence.specs.declared.questions.Did.TheVariants.{Saw, Wrote}

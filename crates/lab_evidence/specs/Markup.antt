@@ -4,7 +4,7 @@ use Rattle.std.specs.Fmt.{decimal}
 use Rattle.lab_table.specs.Row.{Row}
 use Rattle.lab_printing.specs.Printed.{printed_row_name}
 use Rattle.lab_history.specs.History.{History}
-use Rattle.lab_picture.specs.Text.{escaped}
+use Rattle.lab_drawing.specs.Text.{escaped}
 use Rattle.lab_explain.specs.Clauses.{txn_name}
 use Rattle.lab_evidence.specs.Scope.{Scope, has_line}
 

@@ -13,10 +13,10 @@ use Rattle.lab_judge.specs.declared.report.Finding.TheVariants as finding
 use Rattle.lab_judge.specs.declared.report.Report.{Report}
 use Rattle.lab_judge.specs.declared.serial.Serial.{Serial}
 use Rattle.lab_judge.specs.declared.serial.Serial.TheVariants as serial
-use Rattle.lab_picture.specs.Cycles.{cycle_of}
-use Rattle.lab_picture.specs.Making.{arrow_of}
-use Rattle.lab_picture.specs.Named.{is_named}
-use Rattle.lab_picture.specs.declared.drawing.Arrow.{Arrow}
+use Rattle.lab_drawing.specs.Cycles.{cycle_of}
+use Rattle.lab_drawing.specs.Making.{arrow_of}
+use Rattle.lab_drawing.specs.Rows.{is_named}
+use Rattle.lab_drawing.specs.declared.drawing.Arrow.{Arrow}
 use Rattle.lab_reports.specs.Phenomena.{finding_of}
 use Rattle.lab_reports.specs.declared.phenomenon.Phenomenon.{Phenomenon}
 use Rattle.lab_evidence.specs.declared.questions.Did.{Did}

@@ -3,8 +3,8 @@ use Rattle.std.specs.Prelude.{ℕ, ℤ, ◌+◌, ◌==◌, nat_le, min, Bool, tr
 use Rattle.std.specs.FinMap as finite
 use Rattle.lab_table.specs.Row.{Row}
 use Rattle.lab_history.specs.History.{History}
-use Rattle.lab_picture.specs.Effect.{state_text}
-use Rattle.lab_picture.specs.Named.{is_named}
+use Rattle.lab_drawing.specs.Text.{state_text}
+use Rattle.lab_drawing.specs.Rows.{is_named}
 use Rattle.lab_evidence.specs.Chains.{chain_text}
 use Rattle.lab_evidence.specs.Markup.{row_text}
 use Rattle.lab_evidence.specs.Phrases.{rows_caption}

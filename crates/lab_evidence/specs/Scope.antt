@@ -6,7 +6,7 @@ use Rattle.lab_history.specs.History.{History}
 use Rattle.lab_history.specs.Version.{ops_of, op_at}
 use Rattle.lab_history.specs.declared.transaction.Txn.{Txn}
 use Rattle.lab_judge.specs.declared.report.Report.{Report}
-use Rattle.lab_picture.specs.Sketch.{drawing_of}
+use Rattle.lab_drawing.specs.Sketch.{drawing_of}
 use Rattle.lab_reports.specs.declared.phenomenon.Phenomenon.{Phenomenon}
 use Rattle.lab_evidence.specs.declared.questions.Question.{Question}
 use Rattle.lab_evidence.specs.Questions.{questions_of, rows_of}

@@ -7,8 +7,8 @@ use Rattle.lab_history.specs.History.{History}
 use Rattle.lab_history.specs.Version.{ops_of, outcome_of}
 use Rattle.lab_history.specs.declared.operation.Op.{Op}
 use Rattle.lab_history.specs.declared.transaction.Outcome.{Outcome}
-use Rattle.lab_picture.specs.Columns.{outcome_name}
-use Rattle.lab_picture.specs.Text.{escaped}
+use Rattle.lab_drawing.specs.Text.{outcome_name}
+use Rattle.lab_drawing.specs.Text.{escaped}
 use Rattle.lab_explain.specs.Clauses.{txn_name}
 use Rattle.lab_evidence.specs.Cells.{seen_cell, listed_cell, written_cell}
 use Rattle.lab_evidence.specs.Markup.{op_name, op_anchor, row_text}

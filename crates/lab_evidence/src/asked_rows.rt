@@ -5,8 +5,8 @@ ghost use Rattle.lab_evidence.specs.Questions.{with_row, with_rows, parts_row, s
 
 use crate::questions::Question;
 use lab_deps::FaultParts;
+use lab_drawing::is_named;
 use lab_judge::{Report, Serial};
-use lab_picture::is_named;
 use lab_reports::Phenomenon;
 use lab_table::{NoMemory, RowName};
 use std::alloc::Global;

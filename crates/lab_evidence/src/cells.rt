@@ -8,8 +8,8 @@ use crate::entries::{Entry, listed_entries, seen_entries, written_entries};
 use crate::entry_words::put_told;
 use crate::scope::Scope;
 use crate::tags::count_open;
+use lab_drawing::{is_named, put_number};
 use lab_history::{History, Op};
-use lab_picture::{is_named, put_number};
 use lab_table::{NoMemory, RowName};
 use std::alloc::Global;
 

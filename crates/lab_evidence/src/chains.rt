@@ -8,9 +8,9 @@ ghost use Rattle.lab_evidence.specs.Chains.{by_text, installed_text, next_text, 
 use crate::markup::{bold_close, bold_open, put_op};
 use crate::scope::Scope;
 use crate::version_places::{is_either, lesser, start_at};
+use lab_drawing::{installers_of, put_number, put_state, state_at};
 use lab_explain::put_txn;
 use lab_history::History;
-use lab_picture::{installers_of, put_number, put_state, state_at};
 use lab_table::{NoMemory, RowName, TxnNo};
 
 /// The installers that are shown behind one another.

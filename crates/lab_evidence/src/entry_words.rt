@@ -9,8 +9,8 @@ use crate::entries::Told;
 use crate::markup::{put_op, put_row};
 use crate::scope::Scope;
 use lab_deps::value_of;
+use lab_drawing::put_state;
 use lab_history::{History, State, VersionName};
-use lab_picture::put_state;
 use lab_table::{NoMemory, RowName, Value};
 use std::alloc::Global;
 

@@ -5,9 +5,9 @@ ghost use Rattle.std.specs.Prelude.{◌≡◌, ◌++◌, OnOk};
 ghost use Rattle.lab_evidence.specs.Markup.{op_name, op_anchor, op_link, op_text, row_text, bold_open, bold_close};
 
 use crate::scope::{Scope, has_line};
+use lab_drawing::{put_escaped, put_number};
 use lab_explain::put_txn;
 use lab_history::History;
-use lab_picture::{put_escaped, put_number};
 use lab_printing::put_row_name;
 use lab_table::{NoMemory, RowName, TxnNo};
 use std::alloc::Global;

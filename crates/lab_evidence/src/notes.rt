@@ -8,7 +8,7 @@ use crate::markup::put_row;
 use crate::questions::{Did, Question};
 use crate::scope::is_at;
 use crate::tags::note_open;
-use lab_picture::put_number;
+use lab_drawing::put_number;
 use lab_table::{NoMemory, RowName, TxnNo};
 use std::alloc::Global;
 

@@ -4,9 +4,9 @@ ghost use Rattle.std.specs.Prelude.{◌≡◌, ◌≤◌, ◌++◌, length, IfOk
 ghost use Rattle.lab_evidence.specs.Questions.{serial_cycle, told_cycle, shown_steps, first_did, second_did, of_edge, of_steps, of_place, of_parts, of_serial, of_found, of_fault, questions_of};
 
 use lab_deps::{Edge, FaultParts, Kind};
+use lab_drawing::{Spot, arrow_of, cycle_of};
 use lab_history::History;
 use lab_judge::{Finding, Report, Serial};
-use lab_picture::{Spot, arrow_of, cycle_of};
 use lab_reports::Phenomenon;
 use lab_table::{NoMemory, RowName, TxnNo};
 use std::alloc::Global;

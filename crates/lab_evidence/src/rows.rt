@@ -11,8 +11,8 @@ use crate::phrases::rows_caption;
 use crate::scope::Scope;
 use crate::tags::{cell_open, end_open, name_open, rows_close};
 use crate::transactions::put_shown;
+use lab_drawing::{is_named, put_state};
 use lab_history::{History, Installers};
-use lab_picture::{is_named, put_state};
 use lab_table::{NoMemory, RowName, Value};
 use std::alloc::Global;
 

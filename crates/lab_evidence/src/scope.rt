@@ -6,10 +6,10 @@ ghost use Rattle.lab_evidence.specs.Scope.{is_among, other_txn, other_txns, few_
 
 use crate::asked_rows::rows_of;
 use crate::questions::{Question, questions_of};
+use lab_drawing::{Drawing, draw};
 use lab_explain::op_of;
 use lab_history::{History, Txn};
 use lab_judge::Report;
-use lab_picture::{Drawing, draw};
 use lab_reports::Phenomenon;
 use lab_table::{NoMemory, RowName, TxnNo};
 use std::alloc::Global;

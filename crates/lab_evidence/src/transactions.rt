@@ -10,9 +10,9 @@ use crate::lines::put_line;
 use crate::phrases::transactions_caption;
 use crate::scope::{Scope, shows_op};
 use crate::tags::{head_close, txn_head, untold_open};
+use lab_drawing::{ops_of, outcome_name, put_number};
 use lab_explain::put_txn as put_txn_name;
 use lab_history::{History, Op};
-use lab_picture::{ops_of, outcome_name, put_number};
 use lab_table::{NoMemory, TxnNo};
 use std::alloc::Global;
 

@@ -6,9 +6,9 @@ ghost use Rattle.lab_evidence.specs.Chains.{version_place, seen_place, asked_pla
 
 use crate::questions::Did;
 use lab_deps::viewed;
+use lab_drawing::Spot;
 use lab_explain::op_of;
 use lab_history::{History, VersionName};
-use lab_picture::Spot;
 use lab_table::{RowName, TxnNo};
 
 /// The place of a version among a row's, counted from 0, which is the initial one.

@@ -3,7 +3,7 @@ use Rattle.std.{proofs.Common.{◌≡◌, List, Option, ap}, specs.Prelude.{Cont
 use Rattle.lab_history.specs.History.{History}
 use Rattle.lab_deps.specs.declared.edge.Edge.{Edge}
 use Rattle.lab_judge.specs.{Judgement.{IsExactJudgement}, declared.report.Report.{Report}}
-use Rattle.lab_picture.{specs.{ArrowLaws.{IsArrowOf, NamesWalk}, declared.drawing.Arrow.{Arrow}}, proofs.{JudgedWalks.{is_found}, DrawnWalks.{edge_of}, MadeArrows.{has_arrow}}}
+use Rattle.lab_drawing.{specs.{ArrowLaws.{IsArrowOf, NamesWalk}, declared.drawing.Arrow.{Arrow}}, proofs.{JudgedWalks.{is_found}, DrawnWalks.{edge_of}, MadeArrows.{has_arrow}}}
 use Rattle.lab_reports.specs.declared.phenomenon.Phenomenon.{Phenomenon}
 use Rattle.lab_explain.specs.{Lines.{step}, Steps.{edge_text, told_edge, edge_step}}
 

@@ -17,10 +17,10 @@ use Rattle.lab_deps.specs.declared.fault.LocalFault.{LocalFault}
 use Rattle.lab_deps.specs.declared.kind.OpFault.TheVariants.{Dangling, AbortedRead, IntermediateRead, OwnWriteMissed, LaterThanOwn, RowsDiffer, WritesDiffer}
 use Rattle.lab_deps.specs.declared.kind.RowFault.TheVariants.{InstallOrder, EndDiffers}
 use Rattle.lab_judge.specs.ReportText.{fault_text, txn_text}
-use Rattle.lab_picture.specs.Installs.{misplaced_of, misplaced_text}
-use Rattle.lab_picture.specs.declared.installs.Misplaced.{Misplaced}
-use Rattle.lab_picture.specs.declared.installs.Why.{Why}
-use Rattle.lab_picture.specs.declared.installs.Why.TheVariants.{Missing, Unwritten, Repeated}
+use Rattle.lab_drawing.specs.Installs.{misplaced_of, misplaced_text}
+use Rattle.lab_drawing.specs.declared.installs.Misplaced.{Misplaced}
+use Rattle.lab_drawing.specs.declared.installs.Why.{Why}
+use Rattle.lab_drawing.specs.declared.installs.Why.TheVariants.{Missing, Unwritten, Repeated}
 use Rattle.lab_explain.specs.Lines.{step}
 use Rattle.lab_explain.specs.Phrases.{listed_words, wrote_words, lists_words, writes_words, last_words, installers_words, as_last_words, often_words}
 use Rattle.lab_explain.specs.Clauses.{op_text, row_name, state_text, version_text, saw_text, saw_with}

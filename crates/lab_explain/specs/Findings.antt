@@ -9,8 +9,8 @@ use Rattle.lab_judge.specs.declared.report.Finding.TheVariants.{Absent, Walk, At
 use Rattle.lab_judge.specs.declared.report.Report.{Report}
 use Rattle.lab_reports.specs.Phenomena.{phenomenon_name, finding_of}
 use Rattle.lab_reports.specs.declared.phenomenon.Phenomenon.{Phenomenon}
-use Rattle.lab_picture.specs.Cycles.{cycle_of}
-use Rattle.lab_picture.specs.Titles.{full_name}
+use Rattle.lab_drawing.specs.Cycles.{cycle_of}
+use Rattle.lab_drawing.specs.Titles.{full_name}
 use Rattle.lab_explain.specs.Lines.{lines, paragraph, cut, capped}
 use Rattle.lab_explain.specs.Clauses.{saw_text}
 use Rattle.lab_explain.specs.Names.{flaw_of}

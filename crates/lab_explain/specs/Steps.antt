@@ -7,9 +7,9 @@ use Rattle.lab_deps.specs.declared.edge.Edge.{Edge}
 use Rattle.lab_deps.specs.declared.edge.Kind.{Kind}
 use Rattle.lab_deps.specs.declared.edge.Kind.TheVariants.{Write, ItemRead, PredicateRead, ItemAnti, PredicateAnti}
 use Rattle.lab_judge.specs.ReportText.{kind_name}
-use Rattle.lab_picture.specs.Making.{arrow_of}
-use Rattle.lab_picture.specs.declared.drawing.Arrow.{Arrow}
-use Rattle.lab_picture.specs.declared.drawing.Spot.{Spot}
+use Rattle.lab_drawing.specs.Making.{arrow_of}
+use Rattle.lab_drawing.specs.declared.drawing.Arrow.{Arrow}
+use Rattle.lab_drawing.specs.declared.drawing.Spot.{Spot}
 use Rattle.lab_explain.specs.Lines.{step, joined}
 use Rattle.lab_explain.specs.Clauses.{txn_name, op_text, seen_by, left_by, saw_text, left_text}
 

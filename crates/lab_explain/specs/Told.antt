@@ -10,7 +10,7 @@ use Rattle.lab_judge.specs.declared.serial.Serial.TheVariants as serial
 use Rattle.lab_reports.specs.Phenomena.{phenomenon_name, finding_of}
 use Rattle.lab_reports.specs.declared.phenomenon.Phenomenon.{Phenomenon}
 use Rattle.lab_reports.specs.declared.phenomenon.Phenomenon.TheVariants.{G0, G1c, GSingle, G2Item, G2}
-use Rattle.lab_picture.specs.Cycles.{cycle_of}
+use Rattle.lab_drawing.specs.Cycles.{cycle_of}
 
 -- the walk of a serial verdict as the report prints it; nothing where it has none
 abbrev pub serial_walk : Serial → List ℕ

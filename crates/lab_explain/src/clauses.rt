@@ -11,8 +11,8 @@ use crate::lines::put_natural;
 use crate::phrases::version_words;
 use itoa::Buffer;
 use lab_deps::{state_of, viewed};
+use lab_drawing::ops_of;
 use lab_history::{History, Op, VersionName};
-use lab_picture::ops_of;
 use lab_printing::{put_row_name, put_statement};
 use lab_table::{NoMemory, RowName, TxnNo, Value};
 

@@ -3,7 +3,7 @@
 
 ghost use Rattle.std.specs.Prelude.{◌≡◌, ◌++◌, OnOk};
 ghost use Rattle.lab_deps.specs.declared.fault.FaultParts.TheVariants as parts;
-ghost use Rattle.lab_picture.specs.Installs.{misplaced_of};
+ghost use Rattle.lab_drawing.specs.Installs.{misplaced_of};
 ghost use Rattle.lab_explain.specs.Faults.{article, misplaced_note, installers_text, end_text, last_text, named_text, recorded, due, mistake, recorded_text, due_text, most_often};
 
 use crate::clauses::{put_op, put_row, put_saw, put_saw_with, put_state};
@@ -12,9 +12,9 @@ use crate::fault_parts::{
 };
 use crate::phrases::{as_last_words, installers_words, often_words};
 use lab_deps::{FaultParts, LocalFault, OpFault, RowFault};
+use lab_drawing::{Why, installers_of, misplaced_of, put_misplaced, state_at};
 use lab_history::History;
 use lab_judge::put_fault;
-use lab_picture::{Why, installers_of, misplaced_of, put_misplaced, state_at};
 use lab_table::{NoMemory, RowName, TxnNo};
 
 /// The article of who is out of place.

@@ -8,9 +8,9 @@ ghost use Rattle.lab_explain.specs.Steps.{from_text, left_next, saw_next, to_tex
 use crate::clauses::{put_left, put_left_row, put_op, put_saw, put_seen, put_txn};
 use crate::lines::{put_placed, put_step, room_behind};
 use lab_deps::{Edge, Kind};
+use lab_drawing::{Arrow, Spot, arrow_of};
 use lab_history::History;
 use lab_judge::kind_name;
-use lab_picture::{Arrow, Spot, arrow_of};
 use lab_printing::put_row_name;
 use lab_table::{NoMemory, RowName};
 use std::alloc::Global;

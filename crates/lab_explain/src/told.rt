@@ -6,8 +6,8 @@ ghost use Rattle.lab_judge.specs.ReportText.{walk_text};
 ghost use Rattle.lab_explain.specs.Told.{serial_walk, is_cycle, first_present, is_verdicts, told_of, is_told};
 
 use lab_deps::Edge;
+use lab_drawing::cycle_of;
 use lab_judge::{Finding, Report, Serial, put_walk};
-use lab_picture::cycle_of;
 use lab_reports::Phenomenon;
 use lab_table::NoMemory;
 use std::alloc::Global;

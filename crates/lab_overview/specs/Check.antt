@@ -9,7 +9,7 @@ use Rattle.lab_judge.specs.declared.report.Finding.TheVariants as finding
 use Rattle.lab_judge.specs.declared.report.Report.{Report}
 use Rattle.lab_judge.specs.declared.serial.Serial.{Serial}
 use Rattle.lab_judge.specs.declared.serial.Serial.TheVariants as serial
-use Rattle.lab_picture.specs.Text.{escaped}
+use Rattle.lab_drawing.specs.Text.{escaped}
 use Rattle.lab_reports.specs.Phenomena.{finding_of}
 use Rattle.lab_reports.specs.declared.phenomenon.Phenomenon.{Phenomenon}
 use Rattle.lab_overview.specs.Phrases.{check_order, check_cycle, check_fault, check_file, check_program}

@@ -15,9 +15,9 @@ use Rattle.lab_judge.specs.declared.report.Grade.TheVariants as grade
 use Rattle.lab_judge.specs.declared.report.Report.{Report}
 use Rattle.lab_judge.specs.declared.serial.Serial.{Serial}
 use Rattle.lab_judge.specs.declared.serial.Serial.TheVariants as serial
-use Rattle.lab_picture.specs.Cycles.{walk_phenomenon}
-use Rattle.lab_picture.specs.Text.{escaped}
-use Rattle.lab_picture.specs.Titles.{serial_title, finding_title}
+use Rattle.lab_drawing.specs.Cycles.{walk_phenomenon}
+use Rattle.lab_drawing.specs.Text.{escaped}
+use Rattle.lab_drawing.specs.Titles.{serial_title, finding_title}
 use Rattle.lab_reports.specs.Phenomena.{phenomena, phenomenon_name, finding_of}
 use Rattle.lab_reports.specs.declared.phenomenon.Phenomenon.{Phenomenon}
 use Rattle.lab_overview.specs.Meanings.{meaning_of, fault_meaning, level_words, rung_of}

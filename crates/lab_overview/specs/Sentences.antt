@@ -1,7 +1,7 @@
 -- Sentences with markup round them.
 use Rattle.std.specs.Prelude.{ℕ, ◌==◌, not, List, ◌++◌, take, drop, codes}
 use Rattle.std.specs.List.{prefix_len}
-use Rattle.lab_picture.specs.Text.{escaped}
+use Rattle.lab_drawing.specs.Text.{escaped}
 
 -- how many bytes of a sentence stand before its first colon
 abbrev pub lead_length : List ℕ → ℕ

@@ -5,10 +5,10 @@ ghost use Rattle.std.specs.Prelude.{◌≡◌, ◌++◌, OnOk};
 ghost use Rattle.lab_overview.specs.Check.{report_part, file_of, file_text, no_file, shown_file, history_text, history_part};
 
 use crate::tags::{file_open, history_head, page_close, report_head};
+use lab_drawing::put_escaped;
 use lab_history::History;
 use lab_history_file::{WriteFault, write_history};
 use lab_judge::{Report, print_report};
-use lab_picture::put_escaped;
 use lab_table::NoMemory;
 use std::alloc::{AllocError, Global};
 

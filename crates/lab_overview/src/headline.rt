@@ -5,9 +5,9 @@ ghost use Rattle.lab_overview.specs.Head.{serial_headline, headline_of, serial_l
 
 use crate::meanings::{fault_meaning, meaning_of};
 use crate::phrases::yes_lede;
+use lab_drawing::{put_finding_title, put_serial_title, walk_phenomenon};
 use lab_history::History;
 use lab_judge::{Report, Serial};
-use lab_picture::{put_finding_title, put_serial_title, walk_phenomenon};
 use lab_reports::Phenomenon;
 use lab_table::NoMemory;
 use std::alloc::Global;

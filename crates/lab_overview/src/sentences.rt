@@ -4,7 +4,7 @@
 ghost use Rattle.std.specs.Prelude.{◌≡◌, ◌++◌, ◌≤◌, length, OnOk};
 ghost use Rattle.lab_overview.specs.Sentences.{lead_length, led_text, paragraph_text};
 
-use lab_picture::put_escaped;
+use lab_drawing::put_escaped;
 use lab_table::NoMemory;
 
 /// How many bytes of a sentence stand before its first colon.

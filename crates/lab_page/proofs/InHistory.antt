@@ -2,7 +2,7 @@
 use Rattle.std.{proofs.Common.{◌≡◌, ℕ, true, false, cond, Option, List, ◌++◌, length, refl, sym, subst}, specs.Prelude.{codes, nat_le}}
 use Rattle.lab_history.specs.History.{History}
 use Rattle.lab_judge.specs.declared.report.Report.{Report}
-use Rattle.lab_picture.specs.Text.{escaped}
+use Rattle.lab_drawing.specs.Text.{escaped}
 use Rattle.lab_reports.specs.declared.phenomenon.Phenomenon.{Phenomenon}
 use Rattle.lab_evidence.specs.{Rows.{rows_part}, Scope.{Scope}, Transactions.{transactions_text}}
 use Rattle.lab_overview.specs.{Check.{check_part, report_part, history_text, history_part, file_of, file_text, shown_file, no_file}, Tags.{history_head, file_open, page_close}}

@@ -3,7 +3,7 @@ use Rattle.std.{proofs.{Common.{◌≡◌, ◌≤◌, ℕ, Bool, true, false, co
 use Rattle.lab_history.specs.History.{History}
 use Rattle.lab_deps.specs.declared.{edge.Edge.{Edge}, fault.LocalFault.{LocalFault}}
 use Rattle.lab_judge.specs.{ReportText.{report_text}, declared.{report.Report.{Report}, serial.Serial.TheVariants.{NoFault}}}
-use Rattle.lab_picture.specs.{Sketch.{drawing_of}, Text.{escaped}}
+use Rattle.lab_drawing.specs.{Sketch.{drawing_of}, Text.{escaped}}
 use Rattle.lab_explain.specs.{Faults.{recorded_text, due_text}, Names.{level_line}, Places.{places_sentence}, Sentences.{edge_sentence, mistake_text, finding_sentence}}
 use Rattle.lab_reports.specs.declared.phenomenon.Phenomenon.{Phenomenon}
 use Rattle.lab_overview.specs.Check.{check_part, report_part, history_part, file_of}

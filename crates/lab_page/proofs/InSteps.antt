@@ -3,7 +3,7 @@ use Rattle.std.{proofs.{Common.{◌≡◌, ℕ, ◌+◌, Option, None, List, [],
 use Rattle.lab_history.specs.History.{History}
 use Rattle.lab_deps.specs.declared.{edge.Edge.{Edge}, fault.LocalFault.{LocalFault}}
 use Rattle.lab_judge.specs.declared.{report.Report.{Report}, serial.Serial.TheVariants.{NoFault}}
-use Rattle.lab_picture.specs.Making.{arrow_of}
+use Rattle.lab_drawing.specs.Making.{arrow_of}
 use Rattle.lab_explain.specs.{Faults.{recorded_text, due_text}, Sentences.{edge_sentence, mistake_text}}
 use Rattle.lab_reports.specs.declared.phenomenon.Phenomenon.{Phenomenon}
 use Rattle.lab_overview.specs.Sentences.{led_text}

@@ -1,6 +1,6 @@
 -- An escaped text, read back.
 use Rattle.std.{proofs.{Common.{◌≡◌, ℕ, ◌==◌, Bool, true, false, cond, List, [], ◌∷◌, ◌++◌, refl, sym, ap, ◌∙◌}, lemmas.Bool.{eqb-true}}, specs.Prelude.{codes}}
-use Rattle.lab_picture.specs.Text.{escaped, escaped_byte}
+use Rattle.lab_drawing.specs.Text.{escaped, escaped_byte}
 use Rattle.lab_page.specs.Untagged.{read_from, read_back, named_from, names_bytes}
 
 -- a byte is read back, before what stands behind it

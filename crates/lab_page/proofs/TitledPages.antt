@@ -2,7 +2,7 @@
 use Rattle.std.{proofs.{Common.{◌≡◌, ◌≢◌, ℕ, ◌==◌, Bool, true, false, cond, Option, List, [], ◌++◌, length, refl, sym, ap, subst, ◌∙◌, append_assoc}, lemmas.{Bool.{eqb-true}, List.{append-nil}}}, specs.Prelude.{codes}}
 use Rattle.lab_history.specs.History.{History}
 use Rattle.lab_judge.specs.declared.report.{Grade.{Grade}, Report.{Report}}
-use Rattle.lab_picture.specs.Text.{escaped}
+use Rattle.lab_drawing.specs.Text.{escaped}
 use Rattle.lab_reports.specs.declared.phenomenon.Phenomenon.{Phenomenon}
 use Rattle.lab_evidence.specs.Scope.{Scope}
 use Rattle.lab_overview.specs.Head.{behind_title, title_behind, above_headline, title_above, page_open, verdict_text, title_text, headline_text, headline_of, lede_of, tiles_text, counts_text, head_text, header_open, header_text}

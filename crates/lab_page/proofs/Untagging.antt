@@ -1,6 +1,6 @@
 -- What stands in a page once its tags are taken away.
 use Rattle.std.{proofs.{Common.{◌≡◌, ℕ, ◌==◌, Bool, true, false, not, ◌&&◌, cond, List, [], ◌∷◌, ◌++◌, take, drop, refl, sym, ap, subst, ◌∙◌, append_assoc}, lemmas.{Bool.{and_parts}, Grind.{flat_map-append}, List.{take-append-drop, append-nil}}}, specs.{Prelude.{codes, flat_map}, List.{list_all}}}
-use Rattle.lab_picture.{specs.Text.{escaped, escaped_byte, is_plain}, proofs.Escapes.{no_markup}}
+use Rattle.lab_drawing.{specs.Text.{escaped, escaped_byte, is_plain}, proofs.Escapes.{no_markup}}
 use Rattle.lab_overview.specs.Sentences.{lead_length, led_text, paragraph_text}
 use Rattle.lab_page.specs.Untagged.{is_inside, kept, untagged, Holds, Shows}
 

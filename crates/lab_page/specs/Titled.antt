@@ -1,6 +1,6 @@
 -- What pages have of the title, for laws.
 use Rattle.std.specs.Prelude.{◌≡◌, ◌≢◌, ℕ, List, ◌++◌, length}
-use Rattle.lab_picture.specs.Text.{escaped}
+use Rattle.lab_drawing.specs.Text.{escaped}
 
 -- pages under titles have them escaped, in two places, and all else of them is the same under each title that isn't empty
 abbrev pub HasTitlesEscaped : (List ℕ → List ℕ) → Type 0

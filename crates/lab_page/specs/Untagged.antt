@@ -1,7 +1,7 @@
 -- A page without its tags, for laws.
 use Rattle.std.specs.Prelude.{◌≡◌, ℕ, ◌==◌, Bool, true, false, not, ◌&&◌, cond, List, [], ◌∷◌, ◌++◌, length, codes}
 use Rattle.std.specs.Str.{bytes_eq}
-use Rattle.lab_picture.specs.Text.{escaped}
+use Rattle.lab_drawing.specs.Text.{escaped}
 
 -- whether what stands behind a byte is inside of a tag, by whether the byte is
 abbrev pub is_inside : Bool → ℕ → Bool

@@ -9,10 +9,10 @@ use Rattle.lab_deps.specs.declared.fault.LocalFault.{LocalFault}
 use Rattle.lab_judge.specs.declared.report.Report.{Report}
 use Rattle.lab_judge.specs.declared.serial.Serial.{Serial}
 use Rattle.lab_judge.specs.declared.serial.Serial.TheVariants as serial
-use Rattle.lab_picture.specs.Making.{arrow_of}
-use Rattle.lab_picture.specs.Sketch.{drawing_of}
-use Rattle.lab_picture.specs.Text.{escaped}
-use Rattle.lab_picture.specs.declared.drawing.Arrow.{Arrow}
+use Rattle.lab_drawing.specs.Making.{arrow_of}
+use Rattle.lab_drawing.specs.Sketch.{drawing_of}
+use Rattle.lab_drawing.specs.Text.{escaped}
+use Rattle.lab_drawing.specs.declared.drawing.Arrow.{Arrow}
 use Rattle.lab_explain.specs.Faults.{recorded_text, due_text}
 use Rattle.lab_explain.specs.Sentences.{serial_sentence, edge_sentence, mistake_text, found_sentence}
 use Rattle.lab_reports.specs.Phenomena.{finding_of}

@@ -2,14 +2,14 @@
 //! them; after NoMemory, part of what was to be appended may stand there.
 
 ghost use Rattle.std.specs.Prelude.{◌≡◌, ◌++◌, OnOk};
-ghost use Rattle.lab_picture.specs.Making.{arrow_of};
+ghost use Rattle.lab_drawing.specs.Making.{arrow_of};
 ghost use Rattle.lab_page.specs.Why.{ends_text, step_chain, below_ends, below_row, below_head, below_text, below_by};
 
 use crate::tags::{chain_open, row_open, versions_open};
 use lab_deps::{Edge, Kind};
+use lab_drawing::{Arrow, arrow_of};
 use lab_evidence::{Scope, asked_place, first_did, put_chain, put_op, put_row, second_did};
 use lab_history::History;
-use lab_picture::{Arrow, arrow_of};
 use lab_table::{NoMemory, RowName};
 use std::alloc::Global;
 

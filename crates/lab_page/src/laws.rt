@@ -9,7 +9,7 @@ ghost use Rattle.lab_judge.specs.ReportText.{report_text};
 ghost use Rattle.lab_judge.specs.declared.report.Report.{Report};
 ghost use Rattle.lab_judge.specs.declared.serial.Serial.TheVariants.{NoFault};
 ghost use Rattle.lab_streams.specs.declared.ending.Ending.{Ending};
-ghost use Rattle.lab_picture.specs.Text.{escaped, is_plain};
+ghost use Rattle.lab_drawing.specs.Text.{escaped, is_plain};
 ghost use Rattle.lab_explain.specs.Faults.{recorded_text, due_text};
 ghost use Rattle.lab_explain.specs.Names.{level_line};
 ghost use Rattle.lab_explain.specs.Places.{places_sentence};

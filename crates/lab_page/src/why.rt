@@ -3,17 +3,17 @@
 
 ghost use Rattle.std.specs.Prelude.{◌≡◌, ◌++◌, OnOk};
 ghost use Rattle.lab_page.specs.Why.{opening_of, opening_text, serial_heading, heading_of, why_open, sentences_text, why_told, why_drawn, why_text};
-ghost use Rattle.lab_picture.specs.Sketch.{drawing_of};
+ghost use Rattle.lab_drawing.specs.Sketch.{drawing_of};
 ghost use Rattle.lab_overview.specs.Figure.{figure_text};
 
 use crate::tags::{opening_open, sentences_close, sentences_open, why_close, why_head};
 use crate::why_steps::{put_behind_steps, put_steps};
+use lab_drawing::{Drawing, draw, put_escaped};
 use lab_evidence::{Scope, told_cycle};
 use lab_explain::{put_found_sentence, put_serial_sentence};
 use lab_history::History;
 use lab_judge::{Report, Serial};
 use lab_overview::put_figure;
-use lab_picture::{Drawing, draw, put_escaped};
 use lab_reports::Phenomenon;
 use lab_table::NoMemory;
 use std::alloc::Global;

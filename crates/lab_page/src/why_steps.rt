@@ -8,6 +8,7 @@ use crate::below::put_below_edge;
 use crate::phrases::kinds_text;
 use crate::tags::steps_open;
 use lab_deps::{Edge, LocalFault};
+use lab_drawing::put_number;
 use lab_evidence::{Scope, shown_steps, told_cycle};
 use lab_explain::{
     put_due_sentence, put_edge_sentence, put_mistake_sentence, put_recorded_sentence,
@@ -15,7 +16,6 @@ use lab_explain::{
 use lab_history::History;
 use lab_judge::{Report, Serial};
 use lab_overview::put_led;
-use lab_picture::put_number;
 use lab_reports::Phenomenon;
 use lab_table::NoMemory;
 use std::alloc::Global;

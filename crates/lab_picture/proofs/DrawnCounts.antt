@@ -1,6 +1,7 @@
 -- How many of a transaction's operations are drawn, where few are.
 use Rattle.std.{proofs.{Common.{◌≡◌, ◌≤◌, ◌<◌, ℕ, zero, suc, ◌+◌, ◌*◌, ◌==◌, Bool, true, false, ◌||◌, cond, List, [], ◌∷◌, length, refl, sym, arith, nat_le, leb-true}, lemmas.Bool.{false≢true, eqb-true, eq-eqb, and_parts}}, specs.List.{list_any}}
-use Rattle.lab_picture.specs.{Few.{count_to, is_kept}, Named.{is_at, touches}, declared.drawing.{Arrow.{Arrow}, Spot.{Spot}}}
+use Rattle.lab_picture.specs.{Few.{count_to, is_kept}, Named.{is_at, touches}}
+use Rattle.lab_drawing.specs.declared.drawing.{Arrow.{Arrow}, Spot.{Spot}}
 
 all_step : (b : Bool) (a k : ℕ) → a ≤ k → a + cond b 1 0 ≤ suc k
 all_step true a k le = omega arith

@@ -2,7 +2,8 @@
 use Rattle.std.{proofs.{Common.{◌≡◌, ℕ, ◌==◌, ◌||◌, Bool, true, not, cond, Some, List, [], ◌∷◌, refl, sym, subst, ap, ◌∙◌, inl, inr}, lemmas.{Bool.{eq-eqb, or_left, or_right}, List.Elements.{Contains-append_cases}}}, specs.{Prelude.{nat_le, Contains, Option}, List.{list_any}}}
 use Rattle.lab_table.proofs.Members.{no_member, only_member}
 use Rattle.lab_history.specs.History.{History}
-use Rattle.lab_picture.{specs.{Columns.{marked_in}, DrawnLaws.{IsDrawnAt}, Few.{is_kept}, Named.{is_at, touches}, Sketch.{Sketch}, Slots.{is_few}, Svg.{arrows_drawn}, declared.drawing.{Arrow.{Arrow}, Spot.{Spot}}}, proofs.KeptRows.{at_itself}}
+use Rattle.lab_picture.{specs.{Columns.{marked_in}, DrawnLaws.{IsDrawnAt}, Few.{is_kept}, Named.{is_at, touches}, Slots.{is_few}, Svg.{arrows_drawn}}, proofs.KeptRows.{at_itself}}
+use Rattle.lab_drawing.specs.{Sketch.{Sketch}, declared.drawing.{Arrow.{Arrow}, Spot.{Spot}}}
 
 -- an arrow that touches an operation is among those that do
 some_touch : (arrows : List Arrow) (a : Arrow) (n k : ℕ) → Contains arrows a → touches n k a ≡ true → list_any (touches n k) arrows ≡ true

@@ -2,15 +2,8 @@
 use Rattle.std.{proofs.{Common.{◌≡◌, ◌≤◌, ℕ, ◌+◌, ◌*◌, ◌/◌, Bool, true, false, cond, nat_lt, Option, List, [], ◌∷◌, length, refl, subst, inl, inr, ltb-false, mul-le-mul, length-take, arith}, lemmas.List.Elements.{Contains-append_cases}}, specs.Prelude.{Contains, max, min}}
 use Rattle.lab_table.proofs.Members.{no_member, only_member, first_member, later_member}
 use Rattle.lab_history.specs.{History.{History}, Version.{ops_of}}
-use Rattle.lab_picture.specs.Columns.{marked_in, most_from, most_ops, shown_columns}
-use Rattle.lab_picture.specs.DrawnLaws.{limit, DrawsFew, IsLow}
-use Rattle.lab_picture.specs.Few.{is_kept}
-use Rattle.lab_picture.specs.Layout.{distance}
-use Rattle.lab_picture.specs.Sketch.{Sketch}
-use Rattle.lab_picture.specs.Slots.{is_few, drawn_of, most_drawn}
-use Rattle.lab_picture.specs.Svg.{arrows_drawn, frame_of, goes_below}
-use Rattle.lab_picture.specs.Values.{value_lines}
-use Rattle.lab_picture.specs.declared.drawing.{Arrow.{Arrow}, Spot.{Spot}}
+use Rattle.lab_picture.specs.{Columns.{marked_in, most_from, most_ops, shown_columns}, DrawnLaws.{limit, DrawsFew, IsLow}, Few.{is_kept}, Layout.{distance}, Slots.{is_few, drawn_of, most_drawn}, Svg.{arrows_drawn, frame_of, goes_below}, Values.{value_lines}}
+use Rattle.lab_drawing.specs.{Sketch.{Sketch}, declared.drawing.{Arrow.{Arrow}, Spot.{Spot}}}
 use Rattle.lab_picture.proofs.{DrawnCounts.{count_all, count_few}, LowHeadings.{head_low}}
 
 module _ (h : History) where

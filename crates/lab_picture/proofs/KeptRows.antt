@@ -10,10 +10,11 @@ use Rattle.lab_picture.specs.Boxes.{fits, shown_effect, telling}
 use Rattle.lab_picture.specs.Effect.{behind, or_none, is_unlisted, listed_text, written_text, written_lead, effect_text}
 use Rattle.lab_picture.specs.Kept.{told_listed, told_written, listed_rows, written_rows, told_rows, tells_named, kept_row, kept_from, kept_lead, kept_text, before_row, before_dots, next_behind, behind_all}
 use Rattle.lab_picture.specs.Lines.{all_lines}
-use Rattle.lab_picture.specs.Named.{is_at, touches, rows_at, is_named}
+use Rattle.lab_picture.specs.Named.{is_at, touches, rows_at}
+use Rattle.lab_drawing.specs.{Rows.{is_named}, declared.drawing.{Arrow.{Arrow}, Spot.{Spot}}}
 use Rattle.lab_picture.specs.RowLaws.{BoxHas, HasRow}
 use Rattle.lab_picture.specs.TextLaws.{StandsIn, Have}
-use Rattle.lab_picture.specs.declared.{drawing.{Arrow.{Arrow}, Spot.{Spot}}, kept.Behind.{Behind, TheVariants.{Nothing}}}
+use Rattle.lab_picture.specs.declared.kept.Behind.{Behind, TheVariants.{Nothing}}
 use Rattle.lab_picture.proofs.TextLines.{lines_joined, lines_unparted}
 
 -- a text stands in one that goes on before or behind

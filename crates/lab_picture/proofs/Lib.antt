@@ -1,17 +1,5 @@
-pub mod Operations
-pub mod FirstOps
-pub mod InstalledRows
-pub mod MadeArrows
-pub mod MadeDependencies
-pub mod JudgedWalks
-pub mod DrawnWalks
-mod NamedInstalls
-pub mod Escapes
 pub mod OnePicture
 mod LeastOfPairs
-mod TitledWalks
-mod NicknameForms
-pub mod SaidNames
 mod TextLines
 mod LineSteps
 mod KeptRows

@@ -1,6 +1,7 @@
 -- What stands above the columns is low.
 use Rattle.std.proofs.Common.{◌≤◌, ℕ, ◌==◌, Bool, true, false, cond, nat_lt, Some, None, Option, List, [], ◌∷◌, length, arith}
-use Rattle.lab_picture.specs.{Heading.{title_bytes, line_bytes, far_lines, marked_lines, has_thin, head_y}, Keys.{has_key}, Sketch.{Sketch}, Text.{back, in_one, in_two, in_four}, declared.{drawing.{Arrow.{Arrow}, Spot.{Spot}}, keys.Key.TheVariants.{Solid, Dashed, Sees}}}
+use Rattle.lab_picture.specs.{Heading.{title_bytes, line_bytes, far_lines, marked_lines, has_thin, head_y}, Keys.{has_key}, Text.{back, in_one, in_two, in_four}, declared.keys.Key.TheVariants.{Solid, Dashed, Sees}}
+use Rattle.lab_drawing.specs.{Sketch.{Sketch}, declared.drawing.{Arrow.{Arrow}, Spot.{Spot}}}
 
 -- a line that there may be is one
 line : (b : Bool) → cond b 1 0 ≤ 1

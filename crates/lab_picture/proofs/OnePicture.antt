@@ -4,7 +4,8 @@ use Rattle.lab_history.specs.History.{History}
 use Rattle.lab_judge.proofs.OneJudgement.{one_judgement}
 use Rattle.lab_streams.specs.declared.ending.Ending.{Ending}
 use Rattle.lab_reports.specs.declared.phenomenon.Phenomenon.{Phenomenon}
-use Rattle.lab_picture.{specs.{declared.drawing.Arrow.{Arrow}, Forward.{AreForward, arrows_in, near_pairs, yes_columns, with_forward}, Picture.{IsPictureOf, Pictures}, Sketch.{drawing_of}, Svg.{svg_of}}, proofs.LeastOfPairs.{one_list}}
+use Rattle.lab_drawing.specs.{declared.drawing.Arrow.{Arrow}, Sketch.{drawing_of}}
+use Rattle.lab_picture.{specs.{Forward.{AreForward, arrows_in, near_pairs, yes_columns, with_forward}, Picture.{IsPictureOf, Pictures}, Svg.{svg_of}}, proofs.LeastOfPairs.{one_list}}
 
 -- the arrows of a yes are one list
 one_forward : (h : History) (columns : List ℕ) (xs ys : List Arrow) → AreForward h columns xs → AreForward h columns ys → xs ≡ ys

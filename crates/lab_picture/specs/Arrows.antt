@@ -3,11 +3,10 @@ use Rattle.std.specs.Prelude.{ℕ, ◌+◌, ◌-◌, ◌*◌, ◌/◌, ◌==◌,
 use Rattle.std.specs.Fmt.{decimal}
 use Rattle.std.specs.List.{list_any}
 use Rattle.lab_printing.specs.Printed.{printed_row_name}
-use Rattle.lab_judge.specs.Places.{is_anti}
 use Rattle.lab_judge.specs.ReportText.{kind_name}
-use Rattle.lab_picture.specs.declared.drawing.Arrow.{Arrow}
-use Rattle.lab_picture.specs.declared.drawing.Tie.{Tie}
-use Rattle.lab_picture.specs.declared.drawing.Tie.TheVariants.{Dependency, Version}
+use Rattle.lab_drawing.specs.declared.drawing.Arrow.{Arrow}
+use Rattle.lab_drawing.specs.declared.drawing.Tie.{Tie}
+use Rattle.lab_drawing.specs.declared.drawing.Tie.TheVariants.{Dependency, Version}
 use Rattle.lab_picture.specs.declared.layout.Corner.{Corner}
 use Rattle.lab_picture.specs.Layout.{exit_of, entry_of, is_next, lane, aside}
 use Rattle.lab_picture.specs.declared.layout.Frame.{Frame}
@@ -22,11 +21,6 @@ column_of before n (m ∷ ms) = cond (m == n) (Some before) (column_of (before +
 abbrev pub tie_name : Tie → List ℕ
 tie_name (Dependency kind) = kind_name kind
 tie_name Version = codes "sees"
-
--- whether it is an anti-dependency
-abbrev pub is_dashed : Tie → Bool
-is_dashed (Dependency kind) = is_anti kind
-is_dashed Version = false
 
 -- what stands at an arrow
 abbrev pub label_of : Arrow → List ℕ

@@ -3,7 +3,7 @@ use Rattle.std.specs.Prelude.{ℕ, ◌+◌, ◌*◌, ◌==◌, nat_le, Bool, not
 use Rattle.lab_printing.specs.Printed.{printed_statement}
 use Rattle.lab_table.specs.Row.{Row}
 use Rattle.lab_history.specs.declared.operation.Op.{Op}
-use Rattle.lab_picture.specs.declared.drawing.Arrow.{Arrow}
+use Rattle.lab_drawing.specs.declared.drawing.Arrow.{Arrow}
 use Rattle.lab_picture.specs.declared.layout.Column.{Column}
 use Rattle.lab_picture.specs.declared.layout.Frame.{Frame}
 use Rattle.lab_picture.specs.declared.layout.Stroke.{Stroke}
@@ -16,7 +16,8 @@ use Rattle.lab_picture.specs.Layout.{left, upper, box_height}
 use Rattle.lab_picture.specs.Lines.{all_lines, lines_at}
 use Rattle.lab_picture.specs.Named.{rows_at}
 use Rattle.lab_picture.specs.Size.{size_text}
-use Rattle.lab_picture.specs.Text.{escaped, place_text, one_line, two_lines, three_lines, in_three, in_four}
+use Rattle.lab_drawing.specs.Text.{escaped}
+use Rattle.lab_picture.specs.Text.{place_text, one_line, two_lines, three_lines, in_three, in_four}
 
 -- what a box tells: the statement, what it did, whether that is cut where there is no more room, and else what stands of it
 pub record Telling : Type 0 where

@@ -1,9 +1,9 @@
 -- The classes of steps, by which a style finds the arrow and the boxes of each.
 use Rattle.std.specs.Prelude.{ℕ, ◌+◌, ◌==◌, nat_lt, min, Bool, true, false, ◌&&◌, cond, List, [], ◌∷◌, ◌++◌, flat_map, length, take, codes}
 use Rattle.std.specs.Fmt.{decimal}
-use Rattle.lab_picture.specs.declared.drawing.Arrow.{Arrow}
-use Rattle.lab_picture.specs.declared.drawing.Tie.{Tie}
-use Rattle.lab_picture.specs.declared.drawing.Tie.TheVariants.{Dependency, Version}
+use Rattle.lab_drawing.specs.declared.drawing.Arrow.{Arrow}
+use Rattle.lab_drawing.specs.declared.drawing.Tie.{Tie}
+use Rattle.lab_drawing.specs.declared.drawing.Tie.TheVariants.{Dependency, Version}
 use Rattle.lab_picture.specs.declared.layout.Column.{Column}
 use Rattle.lab_picture.specs.Named.{touches}
 

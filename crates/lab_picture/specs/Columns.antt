@@ -4,14 +4,12 @@ use Rattle.std.specs.Fmt.{decimal}
 use Rattle.std.specs.List.{list_any}
 use Rattle.lab_history.specs.History.{History}
 use Rattle.lab_history.specs.Version.{ops_of, outcome_of}
-use Rattle.lab_history.specs.declared.transaction.Outcome.{Outcome}
-use Rattle.lab_history.specs.declared.transaction.Outcome.TheVariants.{Committed, Aborted}
-use Rattle.lab_picture.specs.declared.drawing.Arrow.{Arrow}
-use Rattle.lab_picture.specs.declared.drawing.Spot.{Spot}
+use Rattle.lab_drawing.specs.declared.drawing.Arrow.{Arrow}
+use Rattle.lab_drawing.specs.declared.drawing.Spot.{Spot}
 use Rattle.lab_picture.specs.declared.layout.Column.{Column}
 use Rattle.lab_picture.specs.declared.layout.Frame.{Frame}
 use Rattle.lab_picture.specs.Layout.{left, top}
-use Rattle.lab_picture.specs.Sketch.{Sketch}
+use Rattle.lab_drawing.specs.Sketch.{Sketch}
 use Rattle.lab_picture.specs.Text.{text_at}
 use Rattle.lab_picture.specs.Boxes.{boxes_text}
 
@@ -27,12 +25,6 @@ most_ops h ns = most_from h 0 ns
 -- the transactions that are drawn: no more than forty
 abbrev pub shown_columns : List ℕ → List ℕ
 shown_columns columns = take (min (length columns) 40) columns
-
--- how a transaction ended
-abbrev pub outcome_name : Option Outcome → List ℕ
-outcome_name None = codes "isn't there"
-outcome_name (Some Committed) = codes "committed"
-outcome_name (Some Aborted) = codes "aborted"
 
 -- what stands above a column
 abbrev pub title_of : History → ℕ → List ℕ

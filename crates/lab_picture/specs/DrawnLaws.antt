@@ -4,10 +4,10 @@ use Rattle.lab_history.specs.History.{History}
 use Rattle.lab_picture.specs.Columns.{marked_in}
 use Rattle.lab_picture.specs.Few.{is_kept}
 use Rattle.lab_picture.specs.Layout.{distance}
-use Rattle.lab_picture.specs.Sketch.{Sketch}
+use Rattle.lab_drawing.specs.Sketch.{Sketch}
 use Rattle.lab_picture.specs.Slots.{is_few, drawn_of}
 use Rattle.lab_picture.specs.Svg.{arrows_drawn, frame_of, whole_height}
-use Rattle.lab_picture.specs.declared.drawing.Spot.{Spot}
+use Rattle.lab_drawing.specs.declared.drawing.Spot.{Spot}
 
 -- in the column of its transaction an operation is drawn, if it has one
 abbrev pub IsDrawnAt : History → Sketch → Spot → Type 0

@@ -1,16 +1,11 @@
 -- What an operation did, as its box tells it: which rows it listed, and how it left those that it wrote.
 use Rattle.std.specs.Prelude.{ℕ, ℤ, ◌==◌, Bool, cond, Option, Some, None, is_none, List, [], ◌∷◌, ◌++◌, length, map, filter, codes}
-use Rattle.std.specs.Fmt.{decimal, signed_decimal}
+use Rattle.std.specs.Fmt.{decimal}
 use Rattle.std.specs.FinMap as finite
 use Rattle.lab_table.specs.Row.{Row}
 use Rattle.lab_table.specs.Table.{State, Rows, Writes}
 use Rattle.lab_printing.specs.Printed.{printed_row}
 use Rattle.lab_history.specs.declared.operation.Op.{Op}
-
--- a row's state
-abbrev pub state_text : State → List ℕ
-state_text None = codes "absent"
-state_text (Some value) = signed_decimal value
 
 -- how a listed row was left, behind an arrow; nothing where it wasn't written
 abbrev pub left_text : Option State → List ℕ

@@ -1,7 +1,7 @@
 -- Which operations are drawn where a column has many.
 use Rattle.std.specs.Prelude.{ℕ, zero, suc, ◌+◌, ◌==◌, nat_le, Bool, not, ◌||◌, cond, List}
 use Rattle.std.specs.List.{list_any}
-use Rattle.lab_picture.specs.declared.drawing.Arrow.{Arrow}
+use Rattle.lab_drawing.specs.declared.drawing.Arrow.{Arrow}
 use Rattle.lab_picture.specs.Named.{touches}
 
 -- whether an operation is drawn: where few are, one of the first eight, the marked one of its transaction, and one that an arrow leads from or to; else each

@@ -8,10 +8,10 @@ use Rattle.lab_deps.specs.declared.edge.Edge.{Edge}
 use Rattle.lab_judge.specs.declared.report.Report.{Report}
 use Rattle.lab_judge.specs.declared.serial.Serial.{Serial}
 use Rattle.lab_judge.specs.declared.serial.Serial.TheVariants as serial
-use Rattle.lab_picture.specs.Making.{arrows_of}
-use Rattle.lab_picture.specs.Sketch.{Sketch}
+use Rattle.lab_drawing.specs.Making.{arrows_of}
+use Rattle.lab_drawing.specs.Sketch.{Sketch}
 use Rattle.lab_reports.specs.declared.phenomenon.Phenomenon.{Phenomenon}
-use Rattle.lab_picture.specs.declared.drawing.Arrow.{Arrow}
+use Rattle.lab_drawing.specs.declared.drawing.Arrow.{Arrow}
 use Rattle.lab_picture.specs.declared.forward.Pair.{Pair}
 
 -- a transaction with those right behind it: with two where it is the first of a band, else with one

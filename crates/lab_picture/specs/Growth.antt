@@ -3,7 +3,7 @@ use Rattle.std.specs.Prelude.{ℕ, ◌+◌, ◌-◌, max, List, [], ◌∷◌}
 use Rattle.lab_history.specs.History.{History}
 use Rattle.lab_history.specs.Version.{ops_of}
 use Rattle.lab_history.specs.declared.operation.Op.{Op}
-use Rattle.lab_picture.specs.declared.drawing.Arrow.{Arrow}
+use Rattle.lab_drawing.specs.declared.drawing.Arrow.{Arrow}
 use Rattle.lab_picture.specs.Boxes.{box_lines}
 use Rattle.lab_picture.specs.Named.{rows_at}
 

@@ -5,11 +5,11 @@ use Rattle.std.specs.List.{list_any}
 use Rattle.lab_picture.specs.Arrows.{style_text}
 use Rattle.lab_picture.specs.Columns.{is_thin, shown_columns}
 use Rattle.lab_picture.specs.Keys.{has_key, key_lines}
-use Rattle.lab_picture.specs.Sketch.{Sketch}
+use Rattle.lab_drawing.specs.Sketch.{Sketch}
 use Rattle.lab_picture.specs.Slots.{few_note}
 use Rattle.lab_picture.specs.Text.{line_at, text_at, two_lines, four_lines, in_one, in_two, in_four}
-use Rattle.lab_picture.specs.declared.drawing.Arrow.{Arrow}
-use Rattle.lab_picture.specs.declared.drawing.Spot.{Spot}
+use Rattle.lab_drawing.specs.declared.drawing.Arrow.{Arrow}
+use Rattle.lab_drawing.specs.declared.drawing.Spot.{Spot}
 use Rattle.lab_picture.specs.declared.keys.Key.{Key}
 use Rattle.lab_picture.specs.declared.keys.Key.TheVariants.{Solid, Dashed, Sees}
 

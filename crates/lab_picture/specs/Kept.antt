@@ -8,7 +8,7 @@ use Rattle.lab_history.specs.declared.operation.Op.{Op}
 use Rattle.lab_picture.specs.declared.kept.Behind.{Behind}
 use Rattle.lab_picture.specs.declared.kept.Behind.TheVariants.{Nothing, Shown, LeftOut}
 use Rattle.lab_picture.specs.Effect.{listed_row, written_row, is_unlisted}
-use Rattle.lab_picture.specs.Named.{is_named}
+use Rattle.lab_drawing.specs.Rows.{is_named}
 
 -- a row that was listed, with what is told of it
 abbrev pub told_listed : Writes → Row × ℤ → Row × List ℕ

@@ -2,11 +2,11 @@
 use Rattle.std.specs.Prelude.{ℕ, Bool, true, false, not, ◌||◌, cond, List}
 use Rattle.std.specs.List.{list_any}
 use Rattle.lab_judge.specs.Places.{is_anti}
-use Rattle.lab_picture.specs.Arrows.{is_dashed}
-use Rattle.lab_picture.specs.Sketch.{Sketch}
-use Rattle.lab_picture.specs.declared.drawing.Arrow.{Arrow}
-use Rattle.lab_picture.specs.declared.drawing.Tie.{Tie}
-use Rattle.lab_picture.specs.declared.drawing.Tie.TheVariants.{Dependency, Version}
+use Rattle.lab_drawing.specs.Ties.{is_dashed}
+use Rattle.lab_drawing.specs.Sketch.{Sketch}
+use Rattle.lab_drawing.specs.declared.drawing.Arrow.{Arrow}
+use Rattle.lab_drawing.specs.declared.drawing.Tie.{Tie}
+use Rattle.lab_drawing.specs.declared.drawing.Tie.TheVariants.{Dependency, Version}
 use Rattle.lab_picture.specs.declared.keys.Key.{Key}
 use Rattle.lab_picture.specs.declared.keys.Key.TheVariants.{Solid, Dashed, Sees}
 

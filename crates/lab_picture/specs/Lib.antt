@@ -1,13 +1,4 @@
-pub mod Cycles
-pub mod Nicknames
-pub mod Titles
-pub mod TitleLaws
-pub mod Making
-pub mod Installs
-pub mod InstallLaws
-pub mod Sketch
 pub mod Forward
-pub mod ArrowLaws
 pub mod TextLaws
 pub mod RowLaws
 pub mod Text

@@ -1,9 +1,8 @@
 -- Which rows the arrows name that are drawn from and to an operation.
 use Rattle.std.specs.Prelude.{ℕ, ◌==◌, Bool, ◌&&◌, ◌||◌, is_some, List, map, filter}
-use Rattle.std.specs.List.{list_any}
-use Rattle.lab_table.specs.Row.{Row, row_test}
-use Rattle.lab_picture.specs.declared.drawing.Arrow.{Arrow}
-use Rattle.lab_picture.specs.declared.drawing.Spot.{Spot}
+use Rattle.lab_table.specs.Row.{Row}
+use Rattle.lab_drawing.specs.declared.drawing.Arrow.{Arrow}
+use Rattle.lab_drawing.specs.declared.drawing.Spot.{Spot}
 use Rattle.lab_picture.specs.Arrows.{column_of}
 
 -- whether both transactions of an arrow have columns
@@ -25,7 +24,3 @@ touches n k arrow = is_at n k arrow.from || is_at n k arrow.to
 -- the rows that arrows name which lead from an operation, or to it
 abbrev pub rows_at : List Arrow → ℕ → ℕ → List Row
 rows_at arrows n k = map (λ a. a.row) (filter (touches n k) arrows)
-
--- whether a row is among these
-abbrev pub is_named : List Row → Row → Bool
-is_named named row = list_any (λ other. row_test other row) named

@@ -8,9 +8,9 @@ use Rattle.lab_streams.specs.declared.ending.Ending.TheVariants.{Done}
 use Rattle.lab_streams.specs.HistoryFile.{IsToldOf}
 use Rattle.lab_streams.specs.declared.reporting.Format.TheVariants.{Lines}
 use Rattle.lab_reports.specs.declared.phenomenon.Phenomenon.{Phenomenon}
-use Rattle.lab_picture.specs.declared.drawing.Arrow.{Arrow}
+use Rattle.lab_drawing.specs.declared.drawing.Arrow.{Arrow}
 use Rattle.lab_picture.specs.Forward.{AreForward, yes_columns, with_forward}
-use Rattle.lab_picture.specs.Sketch.{drawing_of}
+use Rattle.lab_drawing.specs.Sketch.{drawing_of}
 use Rattle.lab_picture.specs.Svg.{svg_of}
 
 -- the text is the picture of a judgement of the history: of its serial verdict, with the arrows of a yes, or of what it finds of a phenomenon

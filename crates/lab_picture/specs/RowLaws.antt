@@ -9,8 +9,8 @@ use Rattle.lab_picture.specs.Kept.{told_rows}
 use Rattle.lab_picture.specs.Lines.{all_lines}
 use Rattle.lab_picture.specs.Named.{rows_at}
 use Rattle.lab_picture.specs.TextLaws.{Have}
-use Rattle.lab_picture.specs.declared.drawing.Arrow.{Arrow}
-use Rattle.lab_picture.specs.declared.drawing.Spot.{Spot}
+use Rattle.lab_drawing.specs.declared.drawing.Arrow.{Arrow}
+use Rattle.lab_drawing.specs.declared.drawing.Spot.{Spot}
 
 -- what a box tells of what an operation did isn't cut, and its lines have a text whole
 abbrev pub BoxHas : Telling → List ℕ → Type 0

@@ -4,9 +4,9 @@ use Rattle.lab_history.specs.History.{History}
 use Rattle.lab_history.specs.Version.{ops_of}
 use Rattle.lab_picture.specs.Columns.{marked_in, most_ops, shown_columns}
 use Rattle.lab_picture.specs.Few.{slot_of}
-use Rattle.lab_picture.specs.Sketch.{Sketch}
-use Rattle.lab_picture.specs.declared.drawing.Arrow.{Arrow}
-use Rattle.lab_picture.specs.declared.drawing.Spot.{Spot}
+use Rattle.lab_drawing.specs.Sketch.{Sketch}
+use Rattle.lab_drawing.specs.declared.drawing.Arrow.{Arrow}
+use Rattle.lab_drawing.specs.declared.drawing.Spot.{Spot}
 
 -- whether few operations are drawn: where a column that is drawn has more than twenty-four
 abbrev pub is_few : History → Sketch → Bool

@@ -2,7 +2,7 @@
 use Rattle.std.specs.Prelude.{ℕ, ◌+◌, false, List, [], ◌∷◌, ◌++◌}
 use Rattle.lab_picture.specs.Arrows.{arrow_text}
 use Rattle.lab_picture.specs.Classes.{arrow_class}
-use Rattle.lab_picture.specs.declared.drawing.Arrow.{Arrow}
+use Rattle.lab_drawing.specs.declared.drawing.Arrow.{Arrow}
 use Rattle.lab_picture.specs.declared.layout.Frame.{Frame}
 
 -- the arrows of steps, each with its class, where so many come before these

@@ -11,11 +11,11 @@ use Rattle.lab_picture.specs.Layout.{width, height}
 use Rattle.lab_picture.specs.Named.{drawn}
 use Rattle.lab_picture.specs.Size.{size_text}
 use Rattle.lab_picture.specs.Steps.{steps_text}
-use Rattle.lab_picture.specs.Sketch.{Sketch}
+use Rattle.lab_drawing.specs.Sketch.{Sketch}
 use Rattle.lab_picture.specs.Slots.{is_few, slotted, most_drawn}
-use Rattle.lab_picture.specs.Text.{escaped}
+use Rattle.lab_drawing.specs.Text.{escaped}
 use Rattle.lab_picture.specs.Values.{value_lines, values_text}
-use Rattle.lab_picture.specs.declared.drawing.Arrow.{Arrow}
+use Rattle.lab_drawing.specs.declared.drawing.Arrow.{Arrow}
 
 -- two numbers, as the end of an attribute
 unfoldable pub numbers_text : ℕ → ℕ → List ℕ

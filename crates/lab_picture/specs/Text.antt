@@ -1,18 +1,6 @@
 -- Texts of a picture.
-use Rattle.std.specs.Prelude.{ℕ, ◌+◌, ◌-◌, ◌==◌, nat_le, Bool, not, ◌&&◌, cond, List, [], ◌∷◌, ◌++◌, flat_map, length, take, drop, codes}
+use Rattle.std.specs.Prelude.{ℕ, ◌+◌, ◌-◌, ◌==◌, nat_le, ◌&&◌, cond, List, [], ◌∷◌, ◌++◌, length, take, drop, codes}
 use Rattle.std.specs.Fmt.{decimal}
-
--- a byte where no byte may be markup: `<`, `>`, `&` and `"` by their names
-abbrev pub escaped_byte : ℕ → List ℕ
-escaped_byte b = cond (b == 60) (codes "&lt;") (cond (b == 62) (codes "&gt;") (cond (b == 38) (codes "&amp;") (cond (b == 34) (codes "&quot;") (b ∷ []))))
-
--- a text where no byte may be markup
-abbrev pub escaped : List ℕ → List ℕ
-escaped text = flat_map escaped_byte text
-
--- whether a byte can begin no markup, and end none
-abbrev pub is_plain : ℕ → Bool
-is_plain b = not (b == 60) && (not (b == 62) && not (b == 34))
 
 -- the place behind the last blank of bytes that have so many before them; the one given where there is no blank
 abbrev pub last_from : ℕ → ℕ → List ℕ → ℕ

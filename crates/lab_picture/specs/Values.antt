@@ -1,23 +1,13 @@
 -- The first and the last value of each row of a cycle.
-use Rattle.std.specs.Prelude.{ℕ, ◌+◌, ◌-◌, nat_lt, min, Bool, cond, List, [], ◌∷◌, ◌++◌, length, take, map, filter, codes}
+use Rattle.std.specs.Prelude.{ℕ, ◌+◌, ◌-◌, nat_lt, min, cond, List, [], ◌∷◌, ◌++◌, length, take, codes}
 use Rattle.std.specs.Fmt.{decimal}
-use Rattle.std.specs.List.{list_any}
 use Rattle.std.specs.FinMap as finite
 use Rattle.lab_printing.specs.Printed.{printed_row_name}
-use Rattle.lab_table.specs.Row.{Row, row_test}
+use Rattle.lab_table.specs.Row.{Row}
 use Rattle.lab_table.specs.Table.{State}
 use Rattle.lab_history.specs.History.{History}
-use Rattle.lab_deps.specs.declared.edge.Edge.{Edge}
-use Rattle.lab_picture.specs.Effect.{state_text}
+use Rattle.lab_drawing.specs.Text.{state_text}
 use Rattle.lab_picture.specs.Text.{text_at, line_at}
-
--- whether a dependency of a cycle names a row
-abbrev pub is_of : List Edge → Row → Bool
-is_of walk row = list_any (λ e. row_test e.row row) walk
-
--- the rows that the dependencies of a cycle name, by rising row; each has installers
-abbrev pub rows_of : History → List Edge → List Row
-rows_of h walk = filter (is_of walk) (map (λ entry. entry.0) (finite.entries h.installed))
 
 -- a row's name before its values
 unfoldable pub value_lead : Row → List ℕ

@@ -1,13 +1,12 @@
 //! The arrows of a picture.
 
 ghost use Rattle.std.specs.Prelude.{◌≡◌, ◌++◌, ◌≤◌, ◌<◌, length, flat_map, IfOk, IfSome, OnOk};
-ghost use Rattle.lab_picture.specs.Arrows.{column_of, tie_name, is_dashed, label_of, label_style, label_text, narrow_label, narrow_text, path_text, straight_text, round_text, route_text, classed_text, arrow_text, forward_text, is_round, has_round};
+ghost use Rattle.lab_picture.specs.Arrows.{column_of, tie_name, label_of, label_style, label_text, narrow_label, narrow_text, path_text, straight_text, round_text, route_text, classed_text, arrow_text, forward_text, is_round, has_round};
 
-use crate::drawing::{Arrow, Tie};
 use crate::layout::{Corner, Frame, GAP_BYTES, aside, entry_of, exit_of, is_next, lane};
 use crate::route::{put_round_path, put_straight_path, put_style};
 use crate::text::{in_four, put_four_lines, put_text};
-use lab_deps::Kind;
+use lab_drawing::{Arrow, Tie, is_dashed};
 use lab_judge::kind_name;
 use lab_printing::put_row_name;
 use lab_table::{NoMemory, TxnNo};
@@ -33,17 +32,6 @@ fn tie_name(tie: Tie) -> &'static str
     match tie {
         Tie::Dependency(kind) => kind_name(kind),
         Tie::Version => "sees",
-    }
-}
-
-/// Whether an arrow is dashed: that of an anti-dependency is.
-pub fn is_dashed(tie: Tie) -> bool
-    ensures { result ≡ is_dashed tie }
-{
-    match tie {
-        Tie::Dependency(Kind::ItemAnti | Kind::PredicateAnti) => true,
-        Tie::Dependency(Kind::Write | Kind::ItemRead | Kind::PredicateRead) => false,
-        Tie::Version => false,
     }
 }
 

@@ -9,9 +9,8 @@ use crate::kept::{kept_text, tells_named};
 use crate::layout::{BOX_BYTES, Stroke};
 use crate::lines::{count_lines, put_all_lines};
 use crate::size::put_size;
-use crate::text::{
-    in_four, in_three, put_escaped, put_one_line, put_place, put_three_lines, put_two_lines,
-};
+use crate::text::{in_four, in_three, put_one_line, put_place, put_three_lines, put_two_lines};
+use lab_drawing::put_escaped;
 use lab_history::Op;
 use lab_printing::put_statement;
 use lab_table::{NoMemory, RowName};

@@ -3,10 +3,9 @@
 ghost use Rattle.std.specs.Prelude.{◌≡◌, ◌++◌, ◌≤◌, flat_map, length, IfOk, OnOk};
 ghost use Rattle.lab_picture.specs.Classes.{next_class, class_text, arrow_steps, is_dependency, first_steps, is_step_at, steps_from, box_steps, arrow_class, box_class};
 
-use crate::drawing::{Arrow, Tie};
 use crate::layout::Column;
 use crate::named::touches;
-use crate::text::put_number;
+use lab_drawing::{Arrow, Tie, put_number};
 use lab_table::{NoMemory, TxnNo};
 use std::alloc::Global;
 

@@ -5,10 +5,10 @@ ghost use Rattle.lab_picture.specs.Boxes.{stroke_of, place_of, op_text, drawn_te
 
 use crate::boxes::{put_box, telling};
 use crate::classes::box_class;
-use crate::drawing::Arrow;
 use crate::few::{is_kept, slot_of};
 use crate::layout::{Column, Frame, Stroke, box_height, left, upper};
 use crate::named::rows_at;
+use lab_drawing::Arrow;
 use lab_history::Op;
 use lab_table::NoMemory;
 use std::alloc::Global;

@@ -6,7 +6,7 @@ ghost use Rattle.lab_picture.specs.Columns.{is_thin};
 ghost use Rattle.lab_picture.specs.Heading.{has_thin, thin_lines, beside_lines, thin_text, beside_text};
 
 use crate::columns::{is_thin, shown_columns};
-use crate::drawing::Drawing;
+use lab_drawing::Drawing;
 use lab_table::TxnNo;
 
 /// Whether a column that is drawn is thin.

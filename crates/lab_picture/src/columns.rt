@@ -1,15 +1,13 @@
 //! The columns of a picture.
 
 ghost use Rattle.std.specs.Prelude.{◌≡◌, ◌++◌, ◌≤◌, length, OnOk, IfOk};
-ghost use Rattle.lab_history.specs.Version.{outcome_of};
-ghost use Rattle.lab_picture.specs.Columns.{most_ops, outcome_name, marked_in, title_of, title_weight, title_text, is_thin, column_at, column_text, columns_text, shown_columns};
+ghost use Rattle.lab_picture.specs.Columns.{most_ops, marked_in, title_of, title_weight, title_text, is_thin, column_at, column_text, columns_text, shown_columns};
 
 use crate::column_boxes::put_boxes;
-use crate::drawing::{Arrow, Drawing, Spot};
 use crate::layout::{Column, Frame, MAX_COLUMNS, left, top};
-use crate::states::ops_of;
-use crate::text::{put_number, put_text};
-use lab_history::{History, Outcome};
+use crate::text::put_text;
+use lab_drawing::{Arrow, Drawing, Spot, ops_of, outcome_name, put_number};
+use lab_history::History;
 use lab_table::{NoMemory, TxnNo};
 use std::alloc::Global;
 
@@ -22,19 +20,6 @@ pub fn most_ops(history: &History, columns: &[TxnNo]) -> u32
         most = most.max(ops_of(history, *txn).len() as u32);
     }
     most
-}
-
-/// How a transaction ended.
-pub fn outcome_name(history: &History, txn: TxnNo) -> &'static str
-    ensures { result.now ≡ outcome_name (outcome_of history.now txn) }
-{
-    match history.txn(txn) {
-        None => "isn't there",
-        Some(found) => match found.outcome {
-            Outcome::Committed => "committed",
-            Outcome::Aborted => "aborted",
-        },
-    }
 }
 
 /// The number of the marked operation, if it is of this transaction, else 0.

@@ -5,8 +5,8 @@ ghost use Rattle.lab_judge.specs.Judgement.{IsExactJudgement};
 ghost use Rattle.lab_picture.specs.Drawn.{IsPictureWith};
 
 use crate::forward::{forward_arrows, with_forward};
-use crate::sketch::draw;
 use crate::svg::print_drawing;
+use lab_drawing::draw;
 use lab_history::History;
 use lab_judge::Report;
 use lab_reports::Phenomenon;

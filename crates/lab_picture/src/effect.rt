@@ -3,25 +3,14 @@
 
 ghost use Rattle.std.specs.Prelude.{◌≡◌, ◌++◌, IfOk, OnOk, option_map};
 ghost use Rattle.lab_history.specs.VersionName.{state_value};
-ghost use Rattle.lab_picture.specs.Effect.{state_text, left_text, listed_row, written_row, listed_text, written_lead, written_text, effect_text};
+ghost use Rattle.lab_picture.specs.Effect.{left_text, listed_row, written_row, listed_text, written_lead, written_text, effect_text};
 
-use crate::text::put_number;
-use itoa::Buffer;
 use lab_deps::value_of;
+use lab_drawing::{put_number, put_state};
 use lab_history::{Op, Rows, State, Writes};
 use lab_printing::put_list;
 use lab_table::{NoMemory, RowName, Value};
 use std::alloc::Global;
-
-/// Appends a row's state; None is absent.
-pub fn put_state(out: &mut Vec<u8>, state: Option<Value>) -> Result<(), NoMemory>
-    ensures { OnOk result (out.new.items ≡ out.old.items ++ state_text state) }
-{
-    match state {
-        None => out.extend_from_slice(b"absent"),
-        Some(value) => out.extend_from_slice(Buffer::new().format(value.number()).as_bytes()),
-    }
-}
 
 /// Appends how a listed row was left, behind an arrow, if it was written.
 fn put_left(out: &mut Vec<u8>, written: Option<State>) -> Result<(), NoMemory>

@@ -5,8 +5,8 @@ ghost use Rattle.std.specs.List.{list_any};
 ghost use Rattle.lab_picture.specs.Named.{touches};
 ghost use Rattle.lab_picture.specs.Few.{is_kept, slot_of};
 
-use crate::drawing::Arrow;
 use crate::named::touches;
+use lab_drawing::Arrow;
 use lab_table::TxnNo;
 
 /// How many operations of a transaction are drawn in any case.

@@ -6,13 +6,12 @@ ghost use Rattle.lab_deps.specs.Edges.{IsEdge};
 ghost use Rattle.lab_deps.specs.Soundness.{IsSound};
 ghost use Rattle.lab_deps.specs.declared.edge.Edge.{Edge as Dependency};
 ghost use Rattle.lab_judge.specs.Judgement.{IsExactJudgement, RestsOnOrder};
-ghost use Rattle.lab_picture.specs.Making.{listed};
+ghost use Rattle.lab_drawing.specs.Making.{listed};
 ghost use Rattle.lab_picture.specs.Forward.{arrows_at, next_pairs, near_pairs, IsLeastOf, AreLeastOf, arrows_in, AreForward, order_of, yes_columns, with_forward};
 
-use crate::drawing::{Arrow, Drawing};
 use crate::layout::MAX_COLUMNS;
-use crate::making::arrow_of;
 use lab_deps::{Dependencies, Edge, Kinds, Sound, Unsound, check_local};
+use lab_drawing::{Arrow, Drawing, arrow_of};
 use lab_history::History;
 use lab_judge::{Report, Serial};
 use lab_reports::Phenomenon;

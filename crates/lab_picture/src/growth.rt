@@ -7,9 +7,8 @@ ghost use Rattle.lab_picture.specs.Named.{rows_at};
 ghost use Rattle.lab_picture.specs.Growth.{fullest_box, fullest, extra_lines};
 
 use crate::boxes::lines_in_box;
-use crate::drawing::Arrow;
 use crate::named::rows_at;
-use crate::states::ops_of;
+use lab_drawing::{Arrow, ops_of};
 use lab_history::{History, Op};
 use lab_table::{NoMemory, TxnNo};
 use std::alloc::Global;

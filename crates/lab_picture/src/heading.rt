@@ -4,12 +4,12 @@ ghost use Rattle.std.specs.Prelude.{◌≡◌, ◌++◌, ◌≤◌, IfOk, OnOk};
 ghost use Rattle.lab_picture.specs.Heading.{title_bytes, line_bytes, more_text, more_lines, far_text, far_lines, marked_lines, about_y, note_y, more_y, far_y, solid_y, dashed_y, sees_y, marked_y, thin_y, beside_y, few_y, few_lines, head_y, title_style, title_lines, notes_text, columns_note, legend_text, heading_text};
 
 use crate::column_notes::{beside_lines, beside_text, thin_lines, thin_text};
-use crate::drawing::{Arrow, Drawing, Spot};
 use crate::keys::{Key, key_lines};
 use crate::layout::MAX_COLUMNS;
 use crate::legend::{put_key, put_marked};
 use crate::slots::few_note;
-use crate::text::{in_four, in_one, in_two, put_four_lines, put_line, put_number, put_two_lines};
+use crate::text::{in_four, in_one, in_two, put_four_lines, put_line, put_two_lines};
+use lab_drawing::{Arrow, Drawing, Spot, put_number};
 use lab_table::NoMemory;
 use std::alloc::Global;
 

@@ -6,7 +6,7 @@ ghost use Rattle.lab_history.specs.VersionName.{state_value};
 ghost use Rattle.lab_picture.specs.Kept.{told_listed, told_written, listed_rows, written_rows, lists_named, writes_named, tells_named, before_row, before_dots, next_behind, kept_row, kept_from, behind_all, kept_lead, kept_text};
 
 use crate::effect::{put_listed_row, put_written_row};
-use crate::named::is_named;
+use lab_drawing::is_named;
 use lab_history::{Op, Rows, State, Writes};
 use lab_table::{NoMemory, RowName, Value};
 use std::alloc::Global;

@@ -3,8 +3,7 @@
 ghost use Rattle.std.specs.Prelude.{◌≡◌, ◌≤◌};
 ghost use Rattle.lab_picture.specs.Keys.{says, some_said, has_key, key_lines};
 
-use crate::arrows::is_dashed;
-use crate::drawing::{Arrow, Drawing, Tie};
+use lab_drawing::{Arrow, Drawing, Tie, is_dashed};
 
 /// A key: what arrows of a kind say.
 #[derive(Clone, Copy)]

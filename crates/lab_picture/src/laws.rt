@@ -1,65 +1,17 @@
 //! Laws of drawings and of their texts. The functions have nothing to do: their contracts are the laws.
 
-ghost use Rattle.std.specs.Prelude.{◌≡◌, ◌≢◌, ◌↔◌, ℕ, true, Some, None, Option, List, Contains};
-ghost use Rattle.std.specs.List.{list_all};
-ghost use Rattle.lab_table.specs.Row.{Row};
+ghost use Rattle.std.specs.Prelude.{◌≡◌, ℕ, Some, Option, List, Contains};
 ghost use Rattle.lab_history.specs.History.{History as Held};
-ghost use Rattle.lab_deps.specs.Edges.{Depends, IsEdge};
-ghost use Rattle.lab_deps.specs.Soundness.{IsSound, Stands};
-ghost use Rattle.lab_deps.specs.declared.edge.Edge.{Edge as Dependency};
-ghost use Rattle.lab_deps.specs.declared.edge.Kind.{Kind as Tied};
-ghost use Rattle.lab_deps.specs.declared.edge.Kind.TheVariants.{Write};
-ghost use Rattle.lab_deps.specs.declared.fault.LocalFault.TheVariants.{InstallOrder};
-ghost use Rattle.lab_judge.specs.Judgement.{IsExactJudgement};
-ghost use Rattle.lab_judge.specs.declared.report.Report.{Report};
-ghost use Rattle.lab_judge.specs.declared.serial.Serial.TheVariants.{NoCycle, NoFault};
 ghost use Rattle.lab_streams.specs.declared.ending.Ending.{Ending};
-ghost use Rattle.lab_picture.specs.ArrowLaws.{IsArrowOf, MakesAt, NamesWalk, DrawsArrow, DrawsWrites};
 ghost use Rattle.lab_picture.specs.Columns.{shown_columns};
 ghost use Rattle.lab_picture.specs.DrawnLaws.{IsDrawnAt, DrawsFew, IsLow};
-ghost use Rattle.lab_picture.specs.InstallLaws.{NamesOut};
-ghost use Rattle.lab_picture.specs.Installs.{misplaced_text};
-ghost use Rattle.lab_picture.specs.Making.{arrow_of};
-ghost use Rattle.lab_picture.specs.Nicknames.{HasForm, nicknames_of};
 ghost use Rattle.lab_picture.specs.Picture.{IsPictureAnswer};
 ghost use Rattle.lab_picture.specs.RowLaws.{HasRow};
-ghost use Rattle.lab_picture.specs.Sketch.{Sketch, drawing_of};
+ghost use Rattle.lab_drawing.specs.Sketch.{Sketch};
 ghost use Rattle.lab_picture.specs.Svg.{arrows_drawn};
-ghost use Rattle.lab_picture.specs.Text.{escaped, is_plain};
-ghost use Rattle.lab_picture.specs.TitleLaws.{TellsWalk};
 ghost use Rattle.lab_reports.specs.declared.phenomenon.Phenomenon.{Phenomenon};
-ghost use Rattle.lab_reports.specs.declared.phenomenon.Phenomenon.TheVariants.{G0};
-ghost use Rattle.lab_picture.specs.declared.drawing.Arrow.{Arrow as Drawn};
-ghost use Rattle.lab_picture.specs.declared.drawing.Spot.{Spot as Place};
-ghost use Rattle.lab_picture.specs.declared.installs.Misplaced.{Misplaced};
-ghost use Rattle.lab_picture.specs.declared.nicknames.Nickname.{Nickname as Said};
-
-/// In a sound history each dependency has its arrow, between the operations that make it: the last write of who installs,
-/// and the first operation of who reads that makes the dependency.
-pub fn each_dependency_has_its_arrow()
-    ensures { (h : Held) (e : Dependency) → IsSound h → IsEdge h e → (a : Drawn) × (arrow_of h e ≡ Some a) × IsArrowOf h e a }
-{}
-
-/// The same of each history whose rows are installed by their committed writers, each once, whatever else is wrong with it.
-pub fn each_dependency_of_installed_rows_has_its_arrow()
-    ensures { (h : Held) (e : Dependency) → ((row : Row) → ¬ Stands h (InstallOrder row)) → IsEdge h e → (a : Drawn) × (arrow_of h e ≡ Some a) × IsArrowOf h e a }
-{}
-
-/// A dependency that isn't a write after a write is one that an operation of the reader makes, and what one makes is a
-/// dependency.
-#[tactic(auto, using(crate::proofs::MadeDependencies::dependencies_made))]
-pub fn dependencies_are_made_by_operations()
-    ensures { (h : Held) (kind : Tied) (row : Row) (from to : ℕ) → kind ≢ Write → Depends h kind row from to ↔ ((k : ℕ) × MakesAt h kind row from to k) }
-{}
-
-/// In the picture of a walk that a judgement names, each dependency of the walk has its arrow. In that of a G0, which is
-/// judged of unsound histories too, it leads from the last write of one transaction to that of another.
-pub fn each_dependency_of_a_walk_is_drawn()
-    ensures drawn { (h : Held) (report : Report) (asked : Option Phenomenon) (walk : List Dependency) → IsExactJudgement h report → NamesWalk report asked walk
-        → (e : Dependency) → Contains walk e → DrawsArrow h (drawing_of h report asked) e }
-    ensures writes { (h : Held) (report : Report) (walk : List Dependency) → IsExactJudgement h report → NamesWalk report (Some G0) walk
-        → (e : Dependency) → Contains walk e → DrawsWrites h (drawing_of h report (Some G0)) e }
-{}
+ghost use Rattle.lab_drawing.specs.declared.drawing.Arrow.{Arrow as Drawn};
+ghost use Rattle.lab_drawing.specs.declared.drawing.Spot.{Spot as Place};
 
 /// Where an arrow is drawn between two operations, the box of each has all that is told of the arrow's row, if the
 /// operation tells of it: nothing of it is cut, and its parentheses aren't parted, unless they are wider than a line.
@@ -78,29 +30,6 @@ pub fn each_named_operation_is_drawn()
 pub fn a_picture_is_low()
     ensures drawn { (h : Held) (d : Sketch) (n : ℕ) → Contains (shown_columns d.columns) n → DrawsFew h d n }
     ensures height { (h : Held) (d : Sketch) → IsLow h d }
-{}
-
-/// The picture of a row whose installers aren't its committed writers names one that is out of place, and how: a writer
-/// that isn't an installer, where there is one.
-pub fn who_is_out_of_place_is_named()
-    ensures { (h : Held) (report : Report) (row : Row) → IsExactJudgement h report → report.serial ≡ NoFault (InstallOrder row)
-        → (found : Misplaced) × ((drawing_of h report None).note ≡ misplaced_text found) × NamesOut h row found }
-{}
-
-/// The title of a no with a walk names a phenomenon that the walk is one of, and the walk's nicknames.
-pub fn a_title_names_what_a_walk_is()
-    ensures { (h : Held) (report : Report) (walk : List Dependency) → IsExactJudgement h report → report.serial ≡ NoCycle walk → TellsWalk h walk (drawing_of h report None).title }
-{}
-
-/// A nickname is said of a cycle exactly where the cycle has the form that the nickname is for.
-pub fn a_nickname_is_said_of_its_form()
-    ensures said { (h : Held) (walk : List Dependency) (nickname : Said) → Contains (nicknames_of h walk) nickname → HasForm h walk nickname }
-    ensures due { (h : Held) (walk : List Dependency) (nickname : Said) → HasForm h walk nickname → Contains (nicknames_of h walk) nickname }
-{}
-
-/// An escaped text has no byte that begins or ends markup.
-pub fn an_escaped_text_has_no_markup()
-    ensures { (text : List ℕ) → list_all is_plain (escaped text) ≡ true }
 {}
 
 /// Of one input `picture` says one thing, byte for byte: two pictures of one file are equal.

@@ -3,10 +3,10 @@
 ghost use Rattle.std.specs.Prelude.{◌≡◌, ◌++◌, OnOk};
 ghost use Rattle.lab_picture.specs.Heading.{sample_end, sample_path, sample_text, key_words, key_dashed, key_text, marked_text};
 
-use crate::drawing::{Drawing, Spot};
 use crate::keys::{Key, has_key};
 use crate::route::put_style;
 use crate::text::{put_pixels, put_text};
+use lab_drawing::{Drawing, Spot};
 use lab_table::NoMemory;
 
 /// Appends the end of an arrow as it is drawn.

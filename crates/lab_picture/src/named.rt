@@ -1,10 +1,10 @@
 //! Which rows the arrows name that are drawn from and to an operation.
 
 ghost use Rattle.std.specs.Prelude.{◌≡◌, ◌++◌, IfOk, OnOk};
-ghost use Rattle.lab_picture.specs.Named.{has_ends, drawn, is_at, touches, rows_at, is_named};
+ghost use Rattle.lab_picture.specs.Named.{has_ends, drawn, is_at, touches, rows_at};
 
 use crate::arrows::column_of;
-use crate::drawing::{Arrow, Spot};
+use lab_drawing::{Arrow, Spot};
 use lab_table::{NoMemory, RowName, TxnNo};
 use std::alloc::Global;
 
@@ -73,16 +73,4 @@ pub fn rows_at(
         }
     }
     Ok(rows)
-}
-
-/// Whether a row is among these.
-pub fn is_named(named: &[RowName], row: RowName) -> bool
-    ensures { result ≡ is_named named.now row }
-{
-    for other in named {
-        if *other == row {
-            return true;
-        }
-    }
-    false
 }

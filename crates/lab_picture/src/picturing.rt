@@ -6,8 +6,8 @@ ghost use Rattle.lab_streams.specs.Input.{ReadsFirst};
 ghost use Rattle.lab_picture.specs.Picture.{IsPictureOf, Pictures, IsPictureAnswer};
 
 use crate::forward::{forward_arrows, with_forward};
-use crate::sketch::draw;
 use crate::svg::print_drawing;
+use lab_drawing::draw;
 use lab_history::History;
 use lab_judge::judge;
 use lab_reports::Phenomenon;

@@ -4,9 +4,8 @@ ghost use Rattle.std.specs.Prelude.{◌≡◌, map, IfOk};
 ghost use Rattle.lab_picture.specs.Slots.{is_few, few_note, spot_slot, slotted, drawn_of, most_drawn};
 
 use crate::columns::{marked_in, most_ops, shown_columns};
-use crate::drawing::{Arrow, Drawing, Spot};
 use crate::few::slot_of;
-use crate::states::ops_of;
+use lab_drawing::{Arrow, Drawing, Spot, ops_of};
 use lab_history::History;
 use lab_table::{NoMemory, TxnNo};
 use std::alloc::Global;

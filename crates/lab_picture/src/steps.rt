@@ -7,8 +7,8 @@ ghost use Rattle.lab_picture.specs.Steps.{steps_text};
 
 use crate::arrows::put_arrow;
 use crate::classes::arrow_class;
-use crate::drawing::Arrow;
 use crate::layout::Frame;
+use lab_drawing::Arrow;
 use lab_table::{NoMemory, TxnNo};
 use std::alloc::Global;
 

@@ -5,7 +5,6 @@ ghost use Rattle.lab_picture.specs.Svg.{numbers_text, view_text, svg_text, lette
 
 use crate::arrows::{has_round, put_forward};
 use crate::columns::{put_columns, shown_columns};
-use crate::drawing::{Arrow, Drawing};
 use crate::growth::extra_lines;
 use crate::heading::{head_y, put_heading};
 use crate::layout::{Frame, height, width};
@@ -13,8 +12,9 @@ use crate::named::drawn;
 use crate::size::put_size;
 use crate::slots::{all_slotted, is_few, most_drawn};
 use crate::steps::put_steps;
-use crate::text::{put_escaped, put_pixels};
+use crate::text::put_pixels;
 use crate::values::{put_values, value_lines};
+use lab_drawing::{Arrow, Drawing, put_escaped};
 use lab_history::History;
 use lab_table::NoMemory;
 use std::alloc::Global;

@@ -2,45 +2,18 @@
 
 ghost use Rattle.std.specs.Prelude.{◌≡◌, ℕ, ◌+◌, ◌++◌, ◌≤◌, ◌<◌, length, IfOk, OnOk};
 ghost use Rattle.std.specs.Fmt.{decimal};
-ghost use Rattle.lab_picture.specs.Text.{escaped, last_blank, depth_behind, last_outside, first_place, cut, front, back, shown, place_text, text_at, line_at, one_line, two_lines, three_lines, four_lines, in_one, in_two, in_three, in_four};
+ghost use Rattle.lab_picture.specs.Text.{last_blank, depth_behind, last_outside, first_place, cut, front, back, shown, place_text, text_at, line_at, one_line, two_lines, three_lines, four_lines, in_one, in_two, in_three, in_four};
 
 use itoa::Buffer;
+use lab_drawing::put_escaped;
 use lab_table::NoMemory;
 use std::alloc::Global;
-
-/// Appends a number in decimal.
-pub fn put_number(out: &mut Vec<u8>, number: u64) -> Result<(), NoMemory>
-    ensures { OnOk result (out.new.items ≡ out.old.items ++ decimal number) }
-{
-    out.extend_from_slice(Buffer::new().format(number).as_bytes())
-}
 
 /// Appends a number of pixels in decimal.
 pub fn put_pixels(out: &mut Vec<u8>, number: u128) -> Result<(), NoMemory>
     ensures { OnOk result (out.new.items ≡ out.old.items ++ decimal number) }
 {
     out.extend_from_slice(Buffer::new().format(number).as_bytes())
-}
-
-/// Appends a text in which no byte is markup.
-pub fn put_escaped(out: &mut Vec<u8>, text: &[u8]) -> Result<(), NoMemory>
-    ensures { OnOk result (out.new.items ≡ out.old.items ++ escaped text.now) }
-{
-    for byte in text {
-        let byte = *byte;
-        if byte == b'<' {
-            out.extend_from_slice(b"&lt;")?;
-        } else if byte == b'>' {
-            out.extend_from_slice(b"&gt;")?;
-        } else if byte == b'&' {
-            out.extend_from_slice(b"&amp;")?;
-        } else if byte == b'"' {
-            out.extend_from_slice(b"&quot;")?;
-        } else {
-            out.push(byte)?;
-        }
-    }
-    Ok(())
 }
 
 /// How many bytes stand up to the last blank of a text, and with it.

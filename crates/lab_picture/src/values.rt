@@ -2,11 +2,10 @@
 
 ghost use Rattle.std.specs.Prelude.{◌≡◌, ◌++◌, ◌≤◌, [], length, IfOk, OnOk};
 ghost use Rattle.lab_picture.specs.Text.{text_at};
-ghost use Rattle.lab_picture.specs.Values.{is_of, rows_of, value_lead, first_and_last, value_text, values_at, first_rows, rest_text, values_text, value_lines};
+ghost use Rattle.lab_picture.specs.Values.{value_lead, first_and_last, value_text, values_at, first_rows, rest_text, values_text, value_lines};
 
-use crate::effect::put_state;
-use crate::text::{put_line, put_number, put_text};
-use lab_deps::Edge;
+use crate::text::{put_line, put_text};
+use lab_drawing::{put_number, put_state};
 use lab_history::History;
 use lab_printing::put_row_name;
 use lab_table::{NoMemory, RowName, Value};
@@ -14,31 +13,6 @@ use std::alloc::Global;
 
 /// The most rows whose values are told.
 const MAX_VALUES: usize = 40;
-
-/// Whether a dependency of a cycle names a row.
-fn is_of(walk: &[Edge], row: RowName) -> bool
-    ensures { result ≡ is_of walk.now row }
-{
-    for edge in walk {
-        if edge.row == row {
-            return true;
-        }
-    }
-    false
-}
-
-/// The rows that the dependencies of a cycle name, by rising row. NoMemory where an allocation was refused.
-pub fn rows_of(alloc: Global, history: &History, walk: &[Edge]) -> Result<Vec<RowName>, NoMemory>
-    ensures { IfOk result (λ rows. rows.items ≡ rows_of history.now walk.now) }
-{
-    let mut rows = Vec::new(alloc);
-    for (row, _) in history.installed().entries() {
-        if is_of(walk, *row) {
-            rows.push(*row)?;
-        }
-    }
-    Ok(rows)
-}
 
 /// Appends a row's name before its values.
 #[tactic(auto, unfolding(crate::specs::Values::value_lead))]

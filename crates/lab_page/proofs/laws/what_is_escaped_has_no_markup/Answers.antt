@@ -1,4 +1,4 @@
-use Rattle.lab_picture.proofs.Escapes.{no_markup}
+use Rattle.lab_drawing.proofs.Escapes.{no_markup}
 use Rattle.lab_page.proofs.ReadBack.{all_named}
 use Rattle.lab_page.proofs.laws.what_is_escaped_has_no_markup.Goals as goal
 

@@ -1,6 +1,6 @@
 use Rattle.std.{proofs.Common.{◌≡◌, drop}, specs.List.{list_any}}
 use Rattle.lab_history.specs.VersionName.{new_states}
-use Rattle.lab_picture.specs.Named.{is_named}
+use Rattle.lab_drawing.specs.Rows.{is_named}
 use Rattle.lab_picture.proofs.kept.writes_named.Given as goal
 
 abbrev pub invariant-loop-row : goal.invariant-loop-row

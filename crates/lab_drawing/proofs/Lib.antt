@@ -1,0 +1,12 @@
+pub mod Operations
+pub mod FirstOps
+pub mod InstalledRows
+pub mod MadeArrows
+pub mod MadeDependencies
+pub mod JudgedWalks
+pub mod DrawnWalks
+mod NamedInstalls
+pub mod Escapes
+mod TitledWalks
+mod NicknameForms
+pub mod SaidNames

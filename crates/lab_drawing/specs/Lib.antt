@@ -1,0 +1,12 @@
+pub mod Cycles
+pub mod Nicknames
+pub mod Titles
+pub mod TitleLaws
+pub mod Ties
+pub mod Making
+pub mod Installs
+pub mod InstallLaws
+pub mod Sketch
+pub mod ArrowLaws
+pub mod Text
+pub mod Rows

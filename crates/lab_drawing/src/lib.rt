@@ -1,0 +1,38 @@
+//! Drawings of judgements.
+//!
+//! [`draw`] makes a [`Drawing`] of a history and a report on it: a column for each transaction that a verdict or a
+//! finding names, an arrow between two operations for each dependency of its walk, or the version that a fault names.
+//! Which drawing is made is a definition over history and report (`drawing_of`).
+//!
+//! Here too is what explanations and pages say as drawings do: the arrow of a dependency ([`arrow_of`]), the names of
+//! phenomena and cycles ([`put_full_name`]), and who is out of place among a row's installers ([`misplaced_of`]).
+#![tactic(auto)]
+
+mod cycles;
+mod drawing;
+mod fault_drawing;
+mod installs;
+mod laws;
+mod making;
+mod nicknames;
+mod rows;
+mod sketch;
+mod states;
+mod text;
+mod titles;
+
+pub use cycles::{cycle_of, walk_phenomenon};
+pub use drawing::{Arrow, Drawing, Spot, Tie, is_dashed};
+pub use installs::{Misplaced, Why, installers_of, misplaced_of, put_misplaced};
+pub use laws::{
+    a_nickname_is_said_of_its_form, a_title_names_what_a_walk_is, an_escaped_text_has_no_markup,
+    each_dependency_has_its_arrow, each_dependency_of_a_walk_is_drawn,
+    each_dependency_of_installed_rows_has_its_arrow, who_is_out_of_place_is_named,
+};
+pub use making::arrow_of;
+pub use nicknames::Nickname;
+pub use rows::is_named;
+pub use sketch::draw;
+pub use states::{ops_of, state_at};
+pub use text::{outcome_name, put_escaped, put_number, put_state};
+pub use titles::{put_finding_title, put_full_name, put_serial_title};
