@@ -21,7 +21,7 @@ use std::test::Fail;
 use std::thread::Threads;
 
 /// A subcommand and its options.
-#[derive(Clone, Copy, Debug)]
+#[derive(Clone, Copy)]
 pub enum Subcommand {
     Serial,
     Run {
@@ -65,7 +65,7 @@ pub enum Subcommand {
 }
 
 /// What is done with files.
-#[derive(Clone, Copy, Debug)]
+#[derive(Clone, Copy)]
 pub enum Task {
     Batch,
     Chain(Asked),
@@ -150,14 +150,18 @@ pub fn given<T: Files + Threads + Wait + Sync, R: Read, W: Write, N: Write>(
                 to: &mut shown,
                 is_shown: true,
             };
-            shrink(alloc, reader, writer, notes, asked, left)
+            let ending = shrink(alloc, reader, writer, notes, asked, left);
+            drop(shown);
+            ending
         }
         Subcommand::Case { name } => case_script(alloc, name, writer),
         Subcommand::Matrix => matrix(alloc, writer),
         Subcommand::MatrixAt { levels } => matrix_at(alloc, writer, levels),
         Subcommand::OfFiles { task, names } => {
             let mut shown = Sink::new(alloc, 9_000, 0);
-            return with_files(rt, alloc, task, names, writer, notes, &mut shown);
+            let run = with_files(rt, alloc, task, names, writer, notes, &mut shown);
+            drop(shown);
+            return run;
         }
     };
     match ending {
@@ -174,29 +178,85 @@ pub fn status_of(run: Result<u8, RunFault>) -> u8 {
     }
 }
 
-/// Compares what is written of each input, and the exit status: at once, byte by byte, and where reads are interrupted,
-/// at first and between bytes. Where an input is refused, there is a hint.
+/// What a run came to: how it ended, and the calls and the bytes of its hints.
+#[derive(Clone, Copy)]
+pub struct Ran {
+    pub run: Result<u8, RunFault>,
+    pub calls: u32,
+    pub noted: usize,
+}
+
+/// Runs a subcommand, and drops its hints.
+pub fn ran<T: Files + Threads + Wait + Sync, R: Read, W: Write>(
+    rt: &T,
+    alloc: Global,
+    subcommand: Subcommand,
+    reader: &mut R,
+    writer: &mut W,
+) -> Ran {
+    let mut notes = Sink::new(alloc, 9_000, 0);
+    let run = given(rt, alloc, subcommand, reader, writer, &mut notes);
+    let (calls, noted) = (notes.calls, notes.text.len());
+    drop(notes);
+    Ran { run, calls, noted }
+}
+
+/// How a case's reader gives bytes and its writer takes them: so many at a call, after so many interrupted calls.
+#[derive(Clone, Copy)]
+struct Paces {
+    step: usize,
+    interrupted: u32,
+    most: usize,
+}
+
+/// At once, byte by byte, and where reads are interrupted, at first and between bytes.
+static PACES: [Paces; 3] = [
+    Paces {
+        step: 9_000,
+        interrupted: 0,
+        most: 9_000,
+    },
+    Paces {
+        step: 1,
+        interrupted: 0,
+        most: 1,
+    },
+    Paces {
+        step: 5,
+        interrupted: 3,
+        most: 2,
+    },
+];
+
+/// Whether what is written of an input, and the exit status, are due. Where an input is refused, there is a hint.
+fn is_due<T: Files + Threads + Wait + Sync>(
+    rt: &T,
+    alloc: Global,
+    case: &Case,
+    paces: Paces,
+) -> bool {
+    let mut reader = Source::new(case.input, paces.step, paces.interrupted, 0);
+    reader.interrupted_between = paces.interrupted > 0;
+    let mut writer = Sink::new(alloc, paces.most, 0);
+    writer.is_interrupted = paces.interrupted > 0;
+    let ran = ran(rt, alloc, case.subcommand, &mut reader, &mut writer);
+    let is_written = writer.text.as_slice() == case.text;
+    drop(reader);
+    drop(writer);
+    is_written
+        && status_of(ran.run) == case.status
+        && (!matches!(case.status, 1 | 2) || ran.noted > 0)
+}
+
+/// Fails where it isn't so of each case at each pace.
 pub fn check(
     rt: &(impl Abort + Files + Threads + Wait + Sync),
     alloc: Global,
     cases: &[Case],
 ) -> Result<(), Fail> {
     for case in cases {
-        for (step, interrupted, most) in [(9_000, 0, 9_000), (1, 0, 1), (5, 3, 2)] {
-            let mut reader = Source::new(case.input, step, interrupted, 0);
-            reader.interrupted_between = interrupted > 0;
-            let mut writer = Sink::new(alloc, most, 0);
-            writer.is_interrupted = interrupted > 0;
-            let mut notes = Sink::new(alloc, 9_000, 0);
-            let subcommand = case.subcommand;
-            let run = given(rt, alloc, subcommand, &mut reader, &mut writer, &mut notes);
-            assert_eq!(rt; writer.text.as_slice(), case.text, "of {:?}", case.input);
-            assert_eq!(rt; status_of(run), case.status, "of {:?}", case.input);
-            assert!(rt;
-                !matches!(case.status, 1 | 2) || !notes.text.is_empty(),
-                "of {:?}",
-                case.input
-            );
+        for paces in &PACES {
+            assert!(rt; is_due(rt, alloc, case, *paces), "of {:?}", case.input);
         }
     }
     Ok(())

@@ -1,14 +1,17 @@
 //! What `chain` and `chain --join` write of files that stand in memory.
 
-use crate::case::{JSON, LINES, Task, status_of, with_files};
-use crate::files::HeldFiles;
+use crate::case::{JSON, LINES, Task, status_of};
+use crate::files::{FileRun, ran_on_files};
 use crate::parts::files_in_memory;
 use crate::streams::Sink;
 use lab_chain_commands::Asked;
 use lab_reports::Requirement;
 use lab_streams::{Format, RunFault};
-use std::sync::atomic::{AtomicBool, AtomicU32, Ordering};
+use std::alloc::Global;
+use std::sync::Wait;
+use std::sync::atomic::AtomicBool;
 use std::test::Fail;
+use std::thread::Threads;
 
 /// What is done with which files, what is written, the exit status, whether something is hinted, and what is shown at last
 /// of how far it is.
@@ -183,48 +186,51 @@ pub const RUNS: [Due; 16] = [
 
 /// Bytes that a read gives and a write takes, whether each second call is interrupted, and which call on the hints and on the
 /// line of progress fails.
-const STREAMS: [(usize, bool, u32); 4] = [
+static STREAMS: [(usize, bool, u32); 4] = [
     (9_000, false, 0),
     (1, false, 0),
     (5, true, 0),
     (9_000, false, 1),
 ];
 
+/// Whether a run writes, opens, hints and shows what is due, where streams are so.
+fn is_written<T: Threads + Wait + Sync>(
+    rt: &T,
+    alloc: Global,
+    due: &Due,
+    step: usize,
+    is_interrupted: bool,
+    fails_at: u32,
+) -> bool {
+    let held = files_in_memory();
+    let is_called = AtomicBool::new(false);
+    let mut writer = Sink::new(alloc, step, 0);
+    writer.is_interrupted = is_interrupted;
+    let of = FileRun {
+        held: &held,
+        step,
+        is_interrupted,
+        task: due.task,
+        names: due.names,
+        fails_at,
+        shown: due.shown,
+    };
+    let ran = ran_on_files(rt, alloc, of, &is_called, &mut writer);
+    let is_text = writer.text.as_slice() == due.text;
+    drop(writer);
+    is_text
+        && status_of(ran.run) == due.status
+        && ran.openings as usize == due.names.len()
+        && (fails_at == 1 || (ran.is_shown && (ran.noted > 0) == due.is_hinted))
+}
+
 #[test]
 fn runs_in_parts_are_written_as_is_due(rt: HostRuntime) -> Result<(), Fail> {
-    let held = files_in_memory();
     for due in &RUNS {
-        for (step, is_interrupted, fails_at) in STREAMS {
-            let openings = AtomicU32::new(0);
-            let is_written = AtomicBool::new(false);
-            let files = HeldFiles {
-                rt: &rt,
-                held: &held,
-                step,
-                is_interrupted,
-                openings: &openings,
-                is_written: &is_written,
-            };
-            let mut writer = Sink::new(rt.alloc(), step, 0);
-            writer.is_interrupted = is_interrupted;
-            let mut notes = Sink::new(rt.alloc(), 9_000, fails_at);
-            let mut shown = Sink::new(rt.alloc(), 9_000, fails_at);
-            let run = with_files(
-                &files,
-                rt.alloc(),
-                due.task,
-                due.names,
-                &mut writer,
-                &mut notes,
-                &mut shown,
-            );
-            assert_eq!(rt; writer.text.as_slice(), due.text, "of {:?}", due.names);
-            assert_eq!(rt; status_of(run), due.status, "of {:?}", due.names);
-            assert_eq!(rt; openings.load(Ordering::SeqCst) as usize, due.names.len());
+        for (step, is_interrupted, fails_at) in &STREAMS {
             assert!(rt;
-                fails_at == 1
-                    || (shown.text.ends_with(due.shown) && notes.text.is_empty() != due.is_hinted),
-                "of {:?}",
+                is_written(&rt, rt.alloc(), due, *step, *is_interrupted, *fails_at),
+                "of {:?}, by {step} bytes",
                 due.names
             );
         }
@@ -237,57 +243,62 @@ const REFUSED: &[u8] = b"== cut\nfile: NotJson\n";
 
 const MANY: usize = 7;
 
+/// What that run came to where its writes are cut and one of them fails, or each flush: how it ended, the calls of its
+/// writer, the bytes that it wrote, whether these are the front of what is due, and the bytes of its hints.
+#[derive(Clone, Copy)]
+struct Cut {
+    run: Result<u8, RunFault>,
+    calls: u32,
+    written: usize,
+    is_front: bool,
+    noted: usize,
+}
+
+fn cut<T: Threads + Wait + Sync>(rt: &T, alloc: Global, fails_at: u32, flush_fails: bool) -> Cut {
+    let held = files_in_memory();
+    let is_called = AtomicBool::new(false);
+    let due = &RUNS[MANY];
+    let mut writer = Sink::new(alloc, 50, fails_at);
+    writer.flush_fails = flush_fails;
+    let of = FileRun {
+        held: &held,
+        step: 9_000,
+        is_interrupted: false,
+        task: due.task,
+        names: due.names,
+        fails_at: 0,
+        shown: due.shown,
+    };
+    let ran = ran_on_files(rt, alloc, of, &is_called, &mut writer);
+    let calls = writer.calls;
+    let written = writer.text.len();
+    let is_front = due.text.starts_with(writer.text.as_slice());
+    drop(writer);
+    Cut {
+        run: ran.run,
+        calls,
+        written,
+        is_front,
+        noted: ran.noted,
+    }
+}
+
+/// Whether hints of this length come behind what is written.
+fn are_behind(cut: &Cut, hint: usize) -> bool {
+    cut.noted.saturating_mul(REFUSED.len()) <= cut.written.saturating_mul(hint)
+}
+
 #[test]
 fn hints_come_behind_what_is_written(rt: HostRuntime) -> Result<(), Fail> {
-    let held = files_in_memory();
-    let due = &RUNS[MANY];
-    let mut calls = 0;
-    let mut hint = 0;
-    // The first run is whole. In each of the others a call fails; in the last it is each flush.
-    for fails_at in 0..1_000u32 {
-        let openings = AtomicU32::new(0);
-        let is_written = AtomicBool::new(false);
-        let files = HeldFiles {
-            rt: &rt,
-            held: &held,
-            step: 9_000,
-            is_interrupted: false,
-            openings: &openings,
-            is_written: &is_written,
-        };
-        let mut writer = Sink::new(rt.alloc(), 50, fails_at);
-        writer.flush_fails = fails_at > calls;
-        let mut notes = Sink::new(rt.alloc(), 9_000, 0);
-        let mut shown = Sink::new(rt.alloc(), 9_000, 0);
-        let run = with_files(
-            &files,
-            rt.alloc(),
-            due.task,
-            due.names,
-            &mut writer,
-            &mut notes,
-            &mut shown,
-        );
-        if fails_at == 0 {
-            assert_eq!(rt; run, Ok(due.status));
-            calls = writer.calls;
-            hint = notes.text.len() / 16;
-        } else {
-            assert_eq!(rt; run, Err(RunFault::Unwritten), "at call {fails_at}");
-            assert!(rt;
-                due.text.starts_with(writer.text.as_slice()),
-                "at call {fails_at}"
-            );
-        }
-        assert!(rt;
-            notes.text.len().saturating_mul(REFUSED.len())
-                <= writer.text.len().saturating_mul(hint),
-            "at call {fails_at}"
-        );
-        if fails_at > calls {
-            break;
-        }
+    let whole = cut(&rt, rt.alloc(), 0, false);
+    let hint = whole.noted / 16;
+    assert!(rt; whole.run == Ok(RUNS[MANY].status) && are_behind(&whole, hint));
+    assert!(rt; 1 < whole.calls && whole.calls < 100);
+    // In each run a call fails; in the last it is each flush.
+    for fails_at in 1..=whole.calls.min(100).saturating_add(1) {
+        let cut = cut(&rt, rt.alloc(), fails_at, fails_at > whole.calls);
+        let is_so = cut.run == Err(RunFault::Unwritten) && cut.is_front && are_behind(&cut, hint);
+        assert!(rt; is_so, "at call {fails_at}");
     }
-    assert!(rt; 1 < calls && calls < 100);
     Ok(())
 }

@@ -1,6 +1,6 @@
-//! Streams that fail, and memory that is refused, for one case of each way that a subcommand ends.
+//! Streams that fail, for one case of each way that a subcommand ends.
 
-use crate::case::{Case, LINES, Subcommand, Task, given, status_of};
+use crate::case::{Case, LINES, Subcommand, Task, ran, status_of};
 use crate::chain::REPORTS;
 use crate::files::{Held, HeldFiles};
 use crate::judge::{ABORTED_READ, CUT, CUT_FILE, EMPTY};
@@ -12,10 +12,11 @@ use crate::words::{
     COMPARISON, EXPLANATION, LISTING, MATRIX, MATRIX_AT, NO_COMPARISON, NO_EXPLANATION, NO_PICTURE,
     NO_SMALLER, PICTURE, SMALLER,
 };
-use lab_refusal_tests::{refuse, was_refused};
 use lab_streams::RunFault;
 use std::alloc::Global;
+use std::io::ErrorKind;
 use std::process::Abort;
+use std::rt::Files;
 use std::sync::Wait;
 use std::sync::atomic::{AtomicBool, AtomicU32};
 use std::test::Fail;
@@ -43,41 +44,45 @@ const READING: [Case; 18] = [
     NO_COMPARISON,
 ];
 
+/// How many reads a case takes; none where it doesn't end as is due.
+fn reads_of<T: Files + Threads + Wait + Sync>(rt: &T, alloc: Global, case: &Case) -> u32 {
+    let mut reader = Source::new(case.input, 10, 0, 0);
+    let mut writer = Sink::new(alloc, 9_000, 0);
+    let ran = ran(rt, alloc, case.subcommand, &mut reader, &mut writer);
+    drop(writer);
+    if status_of(ran.run) == case.status {
+        reader.calls
+    } else {
+        0
+    }
+}
+
+/// Whether a case tells a read that fails, and nothing else.
+fn is_unread<T: Files + Threads + Wait + Sync>(
+    rt: &T,
+    alloc: Global,
+    case: &Case,
+    fails_at: u32,
+    fault: ErrorKind,
+) -> bool {
+    let mut reader = Source::new(case.input, 10, 0, fails_at);
+    reader.fault = fault;
+    let mut writer = Sink::new(alloc, 9_000, 0);
+    let ran = ran(rt, alloc, case.subcommand, &mut reader, &mut writer);
+    let calls = writer.calls;
+    drop(writer);
+    ran.run == Err(RunFault::Unread) && status_of(ran.run) == 3 && calls == 0 && ran.calls == 0
+}
+
 #[test]
 fn writes_nothing_after_a_failed_read(rt: HostRuntime) -> Result<(), Fail> {
     for case in &READING {
-        let mut whole = Source::new(case.input, 10, 0, 0);
-        let mut written = Sink::new(rt.alloc(), 9_000, 0);
-        let mut notes = Sink::new(rt.alloc(), 9_000, 0);
-        let subcommand = case.subcommand;
-        let run = given(
-            &rt,
-            rt.alloc(),
-            subcommand,
-            &mut whole,
-            &mut written,
-            &mut notes,
-        );
-        assert_eq!(rt; status_of(run), case.status);
-        assert!(rt; 1 < whole.calls && whole.calls < 1_000);
-        for fails_at in 1..=whole.calls.min(1_000) {
+        let reads = reads_of(&rt, rt.alloc(), case);
+        assert!(rt; 1 < reads && reads < 1_000, "{reads}");
+        for fails_at in 1..=reads.min(1_000) {
             for fault in FAULTS {
-                let mut reader = Source::new(case.input, 10, 0, fails_at);
-                reader.fault = fault;
-                let mut writer = Sink::new(rt.alloc(), 9_000, 0);
-                let mut notes = Sink::new(rt.alloc(), 9_000, 0);
-                let run = given(
-                    &rt,
-                    rt.alloc(),
-                    subcommand,
-                    &mut reader,
-                    &mut writer,
-                    &mut notes,
-                );
-                assert_eq!(rt; run, Err(RunFault::Unread), "{fault:?} at call {fails_at}");
-                assert_eq!(rt; status_of(run), 3);
                 assert!(rt;
-                    writer.calls == 0 && notes.calls == 0,
+                    is_unread(&rt, rt.alloc(), case, fails_at, fault),
                     "{fault:?} at call {fails_at}"
                 );
             }
@@ -155,13 +160,13 @@ const WRITING: [Case; 21] = [
 /// Cases of files.
 const OF_FILES: [Case; 4] = [BATCH, CHAIN, JOIN, NO_JOIN];
 
-/// Runs a case whose writes are cut to ten bytes, one of which fails, or each flush alone. There is no hint then.
-fn cut<T: Threads + Wait + Sync + Abort>(
+/// Runs a case, whose files stand in memory. None where it fails and yet there is a hint.
+fn ended<T: Threads + Wait + Sync>(
     rt: &T,
     alloc: Global,
     case: &Case,
     writer: &mut Sink,
-) -> Result<u8, RunFault> {
+) -> Option<Result<u8, RunFault>> {
     let openings = AtomicU32::new(0);
     let is_written = AtomicBool::new(false);
     let held = [Held::new("whole", case.input)];
@@ -174,17 +179,12 @@ fn cut<T: Threads + Wait + Sync + Abort>(
         is_written: &is_written,
     };
     let mut reader = Source::new(case.input, 9_000, 0, 0);
-    let mut notes = Sink::new(alloc, 9_000, 0);
-    let run = given(
-        &files,
-        alloc,
-        case.subcommand,
-        &mut reader,
-        writer,
-        &mut notes,
-    );
-    assert!(rt; run.is_ok() || notes.calls == 0);
-    run
+    let ran = ran(&files, alloc, case.subcommand, &mut reader, writer);
+    if ran.run.is_ok() || ran.calls == 0 {
+        Some(ran.run)
+    } else {
+        None
+    }
 }
 
 fn is_chain(case: &Case) -> bool {
@@ -197,92 +197,67 @@ fn is_chain(case: &Case) -> bool {
     )
 }
 
+/// How many calls the writer of a case takes whose writes are cut to ten bytes; none where it doesn't end as is due.
+fn writes_of<T: Threads + Wait + Sync>(rt: &T, alloc: Global, case: &Case) -> u32 {
+    let mut writer = Sink::new(alloc, 10, 0);
+    let run = ended(rt, alloc, case, &mut writer);
+    let calls = writer.calls;
+    drop(writer);
+    match run {
+        Some(run) if status_of(run) == case.status => calls,
+        _ => 0,
+    }
+}
+
+const UNWRITTEN: Option<Result<u8, RunFault>> = Some(Err(RunFault::Unwritten));
+
+/// Whether such a case tells that this write fails.
+fn is_unwritten<T: Threads + Wait + Sync>(
+    rt: &T,
+    alloc: Global,
+    case: &Case,
+    fails_at: u32,
+) -> bool {
+    let mut writer = Sink::new(alloc, 10, fails_at);
+    let run = ended(rt, alloc, case, &mut writer);
+    let is_front = case.text.starts_with(writer.text.as_slice());
+    drop(writer);
+    is_front && run == UNWRITTEN
+}
+
+/// Whether a case tells that each flush fails. What `chain` says of parts is flushed before what it says of the run, and
+/// all that the others write is written by then.
+fn is_unflushed<T: Threads + Wait + Sync>(rt: &T, alloc: Global, case: &Case) -> bool {
+    let mut writer = Sink::new(alloc, 9_000, 0);
+    writer.flush_fails = true;
+    let run = ended(rt, alloc, case, &mut writer);
+    let is_front = case.text.starts_with(writer.text.as_slice());
+    let is_whole = writer.text.as_slice() == case.text;
+    drop(writer);
+    run == UNWRITTEN && is_front && is_whole != is_chain(case)
+}
+
 /// Fails where a case doesn't tell each write that fails, and a flush.
 fn try_failed_writes<T: Threads + Wait + Sync + Abort>(rt: &T, alloc: Global, case: &Case) {
-    let mut whole = Sink::new(alloc, 10, 0);
-    let run = cut(rt, alloc, case, &mut whole);
-    assert_eq!(rt; status_of(run), case.status);
-    assert!(rt; 1 < whole.calls && whole.calls < 1_000);
-    for fails_at in 1..=whole.calls.min(1_000) {
-        let mut writer = Sink::new(alloc, 10, fails_at);
-        let run = cut(rt, alloc, case, &mut writer);
-        assert_eq!(rt; run, Err(RunFault::Unwritten), "at call {fails_at}");
-        assert_eq!(rt; status_of(run), 3);
+    let writes = writes_of(rt, alloc, case);
+    assert!(rt; 1 < writes && writes < 1_000, "{writes}");
+    for fails_at in 1..=writes.min(1_000) {
         assert!(rt;
-            case.text.starts_with(writer.text.as_slice()),
+            is_unwritten(rt, alloc, case, fails_at),
             "at call {fails_at}"
         );
     }
-    let mut writer = Sink::new(alloc, 9_000, 0);
-    writer.flush_fails = true;
-    let run = cut(rt, alloc, case, &mut writer);
-    assert_eq!(rt; run, Err(RunFault::Unwritten));
-    assert_eq!(rt; status_of(run), 3);
-    assert!(rt; case.text.starts_with(writer.text.as_slice()));
-    // What `chain` says of parts is flushed before what it says of the run.
-    assert_eq!(rt; writer.text.as_slice() == case.text, !is_chain(case));
+    assert!(rt; is_unflushed(rt, alloc, case));
 }
 
 #[test]
 fn tells_a_failed_write(rt: HostRuntime) -> Result<(), Fail> {
+    assert_eq!(rt; status_of(Err(RunFault::Unwritten)), 3);
     for case in &WRITING {
         try_failed_writes(&rt, rt.alloc(), case);
     }
     for case in &OF_FILES {
         try_failed_writes(&rt, rt.alloc(), case);
-    }
-    Ok(())
-}
-
-/// Cases that are played by no thread, where a refused allocation may be one of the system's.
-const ALONE: [Case; 8] = [
-    TWO_SESSIONS,
-    NO_SESSION,
-    LEFT_OPEN,
-    HISTORY,
-    ROWS,
-    COMPARISON,
-    ABORTED_READ,
-    CUT_FILE,
-];
-
-#[test]
-fn writes_nothing_where_memory_is_refused(rt: HostRuntime) -> Result<(), Fail> {
-    for case in &ALONE {
-        let mut succeeded = false;
-        for growth in 1..5_000u16 {
-            let mut reader = Source::new(case.input, 10, 0, 0);
-            let mut writer = Sink::new(rt.alloc(), 9_000, 0);
-            let mut notes = Sink::new(rt.alloc(), 9_000, 0);
-            let subcommand = case.subcommand;
-            refuse(rt.alloc(), growth);
-            let run = given(
-                &rt,
-                rt.alloc(),
-                subcommand,
-                &mut reader,
-                &mut writer,
-                &mut notes,
-            );
-            let refused = was_refused(rt.alloc());
-            refuse(rt.alloc(), 0);
-            if !refused {
-                assert_eq!(rt; status_of(run), case.status);
-                assert_eq!(rt; writer.text.as_slice(), case.text);
-                succeeded = true;
-                break;
-            }
-            // An allocation that was refused may be tried again with a smaller size, and then all is written.
-            let wanted = if writer.calls == 0 {
-                4
-            } else if writer.text.as_slice() == case.text {
-                case.status
-            } else {
-                3
-            };
-            assert_eq!(rt; status_of(run), wanted, "at growth {growth}");
-        }
-        assert!(rt; succeeded, "of {:?}", case.input);
     }
     Ok(())
 }

@@ -1,14 +1,17 @@
 //! What `batch`, `chain` and `chain --join` write of files that can't be opened, of which a read fails, or that change while
 //! they are read.
 
-use crate::case::{JSON, LINES, Task, status_of, with_files};
-use crate::files::{Held, HeldFiles, Telling};
+use crate::case::{JSON, LINES, Task, status_of};
+use crate::files::{FileRun, Held, Telling, ran_on_files};
 use crate::parts::{ANSWER, FRONT, OTHER, OTHER_ANSWER, STILL};
 use crate::streams::{FAULTS, Sink};
 use lab_streams::RunFault;
+use std::alloc::Global;
 use std::io::ErrorKind;
-use std::sync::atomic::{AtomicBool, AtomicU32, Ordering};
+use std::sync::Wait;
+use std::sync::atomic::AtomicBool;
 use std::test::Fail;
+use std::thread::Threads;
 
 /// What is done with a file, one like it on which a call fails, and the first again; what it holds, and what is written.
 /// Neither `batch` nor `chain --join` reads any more once something is written.
@@ -56,52 +59,52 @@ fn calls_on(text: &[u8]) -> u32 {
     u32::try_from(reads).unwrap_or(u32::MAX).saturating_add(2)
 }
 
+/// Whether a file on which this call fails is told so, and hinted.
+fn is_told<T: Threads + Wait + Sync>(
+    rt: &T,
+    alloc: Global,
+    failing: &Failing,
+    fails_at: u32,
+    fault: ErrorKind,
+) -> bool {
+    let is_written = AtomicBool::new(false);
+    let is_chain_written = AtomicBool::new(false);
+    let whole = Held::new("whole", failing.text);
+    let mut held = [whole, Held::new("failing", failing.text)];
+    held[1].fails_at = fails_at;
+    held[1].fault = fault;
+    let mut writer = Telling {
+        sink: Sink::new(alloc, 10, 0),
+        is_called: if matches!(failing.task, Task::Chain(_)) {
+            &is_chain_written
+        } else {
+            &is_written
+        },
+    };
+    let of = FileRun {
+        held: &held,
+        step: STEP,
+        is_interrupted: false,
+        task: failing.task,
+        names: &["whole", "failing", "whole"],
+        fails_at: 0,
+        shown: b"",
+    };
+    let ran = ran_on_files(rt, alloc, of, &is_written, &mut writer);
+    let is_text = writer.sink.text.as_slice() == failing.due;
+    drop(writer);
+    is_text && ran.run == Ok(3) && ran.noted > 0
+}
+
 #[test]
 fn a_file_on_which_a_call_fails_is_told(rt: HostRuntime) -> Result<(), Fail> {
     for failing in &FAILURES {
         for fails_at in 1..=calls_on(failing.text) {
             for fault in FAULTS {
-                let openings = AtomicU32::new(0);
-                let is_written = AtomicBool::new(false);
-                let is_chain_written = AtomicBool::new(false);
-                let whole = Held::new("whole", failing.text);
-                let mut held = [whole, Held::new("failing", failing.text)];
-                held[1].fails_at = fails_at;
-                held[1].fault = fault;
-                let files = HeldFiles {
-                    rt: &rt,
-                    held: &held,
-                    step: STEP,
-                    is_interrupted: false,
-                    openings: &openings,
-                    is_written: &is_written,
-                };
-                let mut writer = Telling {
-                    sink: Sink::new(rt.alloc(), 10, 0),
-                    is_called: if matches!(failing.task, Task::Chain(_)) {
-                        &is_chain_written
-                    } else {
-                        &is_written
-                    },
-                };
-                let mut notes = Sink::new(rt.alloc(), 9_000, 0);
-                let mut shown = Sink::new(rt.alloc(), 9_000, 0);
-                let run = with_files(
-                    &files,
-                    rt.alloc(),
-                    failing.task,
-                    &["whole", "failing", "whole"],
-                    &mut writer,
-                    &mut notes,
-                    &mut shown,
-                );
-                assert_eq!(rt;
-                    writer.sink.text.as_slice(),
-                    failing.due,
+                assert!(rt;
+                    is_told(&rt, rt.alloc(), failing, fails_at, fault),
                     "{fault:?} at call {fails_at}"
                 );
-                assert_eq!(rt; run, Ok(3), "{fault:?} at call {fails_at}");
-                assert!(rt; !notes.text.is_empty(), "{fault:?} at call {fails_at}");
             }
         }
     }
@@ -180,47 +183,42 @@ impl Turning {
     }
 }
 
+/// Whether files of which one changes at this call are told as they were read, each once.
+fn is_as_read<T: Threads + Wait + Sync>(
+    rt: &T,
+    alloc: Global,
+    turning: &Turning,
+    turns_at: u32,
+) -> bool {
+    let is_called = AtomicBool::new(false);
+    let first = Held::new("turning", turning.text);
+    let mut held = [first, Held::new("still", STILL)];
+    held[0].other = turning.other;
+    held[0].turns_at = turns_at;
+    let mut writer = Sink::new(alloc, 9_000, 0);
+    let of = FileRun {
+        held: &held,
+        step: STEP,
+        is_interrupted: false,
+        task: turning.task,
+        names: turning.names,
+        fails_at: 0,
+        shown: b"",
+    };
+    let ran = ran_on_files(rt, alloc, of, &is_called, &mut writer);
+    let due = turning.due(turns_at);
+    let is_text = writer.text.as_slice() == due;
+    drop(writer);
+    let status = if due.starts_with(b"== ") { 2 } else { 0 };
+    is_text && status_of(ran.run) == status && ran.openings as usize == turning.names.len()
+}
+
 #[test]
 fn a_file_that_changes_is_told_as_it_was_read(rt: HostRuntime) -> Result<(), Fail> {
     for turning in &CHANGES {
         for turns_at in 1..=calls_on(turning.text).saturating_add(1) {
-            let openings = AtomicU32::new(0);
-            let is_written = AtomicBool::new(false);
-            let mut held = [
-                Held::new("turning", turning.text),
-                Held::new("still", STILL),
-            ];
-            held[0].other = turning.other;
-            held[0].turns_at = turns_at;
-            let files = HeldFiles {
-                rt: &rt,
-                held: &held,
-                step: STEP,
-                is_interrupted: false,
-                openings: &openings,
-                is_written: &is_written,
-            };
-            let mut writer = Sink::new(rt.alloc(), 9_000, 0);
-            let mut notes = Sink::new(rt.alloc(), 9_000, 0);
-            let mut shown = Sink::new(rt.alloc(), 9_000, 0);
-            let run = with_files(
-                &files,
-                rt.alloc(),
-                turning.task,
-                turning.names,
-                &mut writer,
-                &mut notes,
-                &mut shown,
-            );
-            let due = turning.due(turns_at);
-            // Each file is read once, so what is said of it is of one text.
-            assert_eq!(rt;
-                openings.load(Ordering::SeqCst) as usize,
-                turning.names.len()
-            );
-            assert_eq!(rt; writer.text.as_slice(), due, "at call {turns_at}");
             assert!(rt;
-                status_of(run) == if due.starts_with(b"== ") { 2 } else { 0 },
+                is_as_read(&rt, rt.alloc(), turning, turns_at),
                 "at call {turns_at}"
             );
         }
@@ -235,36 +233,32 @@ const BEFORE: [(Task, &[u8]); 3] = [
     (Task::Join(LINES), b""),
 ];
 
+/// Whether that is written, and the run ends so.
+fn is_ended<T: Threads + Wait + Sync>(rt: &T, alloc: Global, task: Task, front: &[u8]) -> bool {
+    let is_called = AtomicBool::new(false);
+    let mut held = [Held::new("whole", FRONT), Held::new("failing", FRONT)];
+    held[1].fails_at = 1;
+    held[1].fault = ErrorKind::OutOfMemory;
+    let mut writer = Sink::new(alloc, 9_000, 0);
+    let of = FileRun {
+        held: &held,
+        step: STEP,
+        is_interrupted: false,
+        task,
+        names: &["whole", "failing"],
+        fails_at: 0,
+        shown: b"",
+    };
+    let ran = ran_on_files(rt, alloc, of, &is_called, &mut writer);
+    let is_front = front.starts_with(writer.text.as_slice());
+    drop(writer);
+    is_front && ran.run == Err(RunFault::NoMemory)
+}
+
 #[test]
 fn an_opening_without_memory_ends_the_run(rt: HostRuntime) -> Result<(), Fail> {
     for (task, front) in &BEFORE {
-        let openings = AtomicU32::new(0);
-        let is_written = AtomicBool::new(false);
-        let mut held = [Held::new("whole", FRONT), Held::new("failing", FRONT)];
-        held[1].fails_at = 1;
-        held[1].fault = ErrorKind::OutOfMemory;
-        let files = HeldFiles {
-            rt: &rt,
-            held: &held,
-            step: STEP,
-            is_interrupted: false,
-            openings: &openings,
-            is_written: &is_written,
-        };
-        let mut writer = Sink::new(rt.alloc(), 9_000, 0);
-        let mut notes = Sink::new(rt.alloc(), 9_000, 0);
-        let mut shown = Sink::new(rt.alloc(), 9_000, 0);
-        let run = with_files(
-            &files,
-            rt.alloc(),
-            *task,
-            &["whole", "failing"],
-            &mut writer,
-            &mut notes,
-            &mut shown,
-        );
-        assert_eq!(rt; run, Err(RunFault::NoMemory));
-        assert!(rt; front.starts_with(writer.text.as_slice()));
+        assert!(rt; is_ended(&rt, rt.alloc(), *task, front), "{front:?}");
     }
     Ok(())
 }

@@ -1,7 +1,9 @@
 //! Files that stand in memory.
 
+use crate::case::{Task, with_files};
 use crate::streams::Sink;
-use std::alloc::Allocator;
+use lab_streams::RunFault;
+use std::alloc::{Allocator, Global};
 use std::fs::{Metadata, OpenFile, OpenOptions};
 use std::io::{Error, ErrorKind, Read, Result as IoResult, Seek, SeekFrom, Write};
 use std::rt::Files;
@@ -229,5 +231,62 @@ impl<'a, R> Files for HeldFiles<'a, R> {
 
     fn remove_dir_all<B: Allocator>(&self, _alloc: B, _path: &str) -> IoResult<()> {
         Err(unsupported())
+    }
+}
+
+/// What is done with which files that stand in memory, how they are read, which call on the hints and on the line of
+/// progress fails, and with what that line is to end.
+#[derive(Clone, Copy)]
+pub struct FileRun<'a> {
+    pub held: &'a [Held],
+    pub step: usize,
+    pub is_interrupted: bool,
+    pub task: Task,
+    pub names: &'a [&'a str],
+    pub fails_at: u32,
+    pub shown: &'a [u8],
+}
+
+/// What such a run came to: how it ended, how many times a file was opened, the bytes of its hints, and whether the line
+/// of progress ended so.
+#[derive(Clone, Copy)]
+pub struct FilesRan {
+    pub run: Result<u8, RunFault>,
+    pub openings: u32,
+    pub noted: usize,
+    pub is_shown: bool,
+}
+
+/// Makes such a run. No file is opened or read any more once `is_written` tells that something was written.
+pub fn ran_on_files<T: Threads + Wait + Sync, W: Write>(
+    rt: &T,
+    alloc: Global,
+    of: FileRun<'_>,
+    is_written: &AtomicBool,
+    writer: &mut W,
+) -> FilesRan {
+    let openings = AtomicU32::new(0);
+    let files = HeldFiles {
+        rt,
+        held: of.held,
+        step: of.step,
+        is_interrupted: of.is_interrupted,
+        openings: &openings,
+        is_written,
+    };
+    let mut notes = Sink::new(alloc, 9_000, of.fails_at);
+    let mut shown = Sink::new(alloc, 9_000, of.fails_at);
+    let run = with_files(
+        &files, alloc, of.task, of.names, writer, &mut notes, &mut shown,
+    );
+    let noted = notes.text.len();
+    let is_shown = shown.text.ends_with(of.shown);
+    drop(notes);
+    drop(shown);
+    FilesRan {
+        run,
+        openings: openings.load(Ordering::SeqCst),
+        noted,
+        is_shown,
     }
 }

@@ -1,57 +1,60 @@
 //! Histories that are written out, with their edges.
 
+ghost use Rattle.lab_deps.specs.Soundness.{IsSound};
+
 use crate::pairs::edges_by_pairs;
 use crate::told::is_told;
-use lab_deps::{Edge, Kind, LocalFault, Unsound, check_local, edges};
+use lab_deps::{Edge, Kind, Sound, check_local, edges};
 use lab_history::History;
 use lab_history_file::read_history;
-use lab_table::RowName;
 use std::alloc::Global;
-use std::process::Abort;
 use std::test::Fail;
 
-/// What both bodies answer.
-#[derive(Drop)]
-pub struct Both {
-    pub walked: Vec<Edge>,
-    pub paired: Vec<Edge>,
-}
-
-/// The edges of a history by the walk, or why it isn't sound.
-fn walked(alloc: Global, history: &History) -> Result<Vec<Edge>, Unsound> {
-    match check_local(alloc, history) {
-        Ok(sound) => match edges(alloc, history, &sound) {
-            Ok(edges) => Ok(edges),
-            Err(_) => Err(Unsound::NoMemory),
-        },
-        Err(Unsound::NoMemory) => Err(Unsound::NoMemory),
-        Err(Unsound::Fault(fault)) => Err(Unsound::Fault(fault)),
-    }
-}
-
-/// The edges of a sound history, by both bodies.
-fn both_of(alloc: Global, history: &History) -> Result<Both, &'static str> {
-    let walked = walked(alloc, history).ok().ok_or("a sound history")?;
+/// Whether the plainer body finds these edges.
+fn are_paired(alloc: Global, history: &History, walked: &[Edge]) -> bool {
     match edges_by_pairs(alloc, history) {
-        Ok(paired) => Ok(Both { walked, paired }),
-        Err(_) => {
-            drop(walked);
-            Err("memory")
+        Ok(paired) => {
+            let are_paired = paired.as_slice() == walked;
+            drop(paired);
+            are_paired
         }
+        Err(_) => false,
     }
 }
 
-/// The edges of a sound history of this text, by both bodies; or else what there isn't.
-pub fn edges_by_both(alloc: Global, text: &[u8]) -> Result<Both, &'static str> {
-    let history = read_history(alloc, text).ok().ok_or("a history")?;
-    let both = both_of(alloc, &history);
-    drop(history);
-    both
+/// The edges of a sound history, where the plainer body finds the same, and what is told of each two transactions is that
+/// too.
+fn edges_of(alloc: Global, history: &History, sound: &Sound) -> Option<Vec<Edge>>
+    requires { IsSound history.now }
+{
+    let Ok(walked) = edges(alloc, history, sound) else {
+        return None;
+    };
+    if are_paired(alloc, history, &walked) && is_told(alloc, history, sound, &walked) {
+        return Some(walked);
+    }
+    drop(walked);
+    None
 }
 
-/// Fails where both bodies don't answer the same edges.
-pub fn shows_the_same(rt: &impl Abort, found: &Both, text: &str) {
-    assert!(rt; found.paired == found.walked, "{text}");
+/// The same of a history; None too where it isn't sound.
+pub fn edges_in(alloc: Global, history: &History) -> Option<Vec<Edge>> {
+    match check_local(alloc, history) {
+        Ok(sound) => edges_of(alloc, history, &sound),
+        Err(_) => None,
+    }
+}
+
+/// The same of the history of this text; None too where it isn't one.
+pub fn edges_by_both(alloc: Global, text: &[u8]) -> Option<Vec<Edge>> {
+    match read_history(alloc, text) {
+        Ok(history) => {
+            let found = edges_in(alloc, &history);
+            drop(history);
+            found
+        }
+        Err(_) => None,
+    }
 }
 
 /// Two transactions write the same two rows, each first where the other is second.
@@ -71,160 +74,88 @@ const REBORN: &str =
 const TWO_TABLES: &str =
     r#"{"version":2,"format":"hermitage-history","initial":[["stock",1,5],["test",1,10]],"transactions":[{"no":1,"outcome":"committed","ops":[{"statement":"select * from test where id = 1","view":[],"rows":[["test",1,10]],"writes":[]},{"statement":"update stock set value = 6 where id = 1","view":[],"rows":[["stock",1,5]],"writes":[["stock",1,6]]}]},{"no":2,"outcome":"committed","ops":[{"statement":"select * from stock where id in (1, 2)","view":[],"rows":[["stock",1,5]],"writes":[]},{"statement":"update test set value = 11 where id = 1","view":[],"rows":[["test",1,10]],"writes":[["test",1,11]]}]},{"no":3,"outcome":"committed","ops":[{"statement":"select * from test","view":[["test",1,2,2]],"rows":[["test",1,11]],"writes":[]},{"statement":"select * from test where value = 5","view":[["test",1,2,2]],"rows":[],"writes":[]}]}],"installed":[["stock",1,[1]],["test",1,[2]]],"end":[["stock",1,6],["test",1,11]]}"#;
 
-/// A row of the first table isn't listed, whose number is above all of the second table's.
-const UNLISTED: &str =
-    r#"{"version":2,"format":"hermitage-history","initial":[["stock",2,5],["test",1,10]],"transactions":[{"no":1,"outcome":"committed","ops":[{"statement":"select * from stock where id in (1, 2)","view":[],"rows":[],"writes":[]}]}],"installed":[],"end":[["stock",2,5],["test",1,10]]}"#;
+/// An edge: its transactions, its kind, its row's table and the row's number.
+type Due = (u32, u32, Kind, &'static str, u32);
 
-/// The numbers of an edge's transactions and its row, and its kind.
-fn spelled(edge: Edge) -> (u32, u32, Kind, u32) {
+/// Histories, and their edges.
+static WRITTEN_OUT: [(&str, &[Due]); 4] = [
     (
-        edge.from.number(),
-        edge.to.number(),
-        edge.kind,
-        edge.row.id.number(),
-    )
-}
+        TWO_ORDERS,
+        &[
+            (1, 2, Kind::Write, "test", 1),
+            (1, 2, Kind::ItemAnti, "test", 2),
+            (2, 1, Kind::Write, "test", 2),
+            (2, 1, Kind::ItemAnti, "test", 1),
+        ],
+    ),
+    (
+        BEFORE_AND_AFTER,
+        &[
+            (1, 2, Kind::ItemAnti, "test", 1),
+            (2, 3, Kind::Write, "test", 1),
+            (2, 3, Kind::ItemRead, "test", 1),
+            (3, 1, Kind::ItemRead, "test", 2),
+        ],
+    ),
+    (
+        REBORN,
+        &[
+            (1, 2, Kind::Write, "test", 3),
+            (1, 2, Kind::ItemRead, "test", 3),
+            (1, 2, Kind::PredicateRead, "test", 3),
+            (1, 2, Kind::PredicateAnti, "test", 3),
+            (1, 3, Kind::PredicateRead, "test", 3),
+            (1, 3, Kind::PredicateAnti, "test", 3),
+            (2, 3, Kind::Write, "test", 3),
+            (2, 3, Kind::PredicateRead, "test", 3),
+            (2, 3, Kind::PredicateAnti, "test", 3),
+        ],
+    ),
+    (
+        TWO_TABLES,
+        &[
+            (1, 2, Kind::ItemAnti, "test", 1),
+            (2, 1, Kind::ItemAnti, "stock", 1),
+            (2, 3, Kind::ItemRead, "test", 1),
+        ],
+    ),
+];
 
-/// Fails where the edges of a history of this text aren't these.
-fn shows_edges(
-    rt: &impl Abort,
-    alloc: Global,
-    text: &str,
-    expected: &[(u32, u32, Kind, u32)],
-) -> Result<(), Fail> {
-    let found = edges_by_both(alloc, text.as_bytes())?;
-    shows(rt, &found, text, expected);
-    drop(found);
-    is_told_to(rt, alloc, text)
+fn is_due(edge: &Edge, due: &Due) -> bool {
+    let (from, to, kind, table, row) = due;
+    edge.from.number() == *from
+        && edge.to.number() == *to
+        && edge.kind == *kind
+        && edge.row.table.as_bytes() == table.as_bytes()
+        && edge.row.id.number() == *row
 }
 
 /// Whether the edges are these.
-fn are_due(edges: &[Edge], expected: &[(u32, u32, Kind, u32)]) -> bool {
+fn are_due(edges: &[Edge], expected: &[Due]) -> bool {
     for (edge, due) in edges.iter().zip(expected) {
-        if spelled(*edge) != *due {
+        if !is_due(edge, due) {
             return false;
         }
     }
     edges.len() == expected.len()
 }
 
-/// Fails where both bodies don't answer these edges.
-fn shows(rt: &impl Abort, found: &Both, text: &str, expected: &[(u32, u32, Kind, u32)]) {
-    assert!(rt; are_due(&found.walked, expected), "{text}");
-    shows_the_same(rt, found, text);
-}
-
-/// Fails where what is told of each two transactions isn't what the edges are.
-pub fn is_told_to(rt: &impl Abort, alloc: Global, text: &str) -> Result<(), Fail> {
-    assert!(rt; is_told(alloc, text.as_bytes())?, "{text}");
-    Ok(())
-}
-
-#[test]
-fn edges_of_two_orders(rt: HostRuntime) -> Result<(), Fail> {
-    shows_edges(
-        &rt,
-        rt.alloc(),
-        TWO_ORDERS,
-        &[
-            (1, 2, Kind::Write, 1),
-            (1, 2, Kind::ItemAnti, 2),
-            (2, 1, Kind::Write, 2),
-            (2, 1, Kind::ItemAnti, 1),
-        ],
-    )
-}
-
-#[test]
-fn edges_of_a_read_before_and_after(rt: HostRuntime) -> Result<(), Fail> {
-    shows_edges(
-        &rt,
-        rt.alloc(),
-        BEFORE_AND_AFTER,
-        &[
-            (1, 2, Kind::ItemAnti, 1),
-            (2, 3, Kind::Write, 1),
-            (2, 3, Kind::ItemRead, 1),
-            (3, 1, Kind::ItemRead, 2),
-        ],
-    )
-}
-
-#[test]
-fn edges_of_a_row_that_is_born_anew(rt: HostRuntime) -> Result<(), Fail> {
-    shows_edges(
-        &rt,
-        rt.alloc(),
-        REBORN,
-        &[
-            (1, 2, Kind::Write, 3),
-            (1, 2, Kind::ItemRead, 3),
-            (1, 2, Kind::PredicateRead, 3),
-            (1, 2, Kind::PredicateAnti, 3),
-            (1, 3, Kind::PredicateRead, 3),
-            (1, 3, Kind::PredicateAnti, 3),
-            (2, 3, Kind::Write, 3),
-            (2, 3, Kind::PredicateRead, 3),
-            (2, 3, Kind::PredicateAnti, 3),
-        ],
-    )
-}
-
-/// Whether the edges are these, each between transactions and at row 1 of a table.
-fn are_of_tables(edges: &[Edge], expected: &[(u32, u32, Kind, &str)]) -> bool {
-    for (edge, (from, to, kind, table)) in edges.iter().zip(expected) {
-        if spelled(*edge) != (*from, *to, *kind, 1)
-            || edge.row.table.as_bytes() != table.as_bytes()
-        {
-            return false;
+/// Whether both bodies answer these edges of the history of this text.
+fn has_edges(alloc: Global, text: &[u8], expected: &[Due]) -> bool {
+    match edges_by_both(alloc, text) {
+        Some(found) => {
+            let are_due = are_due(&found, expected);
+            drop(found);
+            are_due
         }
+        None => false,
     }
-    edges.len() == expected.len()
 }
 
 #[test]
-fn a_history_over_two_tables(rt: HostRuntime) -> Result<(), Fail> {
-    let found = edges_by_both(rt.alloc(), TWO_TABLES.as_bytes())?;
-    let due = [
-        (1, 2, Kind::ItemAnti, "test"),
-        (2, 1, Kind::ItemAnti, "stock"),
-        (2, 3, Kind::ItemRead, "test"),
-    ];
-    assert!(rt; are_of_tables(&found.walked, &due));
-    shows_the_same(&rt, &found, TWO_TABLES);
-    drop(found);
-    is_told_to(&rt, rt.alloc(), TWO_TABLES)
-}
-
-/// Where a fault is of rows that aren't listed as is due: the numbers of the transaction and the operation, and the row.
-fn differing(fault: LocalFault) -> Option<(u32, u32, RowName)> {
-    match fault {
-        LocalFault::RowsDiffer { txn, op, row } => Some((txn.number(), op, row)),
-        _ => None,
+fn edges_are_those_that_are_written_out(rt: HostRuntime) -> Result<(), Fail> {
+    for (text, expected) in &WRITTEN_OUT {
+        assert!(rt; has_edges(rt.alloc(), text.as_bytes(), expected), "{text}");
     }
-}
-
-/// The fault of a history.
-fn fault_in(alloc: Global, history: &History) -> Option<LocalFault> {
-    match walked(alloc, history).err()? {
-        Unsound::Fault(fault) => Some(fault),
-        Unsound::NoMemory => None,
-    }
-}
-
-/// The fault of a history of this text.
-fn fault_of(alloc: Global, text: &[u8]) -> Option<LocalFault> {
-    let history = read_history(alloc, text).ok()?;
-    let fault = fault_in(alloc, &history);
-    drop(history);
-    fault
-}
-
-#[test]
-fn a_row_of_the_first_table_is_not_listed(rt: HostRuntime) -> Result<(), Fail> {
-    let fault = fault_of(rt.alloc(), UNLISTED.as_bytes()).ok_or("a fault")?;
-    let (txn, op, row) = differing(fault).ok_or("rows that differ")?;
-    assert_eq!(rt; (txn, op, row.id.number()), (1, 1, 2));
-    assert_eq!(rt; row.table.as_bytes(), b"stock".as_slice());
     Ok(())
 }

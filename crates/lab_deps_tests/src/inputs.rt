@@ -71,7 +71,9 @@ fn listed(alloc: Global, named: &Named) -> Result<Lists, NoMemory> {
 }
 
 fn played(alloc: Global) -> Option<Recording> {
-    let script = parse_script(alloc, SCRIPT).ok()?;
+    let Ok(script) = parse_script(alloc, SCRIPT) else {
+        return None;
+    };
     let Ok(setup) = script.setup.copy(alloc) else {
         drop(script);
         return None;
@@ -93,7 +95,9 @@ pub struct Inputs {
 /// None where memory is refused.
 pub fn given(alloc: Global) -> Option<Inputs> {
     let named = numbers_and_rows()?;
-    let lists = listed(alloc, &named).ok()?;
+    let Ok(lists) = listed(alloc, &named) else {
+        return None;
+    };
     let Some(recording) = played(alloc) else {
         drop(lists);
         return None;

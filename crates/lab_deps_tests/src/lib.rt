@@ -8,16 +8,11 @@ mod alike;
 #[cfg(test)]
 mod bare;
 #[cfg(test)]
-mod chain;
-#[cfg(test)]
 mod inputs;
-#[cfg(test)]
-mod made;
 #[cfg(test)]
 mod pairs;
 #[cfg(test)]
 mod plays;
-#[cfg(test)]
 #[cfg(test)]
 mod refused;
 #[cfg(test)]
@@ -30,6 +25,5 @@ mod refused_logs;
 mod refused_statements;
 #[cfg(test)]
 mod refused_steps;
-#[cfg(test)]
 #[cfg(test)]
 mod told;

@@ -2,8 +2,8 @@
 
 ghost use Rattle.std.specs.Prelude.{◌≡◌, []};
 
-use crate::alike::{Both, edges_by_both};
-use lab_engine::{Engine, Recording};
+use crate::alike::edges_by_both;
+use lab_engine::{Engine, Level, Recording};
 use lab_history_file::write_history;
 use lab_levels::{LEVELS, on_engine};
 use lab_script::{Script, parse_script};
@@ -81,79 +81,83 @@ fn made(alloc: Global, seed: u32) -> Result<Vec<u8>, AllocError> {
     Ok(text)
 }
 
-/// How many edges both bodies find, where they find the same.
-fn count(found: &Both) -> Result<usize, &'static str> {
-    if found.walked == found.paired {
-        Ok(found.walked.len())
-    } else {
-        Err("the same edges by both")
-    }
-}
-
-/// How many edges the history of this text has, by both bodies; or else what there isn't.
-fn edges_in(alloc: Global, text: &[u8]) -> Result<usize, &'static str> {
-    let found = edges_by_both(alloc, text)?;
-    let edges = count(&found);
-    drop(found);
-    edges
-}
-
-/// How many edges the history of a recording has, by both bodies.
-fn edges_of(alloc: Global, recording: &Recording) -> Result<usize, &'static str> {
-    match write_history(alloc, recording.history()) {
-        Ok(text) => edges_in(alloc, &text),
-        Err(_) => Err("a text"),
+/// How many edges the history of a recording has, by both bodies, as it reads back from its text.
+fn count_of(alloc: Global, recording: &Recording) -> Option<usize> {
+    let Ok(text) = write_history(alloc, recording.history()) else {
+        return None;
+    };
+    let found = edges_by_both(alloc, &text);
+    drop(text);
+    match found {
+        Some(edges) => {
+            let count = edges.len();
+            drop(edges);
+            Some(count)
+        }
+        None => None,
     }
 }
 
 /// The same of a play.
-fn edges_of_play<E: Engine + Drop>(
-    alloc: Global,
-    engine: E,
-    script: &Script,
-) -> Result<usize, &'static str>
+fn count_of_play<E: Engine + Drop>(alloc: Global, engine: E, script: &Script) -> Option<usize>
     requires { E.events engine ≡ [] }
 {
-    let played = play_script(alloc, engine, script)
-        .ok()
-        .ok_or("a recording")?;
-    let edges = edges_of(alloc, &played);
-    drop(played);
-    edges
+    match play_script(alloc, engine, script) {
+        Ok(played) => {
+            let count = count_of(alloc, &played);
+            drop(played);
+            count
+        }
+        Err(_) => None,
+    }
 }
 
-/// How many edges the plays of a script on the engines have together.
-fn edges_of_plays(alloc: Global, script: &Script) -> Result<usize, &'static str> {
-    let mut edges = 0usize;
-    for level in LEVELS {
-        let setup = script.setup.copy(alloc).ok().ok_or("memory")?;
-        let played = on_engine!(
+/// The same on the engine of a level.
+fn count_at(alloc: Global, level: Level, script: &Script) -> Option<usize> {
+    match script.setup.copy(alloc) {
+        Ok(setup) => on_engine!(
             level,
             alloc,
             setup,
-            |engine| edges_of_play(alloc, engine, script)
-        );
-        edges = edges.wrapping_add(played?);
+            |engine| count_of_play(alloc, engine, script)
+        ),
+        Err(_) => None,
     }
-    Ok(edges)
 }
 
-/// How many edges the plays of the script that a seed chooses have together.
-fn edges_of_seed(alloc: Global, seed: u32) -> Result<usize, &'static str> {
-    let text = made(alloc, seed).ok().ok_or("memory")?;
-    let script = parse_script(alloc, &text).ok();
+/// How many edges the plays of a script on the engines have together.
+fn count_of_plays(alloc: Global, script: &Script) -> Option<usize> {
+    let mut count = 0usize;
+    for level in LEVELS {
+        count = count.wrapping_add(count_at(alloc, level, script)?);
+    }
+    Some(count)
+}
+
+/// The same of the script that a seed chooses.
+fn count_of_seed(alloc: Global, seed: u32) -> Option<usize> {
+    let Ok(text) = made(alloc, seed) else {
+        return None;
+    };
+    let script = parse_script(alloc, &text);
     drop(text);
-    let script = script.ok_or("a script")?;
-    let edges = edges_of_plays(alloc, &script);
-    drop(script);
-    edges
+    match script {
+        Ok(script) => {
+            let count = count_of_plays(alloc, &script);
+            drop(script);
+            count
+        }
+        Err(_) => None,
+    }
 }
 
 #[test]
 fn histories_of_plays(rt: HostRuntime) -> Result<(), Fail> {
     let mut edges = 0usize;
     for seed in 0..67u32 {
-        edges = edges.wrapping_add(edges_of_seed(rt.alloc(), seed)?);
+        let count = count_of_seed(rt.alloc(), seed);
+        assert!(rt; count.is_some(), "{seed}");
+        edges = edges.wrapping_add(count.unwrap_or(0));
     }
     assert!(rt; edges > 1_000, "{edges}");
     Ok(())

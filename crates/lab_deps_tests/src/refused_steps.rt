@@ -84,7 +84,7 @@ pub fn has_told(log: &[LogEvent], count: usize, events: &[Told]) -> bool {
 }
 
 /// How the turns of a play are taken.
-#[derive(Clone, Copy, Debug)]
+#[derive(Clone, Copy)]
 pub struct Play {
     /// Whether the second update waits for the first one's transaction.
     pub waits: bool,

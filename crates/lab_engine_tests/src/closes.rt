@@ -1,18 +1,14 @@
 //! Runs that end with seats as they are and with spoiled ones, beside a plainer body.
 
-ghost use Rattle.std.specs.Prelude.{◌≡◌, []};
-
 use crate::handed::{Handed, Spoil, handed_over};
-use crate::listings::{LISTINGS, listing};
+use crate::listings::LISTINGS;
 use crate::plain_close::plain_fault;
-use lab_engine::{Engine, EngineFault, LogEvent, Outcome};
+use lab_engine::{EngineFault, LogEvent, Outcome};
 use lab_locking::LockEngine;
 use lab_script::{Line, Script, parse_script};
 use lab_session::{Bench, CloseFault};
 use lab_table::{Session, Table};
-use lab_versions::{CommittedEngine, SnapshotEngine};
 use std::alloc::Global;
-use std::process::Abort;
 use std::sync::Wait;
 use std::test::Fail;
 
@@ -71,16 +67,17 @@ begin; -- T1
 ";
 
 /// A bench after the commands of a script, where each retry comes as soon as it may.
-fn benched<E: Engine + Drop>(alloc: Global, engine: E, script: &Script) -> Option<Bench<E>>
-    requires { E.events engine ≡ [] }
-{
-    let mut bench = Bench::new(engine);
+fn benched(alloc: Global, script: &Script) -> Option<Bench<LockEngine>> {
+    let Ok(setup) = script.setup.copy(alloc) else {
+        return None;
+    };
+    let mut bench = Bench::new(LockEngine::new(alloc, setup));
     let ran = run_lines(alloc, &mut bench, script.lines.as_slice());
     ran.and(Some(bench))
 }
 
 /// Gives a bench these lines; None where memory is refused.
-fn run_lines<E: Engine + Drop>(alloc: Global, bench: &mut Bench<E>, lines: &[Line]) -> Option<()> {
+fn run_lines(alloc: Global, bench: &mut Bench<LockEngine>, lines: &[Line]) -> Option<()> {
     for line in lines {
         if !bench.is_waiting(line.session) {
             drop(bench.step(alloc, line.session, &line.command).ok()?);
@@ -93,7 +90,7 @@ fn run_lines<E: Engine + Drop>(alloc: Global, bench: &mut Bench<E>, lines: &[Lin
 }
 
 /// Retries a session where it waits.
-fn retry<E: Engine + Drop>(alloc: Global, bench: &mut Bench<E>, session: Session) -> Option<()> {
+fn retry(alloc: Global, bench: &mut Bench<LockEngine>, session: Session) -> Option<()> {
     if bench.is_waiting(session) {
         drop(bench.retry(alloc, session).ok()?);
     }
@@ -119,63 +116,64 @@ fn has_deadlock(log: &[LogEvent]) -> bool {
 }
 
 /// The bench of a script, closed with the seats of a lab of three sessions.
-fn end_by_both<R: Wait, E: Engine + Drop>(
+fn end_by_both<R: Wait>(
     rt: &R,
     alloc: Global,
     script: &Script,
-    engines: (E, E, E),
     spoil: Spoil,
     at: usize,
-) -> Option<Both>
-    requires bench { E.events engines.0 ≡ [] }
-    requires engine { E.events engines.1 ≡ [] }
-    requires shadow { E.events engines.2 ≡ [] }
-{
-    let (of_bench, engine, shadow) = engines;
-    let Some(bench) = benched(alloc, of_bench, script) else {
-        drop(engine);
-        drop(shadow);
-        return None;
-    };
-    let both = close_by_both(rt, alloc, &bench, engine, shadow, spoil, at);
+) -> Option<Both> {
+    let bench = benched(alloc, script)?;
+    let both = close_by_both(rt, alloc, &bench, script, spoil, at);
     drop(bench);
     both
 }
 
 /// A bench, closed with the seats of a lab of three sessions.
-fn close_by_both<R: Wait, E: Engine + Drop>(
+fn close_by_both<R: Wait>(
     rt: &R,
     alloc: Global,
-    bench: &Bench<E>,
-    engine: E,
-    shadow: E,
+    bench: &Bench<LockEngine>,
+    script: &Script,
     spoil: Spoil,
     at: usize,
-) -> Option<Both>
-    requires engine { E.events engine ≡ [] }
-    requires shadow { E.events shadow ≡ [] }
-{
-    let Some(recording) = bench.close(alloc, 0, &[]).ok() else {
-        drop(engine);
-        drop(shadow);
+) -> Option<Both> {
+    let Ok(recording) = bench.close(alloc, 0, &[]) else {
         return None;
     };
-    let handed = handed_over(rt, alloc, engine, shadow, recording.log(), spoil, at);
+    let handed = handed_in(rt, alloc, script, recording.log(), spoil, at);
     let both = closed_by_both(alloc, bench, recording.log(), handed);
     drop(recording);
     both
 }
 
-/// How a bench is closed with what is handed in.
-fn closed_by_both<E: Engine + Drop>(
+/// What is handed in of a lab that runs a script's log as it is spoiled.
+fn handed_in<R: Wait>(
+    rt: &R,
     alloc: Global,
-    bench: &Bench<E>,
+    script: &Script,
+    log: &[LogEvent],
+    spoil: Spoil,
+    at: usize,
+) -> Option<Handed> {
+    let lab = start(alloc, script, spoil);
+    let shadow = start(alloc, script, spoil);
+    match lab.zip(shadow) {
+        Some((lab, shadow)) => handed_over(rt, alloc, lab, shadow, log, spoil, at),
+        None => None,
+    }
+}
+
+/// How a bench is closed with what is handed in.
+fn closed_by_both(
+    alloc: Global,
+    bench: &Bench<LockEngine>,
     log: &[LogEvent],
     handed: Option<Handed>,
 ) -> Option<Both> {
     let handed = handed?;
     let closed = bench.close(alloc, 3, &handed.seats).err();
-    let plain = plain_fault(alloc, log, 3, &handed.owners, &handed.seats);
+    let plain = plain_fault(log, 3, &handed.owners, &handed.seats);
     drop(handed);
     Some(Both {
         closed,
@@ -194,181 +192,114 @@ fn start(alloc: Global, script: &Script, spoil: Spoil) -> Option<Table> {
 
 /// The table where row 1 has another value.
 fn other_table(alloc: Global) -> Option<Table> {
-    let other = parse_script(alloc, OTHER).ok()?;
+    let Ok(other) = parse_script(alloc, OTHER) else {
+        return None;
+    };
     let table = other.setup.copy(alloc).ok();
     drop(other);
     table
 }
 
-/// What a bench, a lab and its shadow begin with.
-#[derive(Drop)]
-struct Tables {
-    bench: Table,
-    lab: Table,
-    shadow: Table,
-}
-
-fn tables_of(alloc: Global, script: &Script, spoil: Spoil) -> Option<Tables> {
-    let bench = script.setup.copy(alloc).ok()?;
-    let lab = start(alloc, script, spoil)?;
-    let shadow = start(alloc, script, spoil)?;
-    Some(Tables { bench, lab, shadow })
-}
-
-/// The same on the engine that a number names.
-fn both_on<R: Wait>(
-    rt: &R,
-    alloc: Global,
-    number: u32,
-    text: &[u8],
-    spoil: Spoil,
-    at: usize,
-) -> Option<Both> {
-    let script = parse_script(alloc, text).ok()?;
-    let both = both_of(rt, alloc, number, &script, spoil, at);
-    drop(script);
-    both
-}
-
-fn both_of<R: Wait>(
-    rt: &R,
-    alloc: Global,
-    number: u32,
-    script: &Script,
-    spoil: Spoil,
-    at: usize,
-) -> Option<Both> {
-    let tables = tables_of(alloc, script, spoil)?;
-    match number {
-        0 => on_locking(rt, alloc, script, tables, spoil, at),
-        1 => on_committed(rt, alloc, script, tables, spoil, at),
-        _ => on_snapshot(rt, alloc, script, tables, spoil, at),
+/// The same of the script of this text.
+fn both_of<R: Wait>(rt: &R, alloc: Global, text: &[u8], spoil: Spoil, at: usize) -> Option<Both> {
+    match parse_script(alloc, text) {
+        Ok(script) => {
+            let both = end_by_both(rt, alloc, &script, spoil, at);
+            drop(script);
+            both
+        }
+        Err(_) => None,
     }
-}
-
-fn on_locking<R: Wait>(
-    rt: &R,
-    alloc: Global,
-    script: &Script,
-    tables: Tables,
-    spoil: Spoil,
-    at: usize,
-) -> Option<Both> {
-    let Tables { bench, lab, shadow } = tables;
-    let engines = (
-        LockEngine::new(alloc, bench),
-        LockEngine::new(alloc, lab),
-        LockEngine::new(alloc, shadow),
-    );
-    end_by_both(rt, alloc, script, engines, spoil, at)
-}
-
-fn on_committed<R: Wait>(
-    rt: &R,
-    alloc: Global,
-    script: &Script,
-    tables: Tables,
-    spoil: Spoil,
-    at: usize,
-) -> Option<Both> {
-    let Tables { bench, lab, shadow } = tables;
-    let engines = (
-        CommittedEngine::new(alloc, bench),
-        CommittedEngine::new(alloc, lab),
-        CommittedEngine::new(alloc, shadow),
-    );
-    end_by_both(rt, alloc, script, engines, spoil, at)
-}
-
-fn on_snapshot<R: Wait>(
-    rt: &R,
-    alloc: Global,
-    script: &Script,
-    tables: Tables,
-    spoil: Spoil,
-    at: usize,
-) -> Option<Both> {
-    let Tables { bench, lab, shadow } = tables;
-    let engines = (
-        SnapshotEngine::new(alloc, bench),
-        SnapshotEngine::new(alloc, lab),
-        SnapshotEngine::new(alloc, shadow),
-    );
-    end_by_both(rt, alloc, script, engines, spoil, at)
 }
 
 /// Whether both bodies answer alike at the end of a run; where nothing is spoiled, nothing but for a deadlock.
-fn is_alike<R: Wait>(
-    rt: &R,
-    alloc: Global,
-    number: u32,
-    text: &[u8],
-    spoil: Spoil,
-    at: usize,
-) -> Option<bool> {
-    let both = both_on(rt, alloc, number, text, spoil, at)?;
-    let is_due = !matches!(spoil, Spoil::Nothing) || both.closed.is_some() == both.deadlocks;
-    Some(is_due && both.closed == both.plain)
+fn is_alike<R: Wait>(rt: &R, alloc: Global, text: &[u8], spoil: Spoil, at: usize) -> bool {
+    match both_of(rt, alloc, text, spoil, at) {
+        Some(both) => {
+            let is_due = !matches!(spoil, Spoil::Nothing)
+                || both.closed.is_some() == both.deadlocks;
+            is_due && both.closed == both.plain
+        }
+        None => false,
+    }
 }
 
 /// Whether it is so at the end of each run of a script. What is spoiled stands at the events from an index on.
-fn are_alike<R: Wait>(rt: &R, alloc: Global, text: &[u8], from: usize, to: usize) -> Option<bool> {
-    for number in 0..3u32 {
-        for spoil in &SPOILS {
-            for at in from..to {
-                if !is_alike(rt, alloc, number, text, *spoil, at)? {
-                    return Some(false);
-                }
+fn are_alike<R: Wait>(rt: &R, alloc: Global, text: &[u8], from: usize, to: usize) -> bool {
+    for spoil in &SPOILS {
+        for at in from..to {
+            if !is_alike(rt, alloc, text, *spoil, at) {
+                return false;
             }
         }
     }
-    Some(true)
+    true
 }
 
 #[test]
 fn runs_end_as_by_a_plainer_body(rt: HostRuntime) -> Result<(), Fail> {
-    let alloc = rt.alloc();
-    assert_eq!(rt; are_alike(&rt, alloc, PLAIN, 0, 12), Some(true));
-    assert_eq!(rt; are_alike(&rt, alloc, WAITING, 0, 12), Some(true));
-    assert_eq!(rt; are_alike(&rt, alloc, REFUSING, 0, 12), Some(true));
-    for number in 0..LISTINGS {
-        assert_eq!(rt;
-            are_alike(&rt, alloc, listing(number), 2, 5),
-            Some(true),
-            "{number}"
-        );
+    for text in [PLAIN, WAITING, REFUSING] {
+        assert!(rt; are_alike(&rt, rt.alloc(), text, 0, 12), "{text:?}");
+    }
+    for text in &LISTINGS {
+        assert!(rt; are_alike(&rt, rt.alloc(), text, 2, 5), "{text:?}");
     }
     Ok(())
 }
 
-/// Fails where the plain script's run doesn't end so on the locking engine.
-fn shows_end<R: Wait + Abort>(
+/// What is due of a close.
+#[derive(Clone, Copy)]
+enum Due {
+    Closed,
+    Missing,
+    Repeated,
+    /// The first place that differs.
+    Differs(usize),
+}
+
+/// How the plain script's run ends where it is spoiled at the event of an index, and the number of the session that is
+/// told.
+static ENDS: [(Spoil, usize, u8, Due); 9] = [
+    (Spoil::Nothing, 0, 1, Due::Closed),
+    (Spoil::LeftOut, 1, 1, Due::Differs(2)),
+    (Spoil::LeftOut, 5, 2, Due::Differs(3)),
+    (Spoil::GivenTwice, 5, 2, Due::Differs(4)),
+    (Spoil::Exchanged, 2, 2, Due::Differs(1)),
+    (Spoil::Moved, 4, 1, Due::Differs(3)),
+    (Spoil::OtherValue, 0, 1, Due::Differs(2)),
+    (Spoil::SeatMissing, 1, 2, Due::Missing),
+    (Spoil::SeatRepeated, 1, 2, Due::Repeated),
+];
+
+fn fault_of(number: u8, due: Due) -> Option<CloseFault> {
+    let session = Session::new(number)?;
+    match due {
+        Due::Closed => None,
+        Due::Missing => Some(CloseFault::SeatMissing { session }),
+        Due::Repeated => Some(CloseFault::SeatRepeated { session }),
+        Due::Differs(place) => Some(CloseFault::ReceiptDiffers { session, place }),
+    }
+}
+
+/// Whether the plain script's run ends so.
+fn ends_so<R: Wait>(
     rt: &R,
     alloc: Global,
     spoil: Spoil,
     at: usize,
     due: Option<CloseFault>,
-) -> Result<(), &'static str> {
-    let both = both_on(rt, alloc, 0, PLAIN, spoil, at).ok_or("a run")?;
-    assert_eq!(rt; both.closed, due);
-    Ok(())
+) -> bool {
+    match both_of(rt, alloc, PLAIN, spoil, at) {
+        Some(both) => both.closed == due,
+        None => false,
+    }
 }
 
 #[test]
 fn spoiled_seats_are_told(rt: HostRuntime) -> Result<(), Fail> {
-    let one = Session::new(1).ok_or("a session")?;
-    let two = Session::new(2).ok_or("a session")?;
-    let differs = |session, place| Some(CloseFault::ReceiptDiffers { session, place });
-    let missing = Some(CloseFault::SeatMissing { session: two });
-    let repeated = Some(CloseFault::SeatRepeated { session: two });
-    shows_end(&rt, rt.alloc(), Spoil::Nothing, 0, None)?;
-    shows_end(&rt, rt.alloc(), Spoil::LeftOut, 1, differs(one, 2))?;
-    shows_end(&rt, rt.alloc(), Spoil::LeftOut, 5, differs(two, 3))?;
-    shows_end(&rt, rt.alloc(), Spoil::GivenTwice, 5, differs(two, 4))?;
-    shows_end(&rt, rt.alloc(), Spoil::Exchanged, 2, differs(two, 1))?;
-    shows_end(&rt, rt.alloc(), Spoil::Moved, 4, differs(one, 3))?;
-    shows_end(&rt, rt.alloc(), Spoil::OtherValue, 0, differs(one, 2))?;
-    shows_end(&rt, rt.alloc(), Spoil::SeatMissing, 1, missing)?;
-    shows_end(&rt, rt.alloc(), Spoil::SeatRepeated, 1, repeated)?;
+    for (spoil, at, number, due) in &ENDS {
+        let due = fault_of(*number, *due);
+        assert!(rt; ends_so(&rt, rt.alloc(), *spoil, *at, due), "{due:?}");
+    }
     Ok(())
 }

@@ -1,12 +1,12 @@
 //! What is handed in at the end of a run, as it is and spoiled.
 
-ghost use Rattle.std.specs.Prelude.{◌≡◌, ◌<◌, [], length};
+ghost use Rattle.std.specs.Prelude.{◌<◌, length};
 
 use crate::plain_close::is_answered;
-use lab_engine::{Engine, LogEvent};
+use lab_engine::LogEvent;
+use lab_locking::LockEngine;
 use lab_session::{Bench, Lab, Seat};
 use lab_table::{Command, NoMemory, Session, Table};
-use lab_versions::SnapshotEngine;
 use std::alloc::Global;
 use std::sync::Wait;
 
@@ -74,25 +74,21 @@ fn asked(alloc: Global, event: Option<&LogEvent>) -> Option<(Session, Command)> 
     }
 }
 
-/// The seats of nine sessions, after a lab has run what is planned. It ends where a command would wait, as the shadow
+/// The seats of nine sessions, after a lab over a table has run what is planned. It ends where a command would wait, as the shadow
 /// says, which runs the same.
-fn seated<R: Wait, E: Engine + Drop>(
+fn seated<R: Wait>(
     rt: &R,
     alloc: Global,
-    engine: E,
-    shadow: E,
+    lab: Table,
+    shadow: Table,
     log: &[LogEvent],
     plan: &[usize],
-) -> Option<Vec<Seat>>
-    requires engine { E.events engine ≡ [] }
-    requires shadow { E.events shadow ≡ [] }
-{
-    let mut shadow = Bench::new(shadow);
-    let Some((lab, seats)) = Lab::start(alloc, engine, 9).ok() else {
+) -> Option<Vec<Seat>> {
+    let mut shadow = Bench::new(LockEngine::new(alloc, shadow));
+    let Ok((lab, mut seats)) = Lab::start(alloc, LockEngine::new(alloc, lab), 9) else {
         drop(shadow);
         return None;
     };
-    let mut seats = seats;
     let ran = run_plan(rt, alloc, &lab, &mut shadow, &mut seats, log, plan);
     drop(lab);
     drop(shadow);
@@ -100,11 +96,11 @@ fn seated<R: Wait, E: Engine + Drop>(
 }
 
 /// Has a lab run what is planned, up to a command that the shadow doesn't answer.
-fn run_plan<R: Wait, E: Engine + Drop>(
+fn run_plan<R: Wait>(
     rt: &R,
     alloc: Global,
-    lab: &Lab<E>,
-    shadow: &mut Bench<E>,
+    lab: &Lab<LockEngine>,
+    shadow: &mut Bench<LockEngine>,
     seats: &mut Vec<Seat>,
     log: &[LogEvent],
     plan: &[usize],
@@ -118,11 +114,11 @@ fn run_plan<R: Wait, E: Engine + Drop>(
 }
 
 /// Has a lab run the command of an event, if the shadow answers it; false where it doesn't.
-fn has_run<R: Wait, E: Engine + Drop>(
+fn has_run<R: Wait>(
     rt: &R,
     alloc: Global,
-    lab: &Lab<E>,
-    shadow: &mut Bench<E>,
+    lab: &Lab<LockEngine>,
+    shadow: &mut Bench<LockEngine>,
     seats: &mut Vec<Seat>,
     event: Option<&LogEvent>,
 ) -> Option<bool> {
@@ -137,37 +133,46 @@ fn has_run<R: Wait, E: Engine + Drop>(
 }
 
 /// Whether a bench answers a command, which it runs.
-fn answers<E: Engine + Drop>(
+fn answers(
     alloc: Global,
-    bench: &mut Bench<E>,
+    bench: &mut Bench<LockEngine>,
     session: Session,
     command: &Command,
 ) -> Option<bool> {
-    let receipt = bench.step(alloc, session, command).ok()?;
+    let Ok(receipt) = bench.step(alloc, session, command) else {
+        return None;
+    };
     let is_answered = is_answered(&receipt.outcome);
     drop(receipt);
     Some(is_answered)
 }
 
 /// Has a lab run a command of the seat at a place.
-fn submit<R: Wait, E: Engine + Drop>(
+fn submit<R: Wait>(
     rt: &R,
     alloc: Global,
-    lab: &Lab<E>,
+    lab: &Lab<LockEngine>,
     seats: &mut Vec<Seat>,
     place: usize,
     command: Command,
 ) -> Option<()>
     requires { place < length seats.old.items }
 {
-    let seat = lab.submit(rt, alloc, seats.remove(place), command).ok()?;
-    seats.insert(place, seat).ok()
+    match lab.submit(rt, alloc, seats.remove(place), command) {
+        Ok(seat) => seats.insert(place, seat).ok(),
+        Err((seat, _)) => {
+            drop(seat);
+            None
+        }
+    }
 }
 
 /// A new seat of the session at a place.
 fn spare(alloc: Global, place: usize) -> Option<Seat> {
-    let engine = SnapshotEngine::new(alloc, Table::new(alloc));
-    let (lab, seats) = Lab::start(alloc, engine, 9).ok()?;
+    let engine = LockEngine::new(alloc, Table::new(alloc));
+    let Ok((lab, seats)) = Lab::start(alloc, engine, 9) else {
+        return None;
+    };
     drop(lab);
     let mut seats = seats;
     let seat = taken(&mut seats, place);
@@ -191,13 +196,34 @@ pub struct Handed {
     pub seats: Vec<Seat>,
 }
 
-/// The sessions from 1 to a number.
-fn sessions(alloc: Global, last: u8) -> Option<Vec<Session>> {
-    let mut sessions = Vec::new(alloc);
-    for number in 1..=last {
-        sessions.push(Session::new(number)?).ok()?;
+/// So many sessions, from 1 on.
+fn sessions(alloc: Global, count: usize) -> Option<Vec<Session>> {
+    Vec::from_slice(alloc, Session::ALL.get(..count)?).ok()
+}
+
+/// Leaves out the seat at a place.
+fn leave_out(seats: &mut Vec<Seat>, owners: &mut Vec<Session>, place: usize) -> Option<()> {
+    if place >= owners.len() || place >= seats.len() {
+        return None;
     }
-    Some(sessions)
+    owners.remove(place);
+    drop(seats.remove(place));
+    Some(())
+}
+
+/// Adds a second seat of the session at a place.
+fn repeat(
+    alloc: Global,
+    seats: &mut Vec<Seat>,
+    owners: &mut Vec<Session>,
+    place: usize,
+) -> Option<()> {
+    let owner = *owners.get(place)?;
+    owners.push(owner).ok()?;
+    match spare(alloc, place) {
+        Some(seat) => seats.push(seat).ok(),
+        None => None,
+    }
 }
 
 /// Leaves of the seats of nine sessions what is handed in where three are there, and says whose they are.
@@ -209,19 +235,12 @@ fn spoil_seats(
 ) -> Option<Vec<Session>> {
     let mut owners = sessions(alloc, 3)?;
     seats.truncate(3);
-    match spoil {
-        Spoil::SeatMissing if place < owners.len() => {
-            drop(taken(seats, place)?);
-            owners.remove(place);
-        }
-        Spoil::SeatRepeated => {
-            let owner = *owners.get(place)?;
-            owners.push(owner).ok()?;
-            seats.push(spare(alloc, place)?).ok()?;
-        }
-        _ => {}
-    }
-    Some(owners)
+    let spoiled = match spoil {
+        Spoil::SeatMissing => leave_out(seats, &mut owners, place),
+        Spoil::SeatRepeated => repeat(alloc, seats, &mut owners, place),
+        _ => Some(()),
+    };
+    spoiled.and(Some(owners))
 }
 
 /// What is handed in of the seats of nine sessions.
@@ -238,25 +257,22 @@ fn hand_in(alloc: Global, seats: Vec<Seat>, spoil: Spoil, at: usize) -> Option<H
     Some(Handed { owners, seats })
 }
 
-/// What is handed in of a lab that runs a log as it is spoiled.
-pub fn handed_over<R: Wait, E: Engine + Drop>(
+/// What is handed in of a lab over a table that runs a log as it is spoiled.
+pub fn handed_over<R: Wait>(
     rt: &R,
     alloc: Global,
-    engine: E,
-    shadow: E,
+    lab: Table,
+    shadow: Table,
     log: &[LogEvent],
     spoil: Spoil,
     at: usize,
-) -> Option<Handed>
-    requires engine { E.events engine ≡ [] }
-    requires shadow { E.events shadow ≡ [] }
-{
+) -> Option<Handed> {
     let Ok(plan) = plan(alloc, log.len(), spoil, at) else {
-        drop(engine);
+        drop(lab);
         drop(shadow);
         return None;
     };
-    let seats = seated(rt, alloc, engine, shadow, log, &plan);
+    let seats = seated(rt, alloc, lab, shadow, log, &plan);
     drop(plan);
     hand_in(alloc, seats?, spoil, at)
 }

@@ -1,24 +1,15 @@
-//! Tests of engines, of recordings and of the ends of runs, beside plainer bodies, and of benches that are refused memory.
+//! Tests of the ends of runs, beside a plainer body, and of benches that are refused memory, at each level.
 #![tactic(auto)]
 
 #[cfg(test)]
-mod alike;
-#[cfg(test)]
 mod closes;
-#[cfg(test)]
-mod engines;
 #[cfg(test)]
 mod handed;
 #[cfg(test)]
 mod listings;
 #[cfg(test)]
-mod plain;
-#[cfg(test)]
 mod plain_close;
 #[cfg(test)]
-mod plain_recording;
-#[cfg(test)]
-mod recordings;
-#[cfg(test)]
-#[cfg(test)]
 mod refused;
+#[cfg(test)]
+mod scripts;

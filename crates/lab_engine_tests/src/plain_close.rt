@@ -1,32 +1,25 @@
 //! A plain body of a run's end, which walks the log anew for each seat.
 
-use crate::alike::{alike_commands, alike_outcomes};
 use lab_engine::{LogEvent, Outcome};
 use lab_session::{Call, CloseFault, Seat};
 use lab_table::Session;
-use std::alloc::Global;
 
 pub fn is_answered(outcome: &Outcome) -> bool {
     !matches!(outcome, Outcome::Waits { .. })
 }
 
-fn is_call_at(alloc: Global, call: &Call, place: usize, event: &LogEvent) -> bool {
+fn is_call_at(call: &Call, place: usize, event: &LogEvent) -> bool {
     call.receipt.place == place
-        && alike_commands(alloc, &call.command, &event.command) == Some(true)
-        && alike_outcomes(&call.receipt.outcome, &event.outcome)
+        && call.command.equals(&event.command)
+        && call.receipt.outcome.equals(&event.outcome)
 }
 
 /// The first place, counted from 1, at which a list isn't the calls of a session in a log.
-fn first_difference(
-    alloc: Global,
-    calls: &[Call],
-    session: Session,
-    log: &[LogEvent],
-) -> Option<usize> {
+fn first_difference(calls: &[Call], session: Session, log: &[LogEvent]) -> Option<usize> {
     let mut index = 0usize;
     for (before, event) in log.iter().enumerate() {
         if event.session == session && is_answered(&event.outcome) {
-            if index >= calls.len() || !is_call_at(alloc, &calls[index], before + 1, event) {
+            if index >= calls.len() || !is_call_at(&calls[index], before + 1, event) {
                 return Some(index.saturating_add(1));
             }
             index = index.saturating_add(1);
@@ -40,7 +33,6 @@ fn first_difference(
 
 /// The first place at which the list of a session's seat isn't its calls in a log. The seats' sessions are `owners`.
 fn difference_of(
-    alloc: Global,
     owners: &[Session],
     seats: &[Seat],
     session: Session,
@@ -48,7 +40,7 @@ fn difference_of(
 ) -> Option<usize> {
     for (index, seat) in seats.iter().enumerate() {
         if owners.get(index) == Some(&session) {
-            if let Some(place) = first_difference(alloc, seat.calls(), session, log) {
+            if let Some(place) = first_difference(seat.calls(), session, log) {
                 return Some(place);
             }
         }
@@ -57,12 +49,17 @@ fn difference_of(
 }
 
 fn count_of(owners: &[Session], session: Session) -> usize {
-    owners.iter().filter(|owner| **owner == session).count()
+    let mut count = 0usize;
+    for owner in owners {
+        if *owner == session {
+            count = count.saturating_add(1);
+        }
+    }
+    count
 }
 
 /// Why a bench of this log isn't closed with these seats, whose sessions are `owners`; None where it is.
 pub fn plain_fault(
-    alloc: Global,
     log: &[LogEvent],
     sessions: u8,
     owners: &[Session],
@@ -82,7 +79,7 @@ pub fn plain_fault(
     }
     for number in 1..10u8 {
         let session = Session::new(number)?;
-        if let Some(place) = difference_of(alloc, owners, seats, session, log) {
+        if let Some(place) = difference_of(owners, seats, session, log) {
             return Some(CloseFault::ReceiptDiffers { session, place });
         }
     }

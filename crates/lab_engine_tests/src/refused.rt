@@ -1,62 +1,26 @@
 //! Benches whose calls have each of their allocations refused in turn, through whole scripts on each engine: they answer
-//! want of memory and nothing else, log and sessions are as before, and the script then plays as if nothing had been.
+//! want of memory and nothing else, log and sessions are as before, and the script then plays as if nothing had been. A
+//! commit, also one that conflicts, and an abort ask for no memory at all.
 
 ghost use Rattle.std.specs.Prelude.{◌≡◌, []};
 
-use crate::listings::listing;
-use lab_engine::{Engine, Level};
+use crate::scripts::SCRIPTS;
+use lab_engine::{Engine, EngineFault, Level, Outcome};
 use lab_levels::{LEVELS, on_engine};
 use lab_refusal_tests::{refuse, was_refused};
 use lab_script::{Line, Script, parse_script};
-use lab_session::{Bench, BenchFault, CloseFault, print_log};
+use lab_session::{Bench, BenchFault, CloseFault, Receipt, print_log};
 use lab_table::Session;
 use std::alloc::Global;
 use std::test::Fail;
 
-/// A predicate by value, and an update that changes what it matches.
-const BY_VALUE: &[u8] = b"setup (1, 10), (2, 20);
-begin; -- T1
-begin; -- T2
-select * from test where value = 20; -- T2
-update test set value = value + 10 where id = 1; -- T1
-commit; -- T2
-commit; -- T1
-";
-
-/// A predicate of several parts, and a negative value.
-const PARTS: &[u8] = b"setup (1, -7), (2, 20);
-begin; -- T3
-select * from test where value % 3 = -1; -- T3
-SELECT * FROM test WHERE NOT (id=1 OR value>=20) AND id IN(1,2) -- T3
-commit; -- T3
-";
-
-/// One update.
-const ONE_UPDATE: &[u8] = b"setup (1, 10);
-begin; -- T1
-update test set value = value + 1 where id = 1; -- T1
-commit; -- T1
-";
-
-/// How many scripts there are.
-const SCRIPTS: u32 = 5;
-
-/// Each by its number; two of them are listings, in which sessions wait at locking, in one up to a deadlock.
-fn script_text(number: u32) -> &'static [u8] {
-    match number {
-        0 => BY_VALUE,
-        1 => PARTS,
-        2 => listing(2),
-        3 => listing(3),
-        _ => ONE_UPDATE,
-    }
-}
-
 /// What the next turn of a bench came to.
-#[derive(Clone, Copy, Debug, PartialEq, Eq)]
+#[derive(Clone, Copy)]
 enum Turn {
     Retried,
     Stepped,
+    /// A step that ends a transaction.
+    Ended,
     Closed,
     NoMemory,
     /// Another refusal.
@@ -71,6 +35,29 @@ fn of_fault(fault: Option<BenchFault>, done: Turn) -> Turn {
     }
 }
 
+/// Whether an answer ends a transaction that was to commit or abort.
+fn is_end(outcome: &Outcome) -> bool {
+    match outcome {
+        Outcome::Committed | Outcome::Aborted => true,
+        Outcome::Refused(fault) => matches!(
+            fault,
+            EngineFault::WriteConflict { .. } | EngineFault::ReadConflict { .. }
+        ),
+        _ => false,
+    }
+}
+
+fn of_step(answer: Result<Receipt, BenchFault>) -> Turn {
+    match answer {
+        Ok(receipt) => {
+            let ends = is_end(&receipt.outcome);
+            drop(receipt);
+            if ends { Turn::Ended } else { Turn::Stepped }
+        }
+        Err(fault) => of_fault(Some(fault), Turn::Stepped),
+    }
+}
+
 /// Takes the next turn: the retry that is due, else the line that is, else the close.
 fn take_turn<E: Engine>(alloc: Global, bench: &mut Bench<E>, line: Option<&Line>) -> Turn {
     if let Some(session) = bench.retryable() {
@@ -80,10 +67,7 @@ fn take_turn<E: Engine>(alloc: Global, bench: &mut Bench<E>, line: Option<&Line>
         return of_fault(bench.retry(alloc, session).err(), Turn::Retried);
     }
     match line {
-        Some(line) => of_fault(
-            bench.step(alloc, line.session, &line.command).err(),
-            Turn::Stepped,
-        ),
+        Some(line) => of_step(bench.step(alloc, line.session, &line.command)),
         None => match bench.close(alloc, 0, &[]).err() {
             None => Turn::Closed,
             Some(CloseFault::NoMemory) => Turn::NoMemory,
@@ -94,7 +78,9 @@ fn take_turn<E: Engine>(alloc: Global, bench: &mut Bench<E>, line: Option<&Line>
 
 /// What a bench's log reads.
 fn logged<E: Engine>(alloc: Global, bench: &Bench<E>) -> Option<Vec<u8>> {
-    let recording = bench.close(alloc, 0, &[]).ok()?;
+    let Ok(recording) = bench.close(alloc, 0, &[]) else {
+        return None;
+    };
     let text = print_log(alloc, &recording).ok();
     drop(recording);
     text
@@ -122,8 +108,11 @@ fn take_refused<E: Engine>(
     refuse(alloc, growth);
     let turn = take_turn(alloc, bench, line);
     let refused = was_refused(alloc);
-    if turn != Turn::NoMemory {
-        return Some((turn, refused));
+    match turn {
+        Turn::NoMemory => {}
+        // An end asks for no memory.
+        Turn::Ended if refused => return None,
+        _ => return Some((turn, refused)),
     }
     if !refused || said(bench) != before || logged(alloc, bench)? != log {
         return None;
@@ -153,7 +142,7 @@ fn play_lines<E: Engine>(
         };
         match turn {
             Turn::Retried => {}
-            Turn::Stepped => given = given.saturating_add(1),
+            Turn::Stepped | Turn::Ended => given = given.saturating_add(1),
             Turn::Closed => return Some((refused, turns + 1)),
             Turn::NoMemory | Turn::Wrong => return None,
         }
@@ -199,7 +188,9 @@ fn played_at(
     place: usize,
     growth: u16,
 ) -> Option<Play> {
-    let setup = script.setup.copy(alloc).ok()?;
+    let Ok(setup) = script.setup.copy(alloc) else {
+        return None;
+    };
     let lines = script.lines.as_slice();
     on_engine!(
         level,
@@ -232,32 +223,55 @@ fn refusals_at(
     None
 }
 
-/// The same of each turn in order. The first place that isn't as is due, if there is one.
+/// The first of so many turns that isn't as is due, if there is one.
+fn first_wrong(
+    alloc: Global,
+    level: Level,
+    script: &Script,
+    turns: usize,
+    due: &[u8],
+) -> Option<usize> {
+    for place in 0..turns {
+        if refusals_at(alloc, level, script, place, due).is_none() {
+            return Some(place);
+        }
+    }
+    None
+}
+
+/// The same of each turn of a play.
 fn wrong_place(alloc: Global, level: Level, script: &Script) -> Option<usize> {
-    let Some(due) = played_at(alloc, level, script, 0, 0) else {
-        return Some(0);
-    };
-    let wrong = (0..due.turns).find(|place| refusals_at(
-        alloc, level, script, *place, &due.log,
-    ).is_none());
-    drop(due);
-    wrong
+    match played_at(alloc, level, script, 0, 0) {
+        Some(due) => {
+            let wrong = first_wrong(alloc, level, script, due.turns, &due.log);
+            drop(due);
+            wrong
+        }
+        None => Some(0),
+    }
+}
+
+/// The same of the script of this text; None where there is no script.
+fn wrong_of(alloc: Global, level: Level, text: &[u8]) -> Option<Option<usize>> {
+    match parse_script(alloc, text) {
+        Ok(script) => {
+            let wrong = wrong_place(alloc, level, &script);
+            drop(script);
+            Some(wrong)
+        }
+        Err(_) => None,
+    }
 }
 
 #[test]
 fn benches_that_are_refused_memory_are_as_before(rt: HostRuntime) -> Result<(), Fail> {
-    for number in 0..SCRIPTS {
+    for text in &SCRIPTS {
         for level in LEVELS {
-            let script = parse_script(rt.alloc(), script_text(number)).ok();
-            assert!(rt; script.is_some(), "script {number}");
-            if let Some(script) = script {
-                let wrong = wrong_place(rt.alloc(), level, &script);
-                drop(script);
-                assert!(rt;
-                    wrong.is_none(),
-                    "script {number} at {level:?}: turn {wrong:?}"
-                );
-            }
+            let wrong = wrong_of(rt.alloc(), level, text);
+            assert!(rt;
+                wrong == Some(None),
+                "{text:?} at {level:?}: turn {wrong:?}"
+            );
         }
     }
     Ok(())

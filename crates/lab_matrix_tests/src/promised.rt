@@ -73,7 +73,9 @@ fn says(promise: Promise, report: &Report) -> bool {
 
 /// Whether a recording's report says what is promised at a level.
 fn is_said(alloc: Global, recording: &Recording, level: Level) -> Option<bool> {
-    let report = judge_recording(alloc, recording).ok()?;
+    let Ok(report) = judge_recording(alloc, recording) else {
+        return None;
+    };
     let said = says(promise(level), &report);
     drop(report);
     Some(said)
@@ -122,7 +124,9 @@ fn case_is_kept_at_each<T: Threads + Wait + Sync>(
     alloc: Global,
     name: CaseName,
 ) -> Option<[Option<bool>; 4]> {
-    let script = case(alloc, name).ok()?;
+    let Ok(script) = case(alloc, name) else {
+        return None;
+    };
     let kept = is_kept_at_each(rt, alloc, &script);
     drop(script);
     Some(kept)

@@ -7,6 +7,7 @@ use Rattle.lab_judge.specs.ReportText.{kind_name}
 use Rattle.lab_drawing.specs.declared.drawing.Arrow.{Arrow}
 use Rattle.lab_drawing.specs.declared.drawing.Tie.{Tie}
 use Rattle.lab_drawing.specs.declared.drawing.Tie.TheVariants.{Dependency, Version}
+use Rattle.lab_drawing.specs.Ties.{is_dashed}
 use Rattle.lab_picture.specs.declared.layout.Corner.{Corner}
 use Rattle.lab_picture.specs.Layout.{exit_of, entry_of, is_next, lane, aside}
 use Rattle.lab_picture.specs.declared.layout.Frame.{Frame}

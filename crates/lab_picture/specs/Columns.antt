@@ -10,6 +10,7 @@ use Rattle.lab_picture.specs.declared.layout.Column.{Column}
 use Rattle.lab_picture.specs.declared.layout.Frame.{Frame}
 use Rattle.lab_picture.specs.Layout.{left, top}
 use Rattle.lab_drawing.specs.Sketch.{Sketch}
+use Rattle.lab_drawing.specs.Text.{outcome_name}
 use Rattle.lab_picture.specs.Text.{text_at}
 use Rattle.lab_picture.specs.Boxes.{boxes_text}
 

@@ -5,6 +5,7 @@ use Rattle.std.specs.FinMap as finite
 use Rattle.lab_table.specs.Row.{Row}
 use Rattle.lab_table.specs.Table.{State, Rows, Writes}
 use Rattle.lab_printing.specs.Printed.{printed_row}
+use Rattle.lab_drawing.specs.Text.{state_text}
 use Rattle.lab_history.specs.declared.operation.Op.{Op}
 
 -- how a listed row was left, behind an arrow; nothing where it wasn't written

@@ -1,6 +1,7 @@
 -- Texts of a picture.
 use Rattle.std.specs.Prelude.{ℕ, ◌+◌, ◌-◌, ◌==◌, nat_le, ◌&&◌, cond, List, [], ◌∷◌, ◌++◌, length, take, drop, codes}
 use Rattle.std.specs.Fmt.{decimal}
+use Rattle.lab_drawing.specs.Text.{escaped}
 
 -- the place behind the last blank of bytes that have so many before them; the one given where there is no blank
 abbrev pub last_from : ℕ → ℕ → List ℕ → ℕ

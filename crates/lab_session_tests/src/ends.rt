@@ -1,194 +1,16 @@
-//! Commits and aborts that may have no memory at all: of a bench, and of a seat.
+//! The last abort of a seat, which may have no memory at all.
 
-ghost use Rattle.std.specs.Prelude.{◌≡◌, []};
-
-use crate::refused::lines_submitted;
-use lab_engine::{Engine, EngineFault, Level, Outcome};
-use lab_levels::{LockEngine, on_engine};
+use crate::calls::asked;
+use crate::runs::{NOTHING, all_submitted};
+use lab_engine::Outcome;
+use lab_locking::LockEngine;
 use lab_refusal_tests::{refuse, was_refused};
-use lab_script::{Line, parse_script};
-use lab_session::{Bench, Lab, Seat};
-use lab_table::{Command, Session, Table};
+use lab_script::{Line, Script, parse_script};
+use lab_session::{Lab, Seat};
+use lab_table::{Command, Table};
 use std::alloc::Global;
 use std::sync::Wait;
 use std::test::Fail;
-
-/// Session 1 has two rows pending, and where nobody waits session 2 has installed one of them since session 1's begin. Before
-/// the end stand eleven events, so that any other event needs an allocation in the log.
-const SNAPSHOT: &[u8] = b"setup (1, 10), (2, 20);
-begin; -- T1
-begin; -- T2
-update test set value = 12 where id = 1; -- T2
-commit; -- T2
-update test set value = 11 where id = 1; -- T1
-update test set value = 21 where id = 2; -- T1
-insert into test (id, value) values (3, 30); -- T1
-commit; -- T2
-commit; -- T2
-commit; -- T2
-commit; -- T2
-";
-
-/// The same, but that session 2 has installed another row.
-const APART: &[u8] = b"setup (1, 10), (2, 20), (4, 40);
-begin; -- T1
-begin; -- T2
-update test set value = 42 where id = 4; -- T2
-commit; -- T2
-update test set value = 11 where id = 1; -- T1
-update test set value = 21 where id = 2; -- T1
-insert into test (id, value) values (3, 30); -- T1
-commit; -- T2
-commit; -- T2
-commit; -- T2
-commit; -- T2
-";
-
-/// The same, but that session 1 has read a row that session 2 has installed, and written others.
-const READ: &[u8] = b"setup (1, 10), (2, 20), (4, 40);
-begin; -- T1
-begin; -- T2
-update test set value = 42 where id = 4; -- T2
-commit; -- T2
-update test set value = 11 where id = 1; -- T1
-select * from test where id = 4; -- T1
-insert into test (id, value) values (3, 30); -- T1
-commit; -- T2
-commit; -- T2
-commit; -- T2
-commit; -- T2
-";
-
-/// Session 1 has rows pending and session 2 waits for one of them, after eleven events.
-const HELD: &[u8] = b"setup (1, 10), (2, 20);
-begin; -- T1
-update test set value = 11 where id = 1; -- T1
-update test set value = 21 where id = 2; -- T1
-insert into test (id, value) values (3, 30); -- T1
-begin; -- T2
-update test set value = 12 where id = 1; -- T2
-commit; -- T3
-commit; -- T3
-commit; -- T3
-commit; -- T3
-commit; -- T3
-";
-
-/// The end of session 1's transaction, and what is due.
-#[derive(Clone, Copy, Debug, PartialEq, Eq)]
-enum End {
-    Committed,
-    Aborted,
-    Conflict,
-    ReadConflict,
-}
-
-const ENDS: [(Level, &[u8], End); 11] = [
-    (Level::Locking, HELD, End::Committed),
-    (Level::Locking, HELD, End::Aborted),
-    (Level::Committed, HELD, End::Committed),
-    (Level::Committed, HELD, End::Aborted),
-    (Level::Snapshot, SNAPSHOT, End::Conflict),
-    (Level::Snapshot, SNAPSHOT, End::Aborted),
-    (Level::Snapshot, APART, End::Committed),
-    (Level::Optimistic, SNAPSHOT, End::Conflict),
-    (Level::Optimistic, READ, End::ReadConflict),
-    (Level::Optimistic, READ, End::Aborted),
-    (Level::Optimistic, APART, End::Committed),
-];
-
-fn command_of(end: End) -> Command {
-    match end {
-        End::Aborted => Command::Abort,
-        _ => Command::Commit,
-    }
-}
-
-/// What an outcome ends a transaction by, if it does.
-fn end_of(outcome: &Outcome) -> Option<End> {
-    match outcome {
-        Outcome::Committed => Some(End::Committed),
-        Outcome::Aborted => Some(End::Aborted),
-        Outcome::Refused(EngineFault::WriteConflict { .. }) => Some(End::Conflict),
-        Outcome::Refused(EngineFault::ReadConflict { .. }) => Some(End::ReadConflict),
-        _ => None,
-    }
-}
-
-fn stepped<E: Engine>(alloc: Global, bench: &mut Bench<E>, lines: &[Line]) -> Option<()> {
-    for line in lines {
-        bench.step(alloc, line.session, &line.command).ok()?;
-    }
-    Some(())
-}
-
-/// Gives session 1's end with the first allocation refused. What it came to, and whether an allocation was refused.
-fn ended<E: Engine>(alloc: Global, bench: &mut Bench<E>, end: End) -> Option<(Option<End>, bool)> {
-    let session = Session::new(1)?;
-    let command = command_of(end);
-    refuse(alloc, 1);
-    let answered = bench.step(alloc, session, &command);
-    let refused = was_refused(alloc);
-    drop(command);
-    let receipt = answered.ok()?;
-    let made = end_of(&receipt.outcome);
-    drop(receipt);
-    Some((made, refused))
-}
-
-/// The same after the lines of a script, on a fresh engine.
-fn ended_after<E: Engine + Drop>(
-    alloc: Global,
-    engine: E,
-    lines: &[Line],
-    end: End,
-) -> Option<(Option<End>, bool)>
-    requires { E.events engine ≡ [] }
-{
-    let mut bench = Bench::new(engine);
-    let made = match stepped(alloc, &mut bench, lines) {
-        Some(()) => ended(alloc, &mut bench, end),
-        None => None,
-    };
-    drop(bench);
-    made
-}
-
-/// The same on the engine of a level.
-fn ended_at(
-    alloc: Global,
-    level: Level,
-    setup: Table,
-    lines: &[Line],
-    end: End,
-) -> Option<(Option<End>, bool)> {
-    on_engine!(
-        level,
-        alloc,
-        setup,
-        |engine| ended_after(alloc, engine, lines, end)
-    )
-}
-
-fn end_made(alloc: Global, level: Level, before: &[u8], end: End) -> Option<(Option<End>, bool)> {
-    let script = parse_script(alloc, before).ok()?;
-    let Ok(setup) = script.setup.copy(alloc) else {
-        drop(script);
-        return None;
-    };
-    let made = ended_at(alloc, level, setup, script.lines.as_slice(), end);
-    drop(script);
-    made
-}
-
-#[test]
-fn an_end_is_refused_no_memory(rt: HostRuntime) -> Result<(), Fail> {
-    for (level, before, end) in ENDS {
-        let made = end_made(rt.alloc(), level, before, end);
-        assert_eq!(rt; made, Some((Some(end), false)), "{level:?}");
-    }
-    Ok(())
-}
 
 /// A transaction of session 1 of as many calls as a list grows for more than once.
 const LOOKS: &[u8] = b"setup (1, 10);
@@ -204,65 +26,65 @@ select * from test where id = 1; -- T1
 select * from test where id = 1; -- T1
 ";
 
-/// Gives the last seat's abort with the first allocation refused. What it came to, and whether an allocation was refused.
-fn aborted<R: Wait>(
+/// Whether the last seat's abort is answered with the first allocation refused, and none is.
+fn is_aborted<R: Wait>(
     rt: &R,
     alloc: Global,
     lab: &Lab<LockEngine>,
     seats: &mut Vec<Seat>,
-) -> Option<(Option<End>, bool)> {
-    let seat = seats.pop()?;
+) -> bool {
+    let Some(seat) = seats.pop() else {
+        return false;
+    };
     refuse(alloc, 1);
-    let answered = lab.submit(rt, alloc, seat, Command::Abort);
+    let answered = asked(rt, alloc, lab, seat, Command::Abort);
     let refused = was_refused(alloc);
-    let seat = answered.ok()?;
-    let made = seat.reply().and_then(end_of);
-    drop(seat);
-    Some((made, refused))
+    match answered {
+        Some(seat) => {
+            let is_aborted = matches!(seat.reply(), Some(Outcome::Aborted));
+            drop(seat);
+            is_aborted && !refused
+        }
+        None => false,
+    }
 }
 
 /// The same after these lines, in a lab of one session.
-fn aborted_after<R: Wait>(
-    rt: &R,
-    alloc: Global,
-    setup: Table,
-    lines: &[Line],
-) -> Option<(Option<End>, bool)> {
+fn is_aborted_after<R: Wait>(rt: &R, alloc: Global, setup: Table, lines: &[Line]) -> bool {
     let engine = LockEngine::new(alloc, setup);
-    let (lab, mut seats) = Lab::start(alloc, engine, 1).ok()?;
-    let made = match lines_submitted(rt, alloc, &lab, &mut seats, lines) {
-        Some(()) => aborted(rt, alloc, &lab, &mut seats),
-        None => None,
+    let Ok((lab, mut seats)) = Lab::start(alloc, engine, 1) else {
+        return false;
     };
+    let mut was = false;
+    let submitted = all_submitted(rt, alloc, &lab, &mut seats, lines, NOTHING, &mut was);
+    let is_aborted = submitted.is_some() && is_aborted(rt, alloc, &lab, &mut seats);
     drop(lab);
     drop(seats);
-    made
+    is_aborted
 }
 
 /// The same after so many lines of that transaction.
-fn aborted_behind<R: Wait>(rt: &R, alloc: Global, calls: usize) -> Option<(Option<End>, bool)> {
-    let script = parse_script(alloc, LOOKS).ok()?;
-    let Ok(setup) = script.setup.copy(alloc) else {
-        drop(script);
-        return None;
+fn is_aborted_behind<R: Wait>(rt: &R, alloc: Global, calls: usize) -> bool {
+    let Ok(script) = parse_script(alloc, LOOKS) else {
+        return false;
     };
-    let made = match script.lines.as_slice().get(..calls) {
-        Some(lines) => aborted_after(rt, alloc, setup, lines),
+    let Script { setup, lines } = script;
+    let is_aborted = match lines.as_slice().get(..calls) {
+        Some(lines) => is_aborted_after(rt, alloc, setup, lines),
         None => {
             drop(setup);
-            None
+            false
         }
     };
-    drop(script);
-    made
+    drop(lines);
+    is_aborted
 }
 
 /// As a thread of a free play ends, whichever place in its seat's list the abort takes.
 #[test]
 fn the_last_abort_of_a_seat_is_refused_no_memory(rt: HostRuntime) -> Result<(), Fail> {
     for calls in 1..=10usize {
-        let made = aborted_behind(&rt, rt.alloc(), calls);
-        assert_eq!(rt; made, Some((Some(End::Aborted), false)), "{calls}");
+        assert!(rt; is_aborted_behind(&rt, rt.alloc(), calls), "{calls}");
     }
     Ok(())
 }

@@ -78,7 +78,7 @@ commit; -- T2
 /// At each level the events before session 1's commit, and the log. A pending update is in the way of a select and an
 /// update of its row at locking, of an update alone at committed, and of nothing at snapshot and optimistic, where the
 /// second commit is refused in place of that.
-const ALL_DUE: [(Level, u32, &[u8]); 4] = [
+static ALL_DUE: [(Level, u32, &[u8]); 4] = [
     (
         Level::Locking,
         4,
@@ -157,7 +157,9 @@ fn play_at<R: Threads + Wait + Sync>(
     retries: u32,
     gate: &Forcing,
 ) -> Option<Result<Recording, PlayFault>> {
-    let script = parse_script(alloc, SCRIPT).ok()?;
+    let Ok(script) = parse_script(alloc, SCRIPT) else {
+        return None;
+    };
     let Ok(setup) = script.setup.copy(alloc) else {
         drop(script);
         return None;
@@ -218,10 +220,10 @@ fn forced<R: Threads + Wait + Sync>(
 
 #[test]
 fn a_forced_play_has_the_log_of_its_level(rt: HostRuntime) -> Result<(), Fail> {
-    for (level, before_commit, due) in ALL_DUE {
-        let played = forced(&rt, rt.alloc(), level, before_commit, due);
+    for (level, before_commit, due) in &ALL_DUE {
+        let played = forced(&rt, rt.alloc(), *level, *before_commit, due);
         // Twice round each of the seven lines.
-        assert_eq!(rt; played, Some((true, 14)));
+        assert!(rt; played == Some((true, 14)), "{level:?}");
     }
     Ok(())
 }
@@ -240,9 +242,11 @@ fn a_forced_play_without_memory_ends(rt: HostRuntime) -> Result<(), Fail> {
     let events = gate.counts.events.load(Ordering::SeqCst);
     drop(gate);
     assert_eq!(rt; fault, Some(PlayFault::NoMemory));
-    // Twice round each line of session 1, and round the first two of session 2.
-    assert_eq!(rt; in_place, 10);
-    // Five up to the commit; and then session 2 goes on once with its select, and aborts.
-    assert_eq!(rt; events, 7);
+    // Twice round each line of session 1, and round the first two of session 2. Five events up to the commit; and then
+    // session 2 goes on once with its select, and aborts.
+    assert!(rt;
+        in_place == 10 && events == 7,
+        "{in_place} in place, {events} events"
+    );
     Ok(())
 }

@@ -1,14 +1,11 @@
 //! A log that is full.
 
-ghost use Rattle.std.specs.Prelude.{◌≡◌, []};
-
 use crate::instrumented::{Counts, Refusals, play_instrumented};
-use lab_engine::{Engine, EngineFault, Outcome};
+use lab_engine::{EngineFault, Outcome};
 use lab_locking::LockEngine;
 use lab_script::{Line, Lines, Script};
 use lab_session::{Bench, BenchFault, Gate, PlayFault, play_script};
 use lab_table::{Command, Session, Table};
-use lab_versions::{CommittedEngine, SnapshotEngine};
 use std::alloc::Global;
 use std::sync::Wait;
 use std::sync::atomic::{AtomicBool, Ordering};
@@ -16,61 +13,56 @@ use std::test::Fail;
 use std::thread::{Threads, yield_now};
 
 /// Whether a commit that no transaction is there for is logged at this place.
-fn is_refused<E: Engine>(
+fn is_refused(
     alloc: Global,
-    bench: &mut Bench<E>,
+    bench: &mut Bench<LockEngine>,
     session: Session,
     place: usize,
-) -> Option<bool> {
-    let receipt = bench.step(alloc, session, &Command::Commit).ok()?;
-    let refused = matches!(
-        receipt.outcome,
-        Outcome::Refused(EngineFault::NoTransaction)
-    );
-    Some(refused && receipt.place == place)
+) -> bool {
+    match bench.step(alloc, session, &Command::Commit) {
+        Ok(receipt) => {
+            let is_refused = receipt.place == place
+                && matches!(
+                    receipt.outcome,
+                    Outcome::Refused(EngineFault::NoTransaction)
+                );
+            drop(receipt);
+            is_refused
+        }
+        Err(_) => false,
+    }
 }
 
 /// Whether a bench logs 100,000 such commits, and refuses each one more as Full, which comes at 100,000 events alone.
-fn fills<E: Engine + Drop>(alloc: Global, engine: E) -> Option<bool>
-    requires { E.events engine ≡ [] }
-{
-    let session = Session::new(1)?;
-    let mut bench = Bench::new(engine);
+fn is_filled(alloc: Global, bench: &mut Bench<LockEngine>, session: Session) -> bool {
     for place in 1..=100_000usize {
-        if !is_refused(alloc, &mut bench, session, place)? {
-            return Some(false);
+        if !is_refused(alloc, bench, session, place) {
+            return false;
         }
     }
     for _ in 0..2 {
         let fault = bench.step(alloc, session, &Command::Begin).err();
         if fault != Some(BenchFault::Full) {
-            return Some(false);
+            return false;
         }
     }
-    Some(bench.retryable().is_none() && !bench.is_waiting(session))
+    bench.retryable().is_none() && !bench.is_waiting(session)
+}
+
+/// The same of a bench that is new.
+fn fills(alloc: Global) -> bool {
+    let mut bench = Bench::new(LockEngine::new(alloc, Table::new(alloc)));
+    let fills = match Session::new(1) {
+        Some(session) => is_filled(alloc, &mut bench, session),
+        None => false,
+    };
+    drop(bench);
+    fills
 }
 
 #[test]
-fn a_full_log_of_the_locking_engine(rt: HostRuntime) -> Result<(), Fail> {
-    let alloc = rt.alloc();
-    let engine = LockEngine::new(alloc, Table::new(alloc));
-    assert_eq!(rt; fills(alloc, engine), Some(true));
-    Ok(())
-}
-
-#[test]
-fn a_full_log_of_the_committed_engine(rt: HostRuntime) -> Result<(), Fail> {
-    let alloc = rt.alloc();
-    let engine = CommittedEngine::new(alloc, Table::new(alloc));
-    assert_eq!(rt; fills(alloc, engine), Some(true));
-    Ok(())
-}
-
-#[test]
-fn a_full_log_of_the_snapshot_engine(rt: HostRuntime) -> Result<(), Fail> {
-    let alloc = rt.alloc();
-    let engine = SnapshotEngine::new(alloc, Table::new(alloc));
-    assert_eq!(rt; fills(alloc, engine), Some(true));
+fn a_full_log_takes_no_more(rt: HostRuntime) -> Result<(), Fail> {
+    assert!(rt; fills(rt.alloc()));
     Ok(())
 }
 

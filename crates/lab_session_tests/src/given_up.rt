@@ -72,9 +72,11 @@ fn who_waits_for_a_session_without_memory_ends(rt: HostRuntime) -> Result<(), Fa
     let fault = chain_fault(&rt, rt.alloc(), &gate);
     let events = gate.counts.events.load(Ordering::SeqCst);
     drop(gate);
-    assert_eq!(rt; fault, Some(PlayFault::NoMemory));
     // Eight up to the commit, and that each of the others is told Busy.
-    assert_eq!(rt; events, 10);
+    assert!(rt;
+        fault == Some(PlayFault::NoMemory) && events == 10,
+        "{fault:?}, {events}"
+    );
     Ok(())
 }
 
@@ -104,7 +106,9 @@ fn fill(lines: &mut Lines, session: Session) -> Result<(), NoMemory> {
 
 fn filling_script(alloc: Global) -> Option<Script> {
     let session = Session::new(3)?;
-    let mut script = parse_script(alloc, WAITING).ok()?;
+    let Ok(mut script) = parse_script(alloc, WAITING) else {
+        return None;
+    };
     if fill(&mut script.lines, session).is_err() {
         drop(script);
         return None;
@@ -176,7 +180,9 @@ fn who_waits_when_the_log_is_full_ends(rt: HostRuntime) -> Result<(), Fail> {
     let fault = filling_fault(&rt, rt.alloc(), &gate);
     let looked_behind = gate.counts.looked_behind.load(Ordering::SeqCst);
     drop(gate);
-    assert_eq!(rt; fault, Some(PlayFault::Full));
-    assert_eq!(rt; looked_behind, 100_000);
+    assert!(rt;
+        fault == Some(PlayFault::Full) && looked_behind == 100_000,
+        "{fault:?}"
+    );
     Ok(())
 }

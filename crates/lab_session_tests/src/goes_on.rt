@@ -1,13 +1,13 @@
 //! Commands that are refused memory before their event, and while they wait, and that go on then, in their lab or in
 //! another one.
 
+use crate::calls::{closed, log_of, resumed, setup_of, submitted, with_seat};
 use crate::instrumented::{Counts, Instrumented, Refusals, comes_to};
-use lab_engine::{EngineFault, Outcome};
+use lab_engine::{Engine, EngineFault, Outcome};
 use lab_locking::LockEngine;
-use lab_script::parse_script;
-use lab_session::{CloseFault, Lab, LabFault, Seat, print_log};
+use lab_session::{CloseFault, Lab, LabFault, Seat};
 use lab_statement::parse_statement;
-use lab_table::{Command, Session, Table};
+use lab_table::{Command, Session};
 use std::alloc::Global;
 use std::sync::atomic::{AtomicBool, Ordering};
 use std::sync::{Arc, Wait};
@@ -29,37 +29,145 @@ fn seen(flag: &AtomicBool) -> bool {
     false
 }
 
-/// The first of the first two updates of the listing of G0, or the second.
-fn update(alloc: Global, text: &[u8]) -> Option<Command> {
-    Some(Command::Run(parse_statement(alloc, text).ok()?))
-}
-
 const FIRST: &[u8] = b"update test set value = 11 where id = 1";
 
 const SECOND: &[u8] = b"update test set value = 12 where id = 1";
 
-/// Submits the first update.
-fn updates<R: Wait>(rt: &R, alloc: Global, lab: &Lab<Refusing>, seat: Seat) -> Option<Seat> {
-    let Some(command) = update(alloc, FIRST) else {
-        drop(seat);
-        return None;
-    };
-    lab.submit(rt, alloc, seat, command).ok()
+/// What is asked of a lab: a command, or that it goes on with what the seat holds.
+#[derive(Clone, Copy)]
+enum Ask {
+    Begin,
+    Update(&'static [u8]),
+    Commit,
+    Resume,
 }
 
-/// Commits once the other waits.
-fn commits<R: Wait>(
+/// What is asked, why it is refused, if it is, and what the seat has then: how many calls, and whether the last of them was
+/// told Busy.
+#[derive(Clone, Copy)]
+struct Step {
+    ask: Ask,
+    fault: Option<LabFault>,
+    calls: usize,
+    is_busy: bool,
+}
+
+macro_rules! due {
+    ($ask:expr, $fault:expr, $calls:expr, $is_busy:expr) => {
+        Step {
+            ask: $ask,
+            fault: $fault,
+            calls: $calls,
+            is_busy: $is_busy,
+        }
+    };
+}
+
+/// Session 1 begins and updates.
+const UPDATES: [Step; 2] = [
+    due!(Ask::Begin, None, 1, false),
+    due!(Ask::Update(FIRST), None, 2, false),
+];
+
+const COMMITS: [Step; 1] = [due!(Ask::Commit, None, 3, false)];
+
+const BEFORE: Option<LabFault> = Some(LabFault::NoMemory { waiting: false });
+
+const WHILE_WAITING: Option<LabFault> = Some(LabFault::NoMemory { waiting: true });
+
+const NOTHING: Option<LabFault> = Some(LabFault::NothingWaiting);
+
+/// Session 2 begins, and updates the same row as session 1: refused before its event, where there is nothing to go on with,
+/// and while it waits.
+const REFUSED: [Step; 4] = [
+    due!(Ask::Begin, None, 1, false),
+    due!(Ask::Update(SECOND), BEFORE, 1, false),
+    due!(Ask::Resume, NOTHING, 1, false),
+    due!(Ask::Update(SECOND), WHILE_WAITING, 1, false),
+];
+
+/// A commit while the update waits is told Busy, and the update goes on behind it.
+const BEHIND: [Step; 2] = [
+    due!(Ask::Commit, None, 2, true),
+    due!(Ask::Resume, None, 3, false),
+];
+
+/// In another lab, where its session isn't waiting, what the seat holds is stepped behind a begin, and then it holds
+/// nothing.
+const ELSEWHERE: [Step; 3] = [
+    due!(Ask::Begin, None, 2, false),
+    due!(Ask::Resume, None, 3, false),
+    due!(Ask::Resume, NOTHING, 3, false),
+];
+
+/// An update of a row, by its text.
+fn update(alloc: Global, text: &[u8]) -> Option<Command> {
+    match parse_statement(alloc, text) {
+        Ok(statement) => Some(Command::Run(statement)),
+        Err(_) => None,
+    }
+}
+
+/// The command that is asked; None where none is, or memory is refused.
+fn command_of(alloc: Global, ask: Ask) -> Option<Command> {
+    match ask {
+        Ask::Begin => Some(Command::Begin),
+        Ask::Update(text) => update(alloc, text),
+        Ask::Commit => Some(Command::Commit),
+        Ask::Resume => None,
+    }
+}
+
+/// Asks it. The seat, and why it was refused, if it was.
+fn ask_of<E: Engine + Drop, R: Wait>(
     rt: &R,
     alloc: Global,
-    lab: &Lab<Refusing>,
+    lab: &Lab<E>,
     seat: Seat,
-    counts: &Counts,
-) -> Option<Seat> {
-    if !comes_to(&counts.waits, 1) {
-        drop(seat);
-        return None;
+    ask: Ask,
+) -> (Seat, Option<LabFault>) {
+    match command_of(alloc, ask) {
+        Some(command) => submitted(rt, alloc, lab, seat, command),
+        None => resumed(rt, alloc, lab, seat),
     }
-    lab.submit(rt, alloc, seat, Command::Commit).ok()
+}
+
+fn is_told_busy(seat: &Seat) -> bool {
+    matches!(seat.reply(), Some(Outcome::Refused(EngineFault::Busy)))
+}
+
+/// Takes a step. The seat, if that came to what is due.
+fn taken<E: Engine + Drop, R: Wait>(
+    rt: &R,
+    alloc: Global,
+    lab: &Lab<E>,
+    seat: Seat,
+    step: Step,
+) -> Option<Seat> {
+    let (seat, fault) = ask_of(rt, alloc, lab, seat, step.ask);
+    if fault == step.fault
+        && seat.calls().len() == step.calls
+        && is_told_busy(&seat) == step.is_busy
+    {
+        return Some(seat);
+    }
+    drop(seat);
+    None
+}
+
+/// Takes these steps in order.
+fn all_taken<E: Engine + Drop, R: Wait>(
+    rt: &R,
+    alloc: Global,
+    lab: &Lab<E>,
+    seat: Seat,
+    steps: &[Step],
+) -> Option<Seat> {
+    let mut seat = seat;
+    for step in steps {
+        seat = taken(rt, alloc, lab, seat, *step)?;
+    }
+    Some(seat)
 }
 
 /// Begins, updates, and commits once the other waits.
@@ -71,67 +179,21 @@ fn first<R: Wait>(
     updated: &AtomicBool,
     counts: &Counts,
 ) -> Option<Seat> {
-    let seat = lab.submit(rt, alloc, seat, Command::Begin).ok()?;
-    let seat = updates(rt, alloc, lab, seat)?;
+    let seat = all_taken(rt, alloc, lab, seat, &UPDATES)?;
     updated.store(true, Ordering::SeqCst);
-    commits(rt, alloc, lab, seat, counts)
-}
-
-/// The seat that was handed back, where this was the fault and the seat has its begin alone.
-fn handed_back(refused: (Seat, LabFault), due: LabFault) -> Option<Seat> {
-    let (seat, fault) = refused;
-    if fault == due && seat.calls().len() == 1 {
-        Some(seat)
-    } else {
-        drop(seat);
-        None
-    }
-}
-
-/// Submits the second update, which is refused. The seat, where the command waits as this says.
-fn refused<R: Wait>(
-    rt: &R,
-    alloc: Global,
-    lab: &Lab<Refusing>,
-    seat: Seat,
-    waiting: bool,
-) -> Option<Seat> {
-    let Some(command) = update(alloc, SECOND) else {
+    if !comes_to(&counts.waits, 1) {
         drop(seat);
         return None;
-    };
-    let refused = lab.submit(rt, alloc, seat, command).err()?;
-    handed_back(refused, LabFault::NoMemory { waiting })
-}
-
-/// Refused before its event there is nothing to go on with.
-fn refused_before<R: Wait>(rt: &R, alloc: Global, lab: &Lab<Refusing>, seat: Seat) -> Option<Seat> {
-    let seat = refused(rt, alloc, lab, seat, false)?;
-    let refused = lab.resume(rt, alloc, seat).err()?;
-    handed_back(refused, LabFault::NothingWaiting)
-}
-
-/// A commit while the update waits is told Busy.
-fn told_busy<R: Wait>(rt: &R, alloc: Global, lab: &Lab<Refusing>, seat: Seat) -> Option<Seat> {
-    let seat = lab.submit(rt, alloc, seat, Command::Commit).ok()?;
-    if matches!(seat.reply(), Some(Outcome::Refused(EngineFault::Busy))) {
-        Some(seat)
-    } else {
-        drop(seat);
-        None
     }
-}
-
-/// It goes on behind a command that is told Busy.
-fn goes_on_behind<R: Wait>(rt: &R, alloc: Global, lab: &Lab<Refusing>, seat: Seat) -> Option<Seat> {
-    let seat = told_busy(rt, alloc, lab, seat)?;
-    lab.resume(rt, alloc, seat).ok()
+    all_taken(rt, alloc, lab, seat, &COMMITS)
 }
 
 /// A lab of its own over the same table, where nothing waits.
 fn other_lab(alloc: Global) -> Option<Lab<LockEngine>> {
-    let engine = LockEngine::new(alloc, setup(alloc)?);
-    let (lab, seats) = Lab::start(alloc, engine, 2).ok()?;
+    let engine = LockEngine::new(alloc, setup_of(alloc, SETUP)?);
+    let Ok((lab, seats)) = Lab::start(alloc, engine, 2) else {
+        return None;
+    };
     drop(seats);
     Some(lab)
 }
@@ -151,56 +213,24 @@ fn has_gone_on(alloc: Global, seat: &Seat) -> Option<bool> {
     Some(is_as_due)
 }
 
-/// The seat that was handed back where nothing was held, if its calls are as they are due.
-fn at_rest(alloc: Global, refused: (Seat, LabFault)) -> Option<Seat> {
-    let (seat, fault) = refused;
-    if fault == LabFault::NothingWaiting && has_gone_on(alloc, &seat) == Some(true) {
-        Some(seat)
-    } else {
-        drop(seat);
-        None
-    }
-}
-
-/// Submits a begin, goes on with what the seat holds, and then holds nothing.
-fn stepped_in<R: Wait>(rt: &R, alloc: Global, lab: &Lab<LockEngine>, seat: Seat) -> Option<Seat> {
-    let seat = lab.submit(rt, alloc, seat, Command::Begin).ok()?;
-    let seat = lab.resume(rt, alloc, seat).ok()?;
-    let refused = lab.resume(rt, alloc, seat).err()?;
-    at_rest(alloc, refused)
-}
-
-/// In another lab, where its session isn't waiting, what the seat holds is stepped.
+/// Goes on in another lab.
 fn goes_on_elsewhere<R: Wait>(rt: &R, alloc: Global, seat: Seat) -> Option<Seat> {
     let Some(lab) = other_lab(alloc) else {
         drop(seat);
         return None;
     };
-    let seat = stepped_in(rt, alloc, &lab, seat);
+    let seat = all_taken(rt, alloc, &lab, seat, &ELSEWHERE);
     drop(lab);
-    seat
-}
-
-/// Begins, and updates the same row as the other: refused before its event, and while it waits. It goes on in this lab or
-/// in another one.
-fn updates_too<R: Wait>(
-    rt: &R,
-    alloc: Global,
-    lab: &Lab<Refusing>,
-    seat: Seat,
-    elsewhere: bool,
-) -> Option<Seat> {
-    let seat = lab.submit(rt, alloc, seat, Command::Begin).ok()?;
-    let seat = refused_before(rt, alloc, lab, seat)?;
-    let seat = refused(rt, alloc, lab, seat, true)?;
-    if elsewhere {
-        goes_on_elsewhere(rt, alloc, seat)
-    } else {
-        goes_on_behind(rt, alloc, lab, seat)
+    let seat = seat?;
+    if has_gone_on(alloc, &seat) == Some(true) {
+        return Some(seat);
     }
+    drop(seat);
+    None
 }
 
-/// The same once the other has updated.
+/// Begins once the other has updated, and updates the same row: refused before its event, and while it waits. It goes on in
+/// this lab or in another one.
 fn second<R: Wait>(
     rt: &R,
     alloc: Global,
@@ -213,7 +243,12 @@ fn second<R: Wait>(
         drop(seat);
         return None;
     }
-    updates_too(rt, alloc, lab, seat, elsewhere)
+    let seat = all_taken(rt, alloc, lab, seat, &REFUSED)?;
+    if elsewhere {
+        goes_on_elsewhere(rt, alloc, seat)
+    } else {
+        all_taken(rt, alloc, lab, seat, &BEHIND)
+    }
 }
 
 /// Neither want of memory left an event, and Busy left what waits.
@@ -226,10 +261,7 @@ T2 commit: refused Busy
 T2 update test set value = 12 where id = 1: rows (1, 11)
 ";
 
-fn setup(alloc: Global) -> Option<Table> {
-    let script = parse_script(alloc, b"setup (1, 10), (2, 20)").ok()?;
-    Some(script.setup)
-}
+const SETUP: &[u8] = b"setup (1, 10), (2, 20)";
 
 /// A lab whose session 2 is refused its first statement, and which is refused its first retry.
 fn lab_of_two(alloc: Global, counts: Arc<Counts, Global>) -> Option<(Lab<Refusing>, Vec<Seat>)> {
@@ -238,7 +270,7 @@ fn lab_of_two(alloc: Global, counts: Arc<Counts, Global>) -> Option<(Lab<Refusin
         statement: Session::new(2),
         retries: 1,
     };
-    let Some(setup) = setup(alloc) else {
+    let Some(setup) = setup_of(alloc, SETUP) else {
         drop(counts);
         return None;
     };
@@ -254,7 +286,7 @@ fn two(seats: &mut Vec<Seat>) -> Option<(Seat, Seat)> {
 
 /// The same after a close that was refused for want of seats.
 fn unclosed(alloc: Global, lab: Lab<Refusing>) -> Option<Lab<Refusing>> {
-    let (lab, none, fault) = lab.close(alloc, Vec::new(alloc)).err()?;
+    let (lab, none, fault) = closed(alloc, lab, Vec::new(alloc)).err()?;
     drop(none);
     if matches!(fault, CloseFault::SeatMissing { .. }) {
         Some(lab)
@@ -280,33 +312,14 @@ fn started(alloc: Global, counts: &Arc<Counts, Global>) -> Option<(Lab<Refusing>
     Some((lab, ours, theirs))
 }
 
-/// The seats, and a further one.
-fn with_seat(seats: Vec<Seat>, seat: Seat) -> Option<Vec<Seat>> {
-    let mut seats = seats;
-    if seats.push(seat).ok().is_none() {
-        drop(seats);
-        return None;
-    }
-    Some(seats)
-}
-
-/// The seats of both, where session 2's has its begin, its commit that was told Busy, and its update.
-fn pair(alloc: Global, ours: Seat, theirs: Seat) -> Option<Vec<Seat>> {
-    if theirs.calls().len() != 3 {
-        drop(ours);
-        drop(theirs);
-        return None;
-    }
+/// The seats of both.
+fn both(alloc: Global, ours: Option<Seat>, theirs: Option<Seat>) -> Option<Vec<Seat>> {
+    let (ours, theirs) = ours.zip(theirs)?;
     let Some(seats) = with_seat(Vec::new(alloc), ours) else {
         drop(theirs);
         return None;
     };
     with_seat(seats, theirs)
-}
-
-fn both(alloc: Global, ours: Option<Seat>, theirs: Option<Seat>) -> Option<Vec<Seat>> {
-    let (ours, theirs) = ours.zip(theirs)?;
-    pair(alloc, ours, theirs)
 }
 
 /// The text of the log of a lab that is closed with the seats of both.
@@ -320,10 +333,7 @@ fn logged(
         drop(lab);
         return None;
     };
-    let recording = lab.close(alloc, seats).ok()?;
-    let text = print_log(alloc, &recording).ok();
-    drop(recording);
-    text
+    log_of(alloc, closed(alloc, lab, seats).ok()?)
 }
 
 /// Whether a run came to what is due: its log, or where session 2 went on in another lab that both sessions have gone on.

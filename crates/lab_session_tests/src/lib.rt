@@ -5,7 +5,7 @@
 #![tactic(auto)]
 
 #[cfg(test)]
-mod again;
+mod calls;
 #[cfg(test)]
 mod ends;
 #[cfg(test)]
@@ -21,10 +21,9 @@ mod goes_on;
 #[cfg(test)]
 mod instrumented;
 #[cfg(test)]
+mod listings;
+#[cfg(test)]
 mod meeting;
-#[cfg(test)]
-#[cfg(test)]
-mod refused;
 #[cfg(test)]
 mod runs;
 #[cfg(test)]

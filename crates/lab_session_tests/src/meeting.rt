@@ -62,7 +62,9 @@ fn events<R: Threads + Wait + Sync>(
     text: &[u8],
     gate: &Meeting,
 ) -> Option<usize> {
-    let script = parse_script(alloc, text).ok()?;
+    let Ok(script) = parse_script(alloc, text) else {
+        return None;
+    };
     let played = played(rt, alloc, &script, gate);
     drop(script);
     let recording = played?;
@@ -72,7 +74,7 @@ fn events<R: Threads + Wait + Sync>(
 }
 
 /// Scripts by their number of sessions, each of which begins.
-const ALL_BEGIN: [(u32, &[u8]); 3] = [
+static ALL_BEGIN: [(u32, &[u8]); 3] = [
     (2, b"setup ();\nbegin; -- T1\nbegin; -- T2\n"),
     (3, b"setup ();\nbegin; -- T4\nbegin; -- T6\nbegin; -- T9\n"),
     (
@@ -93,18 +95,18 @@ begin; -- T9
 
 #[test]
 fn all_threads_are_in_their_first_command_at_once(rt: HostRuntime) -> Result<(), Fail> {
-    for (sessions, text) in ALL_BEGIN {
+    for (sessions, text) in &ALL_BEGIN {
         let gate = Meeting {
-            sessions,
+            sessions: *sessions,
             here: AtomicU32::new(0),
             missed: AtomicBool::new(false),
         };
         let events = events(&rt, rt.alloc(), text, &gate);
         let missed = gate.missed.load(Ordering::SeqCst);
         drop(gate);
-        assert!(rt; !missed, "{sessions} sessions");
         // A begin of each, and the aborts of what is left active.
-        assert_eq!(rt; events, Some(2 * sessions as usize), "{sessions} sessions");
+        let due = Some(2 * *sessions as usize);
+        assert!(rt; !missed && events == due, "{sessions} sessions: {events:?}");
     }
     Ok(())
 }

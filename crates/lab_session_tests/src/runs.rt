@@ -3,146 +3,47 @@
 
 ghost use Rattle.std.specs.Prelude.{◌≡◌, []};
 
+use crate::calls::{asked, closed, log_of, submitted};
+use crate::listings::{LATE, LATE_LOG, RUNS};
 use lab_engine::{Engine, Level, Recording};
 use lab_levels::on_engine;
 use lab_refusal_tests::{refuse, was_refused};
 use lab_script::{Line, Script, parse_script};
-use lab_session::{CloseFault, Lab, LabFault, Seat, print_log};
-use lab_table::{Command, Table};
+use lab_session::{CloseFault, Lab, LabFault, Seat};
+use lab_table::Command;
 use std::alloc::Global;
 use std::sync::Wait;
 use std::test::Fail;
 
-const PREDICATE: &[u8] = b"setup (1, 10), (2, 20);
-begin; -- T1
-begin; -- T2
-select * from test where value = 20; -- T2
-update test set value = value + 10 where id = 1; -- T1
-commit; -- T2
-commit; -- T1
-";
-
-const PREDICATE_LOG: &[u8] = b"T1 begin: begun 1
-T2 begin: begun 2
-T2 select * from test where value = 20: rows (2, 20)
-T1 update test set value = value + 10 where id = 1: rows (1, 10)
-T2 commit: committed
-T1 commit: committed
-";
-
-/// The listing of G1b.
-const INTERMEDIATE: &[u8] = b"setup (1, 10), (2, 20);
-begin; -- T1
-begin; -- T2
-update test set value = 101 where id = 1; -- T1
-select * from test; -- T2
-update test set value = 11 where id = 1; -- T1
-commit; -- T1
-select * from test; -- T2
-commit; -- T2
-";
-
-const INTERMEDIATE_COMMITTED: &[u8] = b"T1 begin: begun 1
-T2 begin: begun 2
-T1 update test set value = 101 where id = 1: rows (1, 10)
-T2 select * from test: rows (1, 10), (2, 20)
-T1 update test set value = 11 where id = 1: rows (1, 101)
-T1 commit: committed
-T2 select * from test: rows (1, 11), (2, 20)
-T2 commit: committed
-";
-
-const INTERMEDIATE_SNAPSHOT: &[u8] = b"T1 begin: begun 1
-T2 begin: begun 2
-T1 update test set value = 101 where id = 1: rows (1, 10)
-T2 select * from test: rows (1, 10), (2, 20)
-T1 update test set value = 11 where id = 1: rows (1, 101)
-T1 commit: committed
-T2 select * from test: rows (1, 10), (2, 20)
-T2 commit: committed
-";
-
-const INTERMEDIATE_OPTIMISTIC: &[u8] = b"T1 begin: begun 1
-T2 begin: begun 2
-T1 update test set value = 101 where id = 1: rows (1, 10)
-T2 select * from test: rows (1, 10), (2, 20)
-T1 update test set value = 11 where id = 1: rows (1, 101)
-T1 commit: committed
-T2 select * from test: rows (1, 10), (2, 20)
-T2 commit: refused ReadConflict row 1 by 1
-";
-
-/// The listing of G1c.
-const CIRCULAR: &[u8] = b"setup (1, 10), (2, 20);
-begin; -- T1
-begin; -- T2
-update test set value = 11 where id = 1; -- T1
-update test set value = 22 where id = 2; -- T2
-select * from test where id = 2; -- T1
-select * from test where id = 1; -- T2
-commit; -- T1
-commit; -- T2
-";
-
-const CIRCULAR_LOG: &[u8] = b"T1 begin: begun 1
-T2 begin: begun 2
-T1 update test set value = 11 where id = 1: rows (1, 10)
-T2 update test set value = 22 where id = 2: rows (2, 20)
-T1 select * from test where id = 2: rows (2, 20)
-T2 select * from test where id = 1: rows (1, 10)
-T1 commit: committed
-T2 commit: committed
-";
-
-const CIRCULAR_OPTIMISTIC: &[u8] = b"T1 begin: begun 1
-T2 begin: begun 2
-T1 update test set value = 11 where id = 1: rows (1, 10)
-T2 update test set value = 22 where id = 2: rows (2, 20)
-T1 select * from test where id = 2: rows (2, 20)
-T2 select * from test where id = 1: rows (1, 10)
-T1 commit: committed
-T2 commit: refused ReadConflict row 1 by 1
-";
-
-const ALONE: &[u8] = b"setup (1, 10);
-begin; -- T1
-update test set value = value + 1 where id = 1; -- T1
-commit; -- T1
-";
-
-const ALONE_LOG: &[u8] = b"T1 begin: begun 1
-T1 update test set value = value + 1 where id = 1: rows (1, 10)
-T1 commit: committed
-";
-
-/// The runs: the level, the script and its log.
-const RUNS: [(Level, &[u8], &[u8]); 13] = [
-    (Level::Committed, PREDICATE, PREDICATE_LOG),
-    (Level::Snapshot, PREDICATE, PREDICATE_LOG),
-    (Level::Committed, INTERMEDIATE, INTERMEDIATE_COMMITTED),
-    (Level::Snapshot, INTERMEDIATE, INTERMEDIATE_SNAPSHOT),
-    (Level::Committed, CIRCULAR, CIRCULAR_LOG),
-    (Level::Snapshot, CIRCULAR, CIRCULAR_LOG),
-    (Level::Locking, ALONE, ALONE_LOG),
-    (Level::Committed, ALONE, ALONE_LOG),
-    (Level::Snapshot, ALONE, ALONE_LOG),
-    (Level::Optimistic, PREDICATE, PREDICATE_LOG),
-    (Level::Optimistic, INTERMEDIATE, INTERMEDIATE_OPTIMISTIC),
-    (Level::Optimistic, CIRCULAR, CIRCULAR_OPTIMISTIC),
-    (Level::Optimistic, ALONE, ALONE_LOG),
-];
-
-/// An allocation of a call: the call's place in the run, and which of its allocations, or none at 0.
+/// An allocation of a call: the call's place in the run, where 0 is the lab's start, and which of its allocations, or none
+/// at 0. And whether the seats are handed in by falling sessions.
 #[derive(Clone, Copy)]
-struct Refused {
+pub struct Refused {
     call: usize,
     growth: u16,
+    falling: bool,
 }
+
+/// Nothing is refused.
+pub const NOTHING: Refused = Refused {
+    call: 0,
+    growth: 0,
+    falling: false,
+};
 
 impl Refused {
     /// What is refused at a call.
     fn at(self, call: usize) -> u16 {
         if call == self.call { self.growth } else { 0 }
+    }
+
+    /// The same run with nothing refused.
+    fn without(self) -> Refused {
+        Refused {
+            call: self.call,
+            growth: 0,
+            falling: self.falling,
+        }
     }
 }
 
@@ -151,24 +52,20 @@ fn submitted_again<E: Engine + Drop, R: Wait>(
     rt: &R,
     alloc: Global,
     lab: &Lab<E>,
-    refused: (Seat, LabFault),
-    calls: usize,
+    seat: Seat,
     command: &Command,
 ) -> Option<Seat> {
-    let (seat, fault) = refused;
-    if fault != (LabFault::NoMemory { waiting: false }) || seat.calls().len() != calls {
-        drop(seat);
-        return None;
+    match command.copy(alloc) {
+        Ok(command) => asked(rt, alloc, lab, seat, command),
+        Err(_) => {
+            drop(seat);
+            None
+        }
     }
-    let Ok(command) = command.copy(alloc) else {
-        drop(seat);
-        return None;
-    };
-    lab.submit(rt, alloc, seat, command).ok()
 }
 
 /// Submits a command with this allocation refused, and where it had no memory once more. And whether one was refused.
-fn submitted<E: Engine + Drop, R: Wait>(
+fn submitted_at_last<E: Engine + Drop, R: Wait>(
     rt: &R,
     alloc: Global,
     lab: &Lab<E>,
@@ -183,17 +80,18 @@ fn submitted<E: Engine + Drop, R: Wait>(
     };
     let calls = seat.calls().len();
     refuse(alloc, growth);
-    let made = lab.submit(rt, alloc, seat, copy);
+    let (seat, fault) = submitted(rt, alloc, lab, seat, copy);
     let refused = was_refused(alloc);
     *was = *was || refused;
-    match made {
-        Ok(seat) => Some(seat),
-        Err(handed) if refused => submitted_again(rt, alloc, lab, handed, calls, command),
-        Err(handed) => {
-            drop(handed);
-            None
-        }
+    if fault.is_none() {
+        return Some(seat);
     }
+    let is_as_it_was = seat.calls().len() == calls;
+    if !refused || fault != Some(LabFault::NoMemory { waiting: false }) || !is_as_it_was {
+        drop(seat);
+        return None;
+    }
+    submitted_again(rt, alloc, lab, seat, command)
 }
 
 /// The same of a line, by its session's seat.
@@ -211,12 +109,12 @@ fn line_submitted<E: Engine + Drop, R: Wait>(
         return None;
     }
     let seat = seats.remove(place);
-    let seat = submitted(rt, alloc, lab, seat, &line.command, growth, was)?;
+    let seat = submitted_at_last(rt, alloc, lab, seat, &line.command, growth, was)?;
     seats.insert(place, seat).ok()
 }
 
 /// The same of all lines, the first of which is call 1.
-fn all_submitted<E: Engine + Drop, R: Wait>(
+pub fn all_submitted<E: Engine + Drop, R: Wait>(
     rt: &R,
     alloc: Global,
     lab: &Lab<E>,
@@ -232,22 +130,8 @@ fn all_submitted<E: Engine + Drop, R: Wait>(
     Some(())
 }
 
-/// Closes a lab once more, where it was refused for want of memory.
-fn closed_again<E: Engine + Drop>(
-    alloc: Global,
-    refused: (Lab<E>, Vec<Seat>, CloseFault),
-) -> Option<Recording> {
-    let (lab, seats, fault) = refused;
-    if fault != CloseFault::NoMemory {
-        drop(lab);
-        drop(seats);
-        return None;
-    }
-    lab.close(alloc, seats).ok()
-}
-
 /// Closes a lab with this allocation refused, and where it had no memory once more. And whether one was refused.
-fn closed<E: Engine + Drop>(
+fn closed_at_last<E: Engine + Drop>(
     alloc: Global,
     lab: Lab<E>,
     seats: Vec<Seat>,
@@ -255,38 +139,64 @@ fn closed<E: Engine + Drop>(
     was: &mut bool,
 ) -> Option<Recording> {
     refuse(alloc, growth);
-    let made = lab.close(alloc, seats);
+    let made = closed(alloc, lab, seats);
     let refused = was_refused(alloc);
     *was = *was || refused;
     match made {
         Ok(recording) => Some(recording),
-        Err(handed) if refused => closed_again(alloc, handed),
-        Err(handed) => {
-            drop(handed);
-            None
+        Err((lab, seats, fault)) => {
+            if !refused || fault != CloseFault::NoMemory {
+                drop(lab);
+                drop(seats);
+                return None;
+            }
+            closed(alloc, lab, seats).ok()
         }
     }
 }
 
-/// The recording of a run in a lab of two sessions. Its close is the call behind the last line.
+/// What a run has met: whether an allocation was refused, and whether its lab was started.
+#[derive(Clone, Copy)]
+struct Met {
+    refused: bool,
+    started: bool,
+}
+
+const NOT_STARTED: Met = Met {
+    refused: false,
+    started: false,
+};
+
+/// The recording of a run in a lab of two sessions. Its start is call 0, and its close the call behind the last line.
 fn recorded<E: Engine + Drop, R: Wait>(
     rt: &R,
     alloc: Global,
     engine: E,
     lines: &[Line],
     refused: Refused,
-    was: &mut bool,
+    met: &mut Met,
 ) -> Option<Recording>
     requires { E.events engine ≡ [] }
 {
-    let (lab, mut seats) = Lab::start(alloc, engine, 2).ok()?;
-    if all_submitted(rt, alloc, &lab, &mut seats, lines, refused, was).is_none() {
+    refuse(alloc, refused.at(0));
+    let made = Lab::start(alloc, engine, 2);
+    met.refused = was_refused(alloc);
+    let Ok((lab, mut seats)) = made else {
+        return None;
+    };
+    met.started = true;
+    let was = &mut met.refused;
+    let submitted = all_submitted(rt, alloc, &lab, &mut seats, lines, refused, was);
+    if submitted.is_none() {
         drop(lab);
         drop(seats);
         return None;
     }
+    if refused.falling {
+        seats.reverse();
+    }
     let growth = refused.at(lines.len().saturating_add(1));
-    closed(alloc, lab, seats, growth, was)
+    closed_at_last(alloc, lab, seats, growth, was)
 }
 
 /// The same on the engine of a level.
@@ -294,17 +204,38 @@ fn recorded_at<R: Wait>(
     rt: &R,
     alloc: Global,
     level: Level,
-    setup: Table,
-    lines: &[Line],
+    script: &Script,
     refused: Refused,
-    was: &mut bool,
+    met: &mut Met,
 ) -> Option<Recording> {
+    let Ok(setup) = script.setup.copy(alloc) else {
+        return None;
+    };
+    let lines = script.lines.as_slice();
     on_engine!(
         level,
         alloc,
         setup,
-        |engine| recorded(rt, alloc, engine, lines, refused, was)
+        |engine| recorded(rt, alloc, engine, lines, refused, met)
     )
+}
+
+/// The same, and where the lab had no memory to start once more.
+fn recorded_again<R: Wait>(
+    rt: &R,
+    alloc: Global,
+    level: Level,
+    script: &Script,
+    refused: Refused,
+    met: &mut Met,
+) -> Option<Recording> {
+    let recording = recorded_at(rt, alloc, level, script, refused, met);
+    if met.started || !met.refused {
+        return recording;
+    }
+    drop(recording);
+    let mut again = NOT_STARTED;
+    recorded_at(rt, alloc, level, script, refused.without(), &mut again)
 }
 
 /// Whether an allocation was refused in a run of a script; None where its log isn't what is due.
@@ -316,14 +247,10 @@ fn refused_once<R: Wait>(
     due: &[u8],
     refused: Refused,
 ) -> Option<bool> {
-    let mut was = false;
-    let setup = script.setup.copy(alloc).ok()?;
-    let lines = script.lines.as_slice();
-    let recording = recorded_at(rt, alloc, level, setup, lines, refused, &mut was)?;
-    let text = print_log(alloc, &recording).ok();
-    drop(recording);
-    if text?.as_slice() == due {
-        Some(was)
+    let mut met = NOT_STARTED;
+    let recording = recorded_again(rt, alloc, level, script, refused, &mut met)?;
+    if log_of(alloc, recording)?.as_slice() == due {
+        Some(met.refused)
     } else {
         None
     }
@@ -339,9 +266,15 @@ fn is_right_at<R: Wait>(
     script: &Script,
     due: &[u8],
     call: usize,
+    falling: bool,
 ) -> bool {
     for growth in 1..MOST_GROWTHS {
-        match refused_once(rt, alloc, level, script, due, Refused { call, growth }) {
+        let refused = Refused {
+            call,
+            growth,
+            falling,
+        };
+        match refused_once(rt, alloc, level, script, due, refused) {
             Some(true) => {}
             Some(false) => return true,
             None => return false,
@@ -357,11 +290,14 @@ fn first_wrong<R: Wait>(
     level: Level,
     text: &[u8],
     due: &[u8],
+    falling: bool,
 ) -> Option<Option<usize>> {
-    let script = parse_script(alloc, text).ok()?;
+    let Ok(script) = parse_script(alloc, text) else {
+        return None;
+    };
     let mut wrong = None;
-    for call in 1..script.lines.as_slice().len().saturating_add(2) {
-        if !is_right_at(rt, alloc, level, &script, due, call) {
+    for call in 0..script.lines.as_slice().len().saturating_add(2) {
+        if !is_right_at(rt, alloc, level, &script, due, call, falling) {
             wrong = Some(call);
             break;
         }
@@ -372,9 +308,16 @@ fn first_wrong<R: Wait>(
 
 #[test]
 fn a_run_that_is_refused_memory_goes_on(rt: HostRuntime) -> Result<(), Fail> {
-    for (level, text, due) in RUNS {
-        let wrong = first_wrong(&rt, rt.alloc(), level, text, due);
+    for (level, text, due) in &RUNS {
+        let wrong = first_wrong(&rt, rt.alloc(), *level, text, due, false);
         assert_eq!(rt; wrong, Some(None), "{level:?}");
     }
+    Ok(())
+}
+
+#[test]
+fn a_lab_that_is_refused_memory_is_as_before(rt: HostRuntime) -> Result<(), Fail> {
+    let wrong = first_wrong(&rt, rt.alloc(), Level::Locking, LATE, LATE_LOG, true);
+    assert_eq!(rt; wrong, Some(None));
     Ok(())
 }

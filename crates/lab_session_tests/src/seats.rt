@@ -1,10 +1,9 @@
 //! Seats that a lab isn't closed with.
 
+use crate::calls::{asked, closed, resumed, setup_of, with_seat};
 use crate::engines::QuietEngine;
 use lab_session::{CloseFault, Lab, LabFault, Seat};
-use lab_table::{
-    Command, RowId, RowName, Session, Statement, StatementKind, Table, TableName, Value,
-};
+use lab_table::{Command, Session, Statement, StatementKind, Table, TableName};
 use std::alloc::Global;
 use std::sync::Wait;
 use std::test::Fail;
@@ -16,7 +15,7 @@ fn refused(
     seats: Vec<Seat>,
     due: CloseFault,
 ) -> Option<(Lab<QuietEngine>, Vec<Seat>)> {
-    let (lab, seats, fault) = lab.close(alloc, seats).err()?;
+    let (lab, seats, fault) = closed(alloc, lab, seats).err()?;
     if fault == due {
         Some((lab, seats))
     } else {
@@ -48,8 +47,8 @@ fn taken_out<R: Wait>(
     seats: &mut Vec<Seat>,
 ) -> Option<Seat> {
     let seat = seats.pop()?;
-    let (seat, fault) = lab.resume(rt, alloc, seat).err()?;
-    if fault == LabFault::NothingWaiting {
+    let (seat, fault) = resumed(rt, alloc, lab, seat);
+    if fault == Some(LabFault::NothingWaiting) {
         Some(seat)
     } else {
         drop(seat);
@@ -58,17 +57,15 @@ fn taken_out<R: Wait>(
 }
 
 /// Whether a lab is closed with these seats and a further one.
-fn closes_with(alloc: Global, lab: Lab<QuietEngine>, seats: Vec<Seat>, seat: Seat) -> Option<bool> {
-    let mut seats = seats;
-    if seats.push(seat).ok().is_none() {
+fn closes_with(alloc: Global, lab: Lab<QuietEngine>, seats: Vec<Seat>, seat: Seat) -> bool {
+    let Some(seats) = with_seat(seats, seat) else {
         drop(lab);
-        drop(seats);
-        return None;
-    }
-    let closed = lab.close(alloc, seats);
-    let is_closed = closed.is_ok();
-    drop(closed);
-    Some(is_closed)
+        return false;
+    };
+    let made = closed(alloc, lab, seats);
+    let is_closed = made.is_ok();
+    drop(made);
+    is_closed
 }
 
 /// Whether a lab isn't closed without this seat, which is this fault, and is with it.
@@ -78,22 +75,25 @@ fn closes_with_both(
     seats: Vec<Seat>,
     seat: Seat,
     missing: CloseFault,
-) -> Option<bool> {
-    let Some((lab, seats)) = refused(alloc, lab, seats, missing) else {
-        drop(seat);
-        return None;
-    };
-    closes_with(alloc, lab, seats, seat)
+) -> bool {
+    match refused(alloc, lab, seats, missing) {
+        Some((lab, seats)) => closes_with(alloc, lab, seats, seat),
+        None => {
+            drop(seat);
+            false
+        }
+    }
 }
 
-/// The same of session 2's seat in a lab that asked nothing.
-fn closes_later<R: Wait>(rt: &R, alloc: Global) -> Option<bool> {
-    let session = Session::new(2)?;
-    let (lab, mut seats) = resting(alloc)?;
+/// The same of this session's seat in a lab of two that asked nothing, of which it is the second.
+fn closes_later<R: Wait>(rt: &R, alloc: Global, session: Session) -> bool {
+    let Some((lab, mut seats)) = resting(alloc) else {
+        return false;
+    };
     let Some(second) = taken_out(rt, alloc, &lab, &mut seats) else {
         drop(lab);
         drop(seats);
-        return None;
+        return false;
     };
     let missing = CloseFault::SeatMissing { session };
     closes_with_both(alloc, lab, seats, second, missing)
@@ -101,52 +101,43 @@ fn closes_later<R: Wait>(rt: &R, alloc: Global) -> Option<bool> {
 
 #[test]
 fn a_missing_seat_is_handed_in_later(rt: HostRuntime) -> Result<(), Fail> {
-    assert_eq!(rt; closes_later(&rt, rt.alloc()), Some(true));
+    let session = Session::new(2).ok_or("a session")?;
+    assert!(rt; closes_later(&rt, rt.alloc(), session));
     Ok(())
 }
 
-/// A table that has row 1 with this value.
-fn table_of(alloc: Global, value: i64) -> Option<Table> {
-    let row = RowName::in_test(RowId::new(1)?);
-    let value = Value::new(value)?;
-    let mut table = Table::new(alloc);
-    if table.add(alloc, row, value).ok().is_none() {
-        drop(table);
-        return None;
-    }
-    Some(table)
-}
-
-/// A lab of one session over such a table, and its seat.
-fn lab_of(alloc: Global, value: i64) -> Option<(Lab<QuietEngine>, Vec<Seat>)> {
-    let engine = QuietEngine::new(alloc, table_of(alloc, value)?);
+/// A lab of one session over a table, and its seat.
+fn lab_of(alloc: Global, setup: &[u8]) -> Option<(Lab<QuietEngine>, Vec<Seat>)> {
+    let engine = QuietEngine::new(alloc, setup_of(alloc, setup)?);
     Lab::start(alloc, engine, 1).ok()
 }
 
-/// Submits a select of all rows.
-fn selected<R: Wait>(rt: &R, alloc: Global, lab: &Lab<QuietEngine>, seat: Seat) -> Option<Seat> {
-    let select = Command::Run(Statement {
-        table: TableName::test(),
-        kind: StatementKind::Select { pred: None },
-    });
-    lab.submit(rt, alloc, seat, select).ok()
-}
+const TEN: &[u8] = b"setup (1, 10)";
 
-/// A begin and a select by the last seat.
+const TWENTY: &[u8] = b"setup (1, 20)";
+
+/// A begin and a select of all rows by the last seat.
 fn looked<R: Wait>(
     rt: &R,
     alloc: Global,
     lab: &Lab<QuietEngine>,
     seats: &mut Vec<Seat>,
 ) -> Option<()> {
-    let seat = lab.submit(rt, alloc, seats.pop()?, Command::Begin).ok()?;
-    let seat = selected(rt, alloc, lab, seat)?;
-    seats.push(seat).ok()
+    let seat = asked(rt, alloc, lab, seats.pop()?, Command::Begin)?;
+    let select = Command::Run(Statement {
+        table: TableName::test(),
+        kind: StatementKind::Select { pred: None },
+    });
+    seats.push(asked(rt, alloc, lab, seat, select)?).ok()
 }
 
 /// A lab of one session over such a table, and its seat, after a begin and a select.
-fn looked_at<R: Wait>(rt: &R, alloc: Global, value: i64) -> Option<(Lab<QuietEngine>, Vec<Seat>)> {
-    let (lab, mut seats) = lab_of(alloc, value)?;
+fn looked_at<R: Wait>(
+    rt: &R,
+    alloc: Global,
+    setup: &[u8],
+) -> Option<(Lab<QuietEngine>, Vec<Seat>)> {
+    let (lab, mut seats) = lab_of(alloc, setup)?;
     if looked(rt, alloc, &lab, &mut seats).is_none() {
         drop(lab);
         drop(seats);
@@ -156,26 +147,22 @@ fn looked_at<R: Wait>(rt: &R, alloc: Global, value: i64) -> Option<(Lab<QuietEng
 }
 
 /// The seat of a lab of its own over such a table, after a begin and a select.
-fn foreign<R: Wait>(rt: &R, alloc: Global, value: i64) -> Option<Vec<Seat>> {
-    let (lab, seats) = looked_at(rt, alloc, value)?;
+fn foreign<R: Wait>(rt: &R, alloc: Global, setup: &[u8]) -> Option<Vec<Seat>> {
+    let (lab, seats) = looked_at(rt, alloc, setup)?;
     drop(lab);
     Some(seats)
 }
 
 /// The seats, and the last one of others.
 fn with_last(seats: Vec<Seat>, others: Vec<Seat>) -> Option<Vec<Seat>> {
-    let (mut seats, mut others) = (seats, others);
+    let mut others = others;
     let last = others.pop();
     drop(others);
     let Some(seat) = last else {
         drop(seats);
         return None;
     };
-    if seats.push(seat).ok().is_none() {
-        drop(seats);
-        return None;
-    }
-    Some(seats)
+    with_seat(seats, seat)
 }
 
 /// Whether a close of a lab of this one session is refused with a foreign seat alone since its second receipt differs, and
@@ -186,55 +173,63 @@ fn is_refused_twice(
     lab: Lab<QuietEngine>,
     own: Vec<Seat>,
     foreign: Vec<Seat>,
-) -> Option<bool> {
+) -> bool {
     let differs = CloseFault::ReceiptDiffers { session, place: 2 };
     let Some((lab, seats)) = refused(alloc, lab, foreign, differs) else {
         drop(own);
-        return None;
+        return false;
     };
-    let Some(seats) = with_last(seats, own) else {
-        drop(lab);
-        return None;
-    };
-    Some(is_refused(alloc, lab, seats, CloseFault::SeatRepeated { session }))
+    match with_last(seats, own) {
+        Some(seats) => is_refused(alloc, lab, seats, CloseFault::SeatRepeated { session }),
+        None => {
+            drop(lab);
+            false
+        }
+    }
 }
 
-/// The same of labs after a begin and a select over tables with other values.
-fn both_end<R: Wait>(rt: &R, alloc: Global) -> Option<bool> {
-    let session = Session::new(1)?;
-    let foreign = foreign(rt, alloc, 20)?;
-    let Some((lab, own)) = looked_at(rt, alloc, 10) else {
-        drop(foreign);
-        return None;
+/// The same of labs of session 1 after a begin and a select over tables with other values.
+fn both_end<R: Wait>(rt: &R, alloc: Global, session: Session) -> bool {
+    let Some(foreign) = foreign(rt, alloc, TWENTY) else {
+        return false;
     };
-    is_refused_twice(alloc, session, lab, own, foreign)
+    match looked_at(rt, alloc, TEN) {
+        Some((lab, own)) => is_refused_twice(alloc, session, lab, own, foreign),
+        None => {
+            drop(foreign);
+            false
+        }
+    }
 }
 
 /// The seat of the other lab has the same commands at the same places, answered by an engine of its own, as a `submit`
 /// would leave it that steps another engine than the one that is closed. No contract of `submit` names the log.
 #[test]
 fn answers_of_another_engine_end_in_close(rt: HostRuntime) -> Result<(), Fail> {
-    assert_eq!(rt; both_end(&rt, rt.alloc()), Some(true));
+    let session = Session::new(1).ok_or("a session")?;
+    assert!(rt; both_end(&rt, rt.alloc(), session));
     Ok(())
 }
 
-/// Whether a close of a lab that was asked nothing is refused with the seat of one that was, since its first receipt
-/// differs.
-fn ends_at_once<R: Wait>(rt: &R, alloc: Global) -> Option<bool> {
-    let session = Session::new(1)?;
-    let foreign = foreign(rt, alloc, 10)?;
-    let Some((lab, own)) = lab_of(alloc, 10) else {
+/// Whether a close of a lab of session 1 that was asked nothing is refused with the seat of one that was, since its first
+/// receipt differs.
+fn ends_at_once<R: Wait>(rt: &R, alloc: Global, session: Session) -> bool {
+    let Some(foreign) = foreign(rt, alloc, TEN) else {
+        return false;
+    };
+    let Some((lab, own)) = lab_of(alloc, TEN) else {
         drop(foreign);
-        return None;
+        return false;
     };
     drop(own);
     let differs = CloseFault::ReceiptDiffers { session, place: 1 };
-    Some(is_refused(alloc, lab, foreign, differs))
+    is_refused(alloc, lab, foreign, differs)
 }
 
 /// The seat of the other lab has two calls, and nothing was asked of this one.
 #[test]
 fn a_call_that_an_empty_log_lacks_ends_in_close(rt: HostRuntime) -> Result<(), Fail> {
-    assert_eq!(rt; ends_at_once(&rt, rt.alloc()), Some(true));
+    let session = Session::new(1).ok_or("a session")?;
+    assert!(rt; ends_at_once(&rt, rt.alloc(), session));
     Ok(())
 }

@@ -23,7 +23,7 @@ impl Gate for Open {
 }
 
 /// What a play came to.
-#[derive(Clone, Copy, Debug, PartialEq, Eq)]
+#[derive(Clone, Copy)]
 struct Play {
     fault: Option<PlayFault>,
     /// Whether an allocation was refused.
@@ -45,26 +45,33 @@ fn played<R: Threads + Wait + Sync>(rt: &R, alloc: Global, growth: u16) -> Optio
     Some(Play { fault, refused })
 }
 
+/// Whether a play tells want of memory or of a thread, and that only where an allocation was refused.
+fn is_due(played: &Play) -> bool {
+    match played.fault {
+        None => true,
+        Some(PlayFault::NoThread) | Some(PlayFault::NoMemory) => played.refused,
+        Some(_) => false,
+    }
+}
+
 /// The start of a thread allocates too, and its want of memory is that there is no thread.
 #[test]
 fn a_thread_that_is_refused_memory_is_not_given(rt: HostRuntime) -> Result<(), Fail> {
-    let mut without_thread = 0u16;
+    let mut is_told = false;
     let mut refusals = 0u16;
     for growth in 1..2_000u16 {
         let played = played(&rt, rt.alloc(), growth).ok_or("a play")?;
+        assert!(rt; is_due(&played), "at growth {growth}");
         if !played.refused {
-            assert_eq!(rt; played.fault, None);
             break;
         }
         refusals = growth;
-        match played.fault {
-            Some(PlayFault::NoThread) => without_thread = growth,
-            Some(PlayFault::NoMemory) | None => {}
-            other => assert_eq!(rt; other, None, "at growth {growth}"),
-        }
+        is_told = is_told || played.fault == Some(PlayFault::NoThread);
     }
-    assert!(rt; refusals < 1_999);
     // Where nothing is refused there is nothing to tell.
-    assert!(rt; refusals == 0 || without_thread > 0);
+    assert!(rt;
+        refusals < 1_999 && (refusals == 0 || is_told),
+        "{refusals}"
+    );
     Ok(())
 }

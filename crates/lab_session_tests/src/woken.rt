@@ -105,7 +105,9 @@ impl Gate for Beside {
 
 /// The text of the log of that play.
 fn beside_log<R: Threads + Wait + Sync>(rt: &R, alloc: Global, gate: &Beside) -> Option<Vec<u8>> {
-    let script = parse_script(alloc, BESIDE).ok()?;
+    let Ok(script) = parse_script(alloc, BESIDE) else {
+        return None;
+    };
     let played = played(rt, alloc, &script, &gate.counts, gate);
     drop(script);
     let recording = played?;
@@ -123,9 +125,9 @@ fn who_waits_looks_behind_each_event_and_sleeps(rt: HostRuntime) -> Result<(), F
     let text = beside_log(&rt, rt.alloc(), &gate);
     let looks = gate.counts.looks.load(Ordering::SeqCst);
     drop(gate);
-    let text = text.ok_or("a log")?;
-    assert_eq!(rt; text.as_slice(), BESIDE_LOG);
-    assert!(rt; looks <= MOST_LOOKS, "{looks}");
+    let is_due = text.as_deref() == Some(BESIDE_LOG);
+    drop(text);
+    assert!(rt; is_due && looks <= MOST_LOOKS, "{looks}");
     Ok(())
 }
 
@@ -220,7 +222,9 @@ fn all_rounds(alloc: Global, round: &[Line]) -> Result<Lines, NoMemory> {
 
 /// How many events a play of these rounds has.
 fn rounds_events<R: Threads + Wait + Sync>(rt: &R, alloc: Global, gate: &Rounds) -> Option<usize> {
-    let one = parse_script(alloc, ROUND).ok()?;
+    let Ok(one) = parse_script(alloc, ROUND) else {
+        return None;
+    };
     let lines = all_rounds(alloc, one.lines.as_slice());
     let Script { setup, lines: _ } = one;
     let Ok(lines) = lines else {
@@ -246,7 +250,6 @@ fn who_waits_is_woken_by_each_event(rt: HostRuntime) -> Result<(), Fail> {
     let events = rounds_events(&rt, rt.alloc(), &gate);
     let missed = gate.missed.load(Ordering::SeqCst);
     drop(gate);
-    assert!(rt; !missed);
-    assert_eq!(rt; events, Some(3_300));
+    assert!(rt; !missed && events == Some(3_300), "{events:?}");
     Ok(())
 }

@@ -203,36 +203,60 @@ fn made(alloc: Global, shape: Shape) -> Option<(bool, Option<FileFault>)> {
     Some(answer)
 }
 
+/// What is due of parts.
+#[derive(Clone, Copy)]
+enum Due {
+    Made,
+    Over(Limit),
+    /// Transaction 1 is there twice.
+    Repeated,
+    /// A list's first entry.
+    Wrong(ListPlace),
+}
+
+fn fault_of(due: Due) -> Option<FileFault> {
+    match due {
+        Due::Made => None,
+        Due::Over(which) => over(which),
+        Due::Repeated => {
+            let no = TxnNo::new(1)?;
+            Some(FileFault::RepeatedTxn { no })
+        }
+        Due::Wrong(place) => wrong(place),
+    }
+}
+
+/// What a shape has, and what is due of it.
+static SHAPES: [(u32, u32, u32, u32, Option<u32>, usize, Due); 14] = [
+    (1, 1_000, 999, 1_000, Some(1), 1, Due::Made),
+    (1, 1_001, 1, 2, Some(1), 1, Due::Over(Limit::Ids)),
+    (1, 2, 1_000, 1, Some(1), 1, Due::Over(Limit::Transactions)),
+    (1, 2, 3, 1, Some(1), 1, Due::Repeated),
+    (1, 2, 1, 2, None, 1, Due::Wrong(VIEW)),
+    (1, 2, 1, 2, Some(0), 1, Due::Wrong(VIEW)),
+    (1, 2, 1, 2, Some(10_000), 1, Due::Made),
+    (1, 2, 1, 2, Some(10_001), 1, Due::Wrong(VIEW)),
+    (1, 2, 1, 2, Some(1), 0, Due::Wrong(ListPlace::Installed)),
+    (4, 996, 1, 2, Some(1), 1, Due::Made),
+    (4, 999, 1, 2, Some(1), 1, Due::Over(Limit::Ids)),
+    (5, 2, 1, 2, Some(1), 1, Due::Over(Limit::Tables)),
+    (5, 1_001, 1, 2, Some(1), 1, Due::Over(Limit::Tables)),
+    (5, 2, 1_000, 1, Some(1), 1, Due::Over(Limit::Transactions)),
+];
+
 #[test]
 fn parts_that_are_no_history(rt: HostRuntime) -> Result<(), Fail> {
-    let no = TxnNo::new(1).ok_or("a transaction")?;
-    let repeated = FileFault::RepeatedTxn { no };
-    for (tables, rows, txns, last, op, installers, expected) in [
-        (1, 1_000, 999, 1_000, Some(1), 1, None),
-        (1, 1_001, 1, 2, Some(1), 1, over(Limit::Ids)),
-        (1, 2, 1_000, 1, Some(1), 1, over(Limit::Transactions)),
-        (1, 2, 3, 1, Some(1), 1, Some(repeated)),
-        (1, 2, 1, 2, None, 1, wrong(VIEW)),
-        (1, 2, 1, 2, Some(0), 1, wrong(VIEW)),
-        (1, 2, 1, 2, Some(10_000), 1, None),
-        (1, 2, 1, 2, Some(10_001), 1, wrong(VIEW)),
-        (1, 2, 1, 2, Some(1), 0, wrong(ListPlace::Installed)),
-        (4, 996, 1, 2, Some(1), 1, None),
-        (4, 999, 1, 2, Some(1), 1, over(Limit::Ids)),
-        (5, 2, 1, 2, Some(1), 1, over(Limit::Tables)),
-        (5, 1_001, 1, 2, Some(1), 1, over(Limit::Tables)),
-        (5, 2, 1_000, 1, Some(1), 1, over(Limit::Transactions)),
-    ] {
+    for (tables, rows, txns, last, op, installers, due) in &SHAPES {
         let shape = Shape {
-            tables,
-            rows,
-            txns,
-            last,
-            op,
-            installers,
+            tables: *tables,
+            rows: *rows,
+            txns: *txns,
+            last: *last,
+            op: *op,
+            installers: *installers,
         };
         let made = made(rt.alloc(), shape);
-        assert_eq!(rt; made, Some((true, expected)), "{shape:?}");
+        assert!(rt; made == Some((true, fault_of(*due))), "{shape:?}");
     }
     Ok(())
 }

@@ -138,19 +138,22 @@ fn is_long_throughout(
     Some(is_long && left_out && shown)
 }
 
+/// How many `not`s and numbers a select has, and how long its text is, or why it has none.
+static SELECTS: [(usize, usize, Result<usize, PrintFault>); 7] = [
+    (16, 1, Ok(98)),
+    (17, 1, Err(PrintFault::TooDeep)),
+    (0, 323, Ok(1000)),
+    (0, 324, Err(PrintFault::TooLong)),
+    (1, 322, Err(PrintFault::TooLong)),
+    // too long as well
+    (300, 1, Err(PrintFault::TooDeep)),
+    (17, 400, Err(PrintFault::TooDeep)),
+];
+
 #[test]
 fn statements_past_their_limits_are_not_printed(rt: HostRuntime) -> Result<(), Fail> {
-    for (nots, numbers, expected) in [
-        (16, 1, Ok(98)),
-        (17, 1, Err(PrintFault::TooDeep)),
-        (0, 323, Ok(1000)),
-        (0, 324, Err(PrintFault::TooLong)),
-        (1, 322, Err(PrintFault::TooLong)),
-        // too long as well
-        (300, 1, Err(PrintFault::TooDeep)),
-        (17, 400, Err(PrintFault::TooDeep)),
-    ] {
-        let so = is_long_throughout(rt.alloc(), nots, numbers, expected);
+    for (nots, numbers, expected) in &SELECTS {
+        let so = is_long_throughout(rt.alloc(), *nots, *numbers, *expected);
         assert_eq!(rt; so, Some(true), "{nots} {numbers}");
     }
     Ok(())
@@ -181,20 +184,23 @@ fn is_script_long(
     Some(length == expected)
 }
 
+/// The rows, the last value, the begins and the letters of a script, and how long its text is, or why it has none.
+static SCRIPTS: [(u32, i64, usize, u8, Result<usize, PrintFault>); 6] = [
+    (399, 100_000, 1_998, 0, Ok(4_001 + 1_998 * 13 + 26)),
+    (399, 100_000, 1_999, 0, Err(PrintFault::TooLong)),
+    (399, 1_000_000, 0, 0, Err(PrintFault::TooLong)),
+    (0, 0, 0, 0, Ok(10 + 26)),
+    (0, 0, 0, 3, Ok(10 + 26 + 3 * 23)),
+    (0, 0, 0, 4, Err(PrintFault::TooManyTables)),
+];
+
 #[test]
 fn scripts_past_their_limits_are_not_printed(rt: HostRuntime) -> Result<(), Fail> {
     // 399 rows with a last value of six digits have a setup line of 4,000 bytes; a begin has 13 with its newline,
     // the statement 26, and one of a table whose name is a letter 23.
-    for (rows, last, begins, letters, expected) in [
-        (399, 100_000, 1_998, 0, Ok(4_001 + 1_998 * 13 + 26)),
-        (399, 100_000, 1_999, 0, Err(PrintFault::TooLong)),
-        (399, 1_000_000, 0, 0, Err(PrintFault::TooLong)),
-        (0, 0, 0, 0, Ok(10 + 26)),
-        (0, 0, 0, 3, Ok(10 + 26 + 3 * 23)),
-        (0, 0, 0, 4, Err(PrintFault::TooManyTables)),
-    ] {
-        let script = script_of(rt.alloc(), rows, last, begins, letters);
-        let long = is_script_long(rt.alloc(), script, expected);
+    for (rows, last, begins, letters, expected) in &SCRIPTS {
+        let script = script_of(rt.alloc(), *rows, *last, *begins, *letters);
+        let long = is_script_long(rt.alloc(), script, *expected);
         assert_eq!(rt; long, Some(true), "{rows} {last} {begins} {letters}");
     }
     Ok(())

@@ -80,7 +80,7 @@ fn shows_text(
 }
 
 /// Statements, and the setup of the table that each leaves.
-const RUNS: [(&str, &str); 6] = [
+static RUNS: [(&str, &str); 6] = [
     (
         "select * from test",
         "setup (1, 10), (2, 20), (3, 30), stock (3, 24)",
@@ -106,7 +106,7 @@ const RUNS: [(&str, &str); 6] = [
 
 /// Fails where it isn't so of each.
 fn shows_texts(rt: &impl Abort, alloc: Global, before: &Table) -> Result<(), &'static str> {
-    for (text, after) in RUNS {
+    for (text, after) in &RUNS {
         shows_text(rt, alloc, before, text, after)?;
     }
     Ok(())
@@ -201,18 +201,21 @@ fn shows_printed(rt: &impl Abort, alloc: Global, command: &Command, text: &str, 
     assert!(rt; succeeded, "{text}");
 }
 
+/// Texts of scripts, and what is printed of each; of no text, of a command's copy.
+static PRINTED: [(&str, &str); 3] = [
+    ("", EVERY_KIND),
+    ("setup ();\nbegin", "line 2: NoSession\n"),
+    (
+        "Setup (2,20),(1,10)\nbegin; select*from test where not (id=1 and (id=2 or id in(1,2))) -- T1\ncommit -- T1",
+        "setup (1, 10), (2, 20);\nbegin; -- T1\nselect * from test where not (id = 1 and (id = 2 or id in (1, 2))); -- T1\ncommit; -- T1\ntxn 1 T1\nselect * from test where not (id = 1 and (id = 2 or id in (1, 2))) -> (2, 20)\ncommit\nend (1, 10), (2, 20)\n",
+    ),
+];
+
 #[test]
 fn texts_that_are_refused_memory_are_not_made(rt: HostRuntime) -> Result<(), Fail> {
     let statement = parse_statement(rt.alloc(), EVERY_KIND.as_bytes());
     let command = Command::Run(statement.ok().ok_or("a statement")?);
-    for (text, expected) in [
-        ("", EVERY_KIND),
-        ("setup ();\nbegin", "line 2: NoSession\n"),
-        (
-            "Setup (2,20),(1,10)\nbegin; select*from test where not (id=1 and (id=2 or id in(1,2))) -- T1\ncommit -- T1",
-            "setup (1, 10), (2, 20);\nbegin; -- T1\nselect * from test where not (id = 1 and (id = 2 or id in (1, 2))); -- T1\ncommit; -- T1\ntxn 1 T1\nselect * from test where not (id = 1 and (id = 2 or id in (1, 2))) -> (2, 20)\ncommit\nend (1, 10), (2, 20)\n",
-        ),
-    ] {
+    for (text, expected) in &PRINTED {
         shows_printed(&rt, rt.alloc(), &command, text, expected);
     }
     drop(command);
