@@ -29,7 +29,11 @@ pub mod ListedPlaces
 pub mod WrittenLists
 pub mod WrittenMembers
 pub mod WrittenOperations
+pub mod ClearTexts
 pub mod CodeBytes
+pub mod CompactTexts
+pub mod WrittenFits
+pub mod WrittenTexts
 pub mod WritableTree
 pub mod Keys
 pub mod TextFaults

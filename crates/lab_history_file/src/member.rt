@@ -1,7 +1,6 @@
 //! What a member of a list begins with: the key of its row, in front of what the list says of the row.
 
-ghost use Rattle.std.specs.Prelude.{◌≡◌, ◌≤◌, ◌+◌, Some, option_map, IfSome, IfOk, OnOk};
-ghost use Rattle.serde_json.specs.Data.{string, number, unsigned};
+ghost use Rattle.std.specs.Prelude.{◌≡◌, ◌≤◌, ◌+◌, option_map, IfSome, IfOk};
 ghost use Rattle.serde_json.specs.Find.{as_array};
 ghost use Rattle.serde_json.specs.View.{view, items_view};
 ghost use Rattle.lab_history.specs.Faults.{Gives};
@@ -100,34 +99,6 @@ fn table_of(alloc: Global, json: &Json) -> Result<Option<TableName>, NoMemory>
         }
         None => Ok(None),
     }
-}
-
-fn id_json(id: RowId) -> Json
-    ensures value { view result ≡ number (unsigned id) }
-    ensures read { id_in (number (unsigned id)) ≡ Some id }
-{
-    Json::from(id.number())
-}
-
-fn table_json(alloc: Global, table: TableName) -> Result<Json, NoMemory>
-    ensures value { IfOk result (λ v. view v ≡ string table) }
-    ensures read { OnOk result (table_in (string table) ≡ Some table) }
-{
-    let Ok(text) = String::from_utf8(Vec::from_slice(alloc, table.as_bytes())?) else {
-        // a table's name is ASCII
-        unreachable!()
-    };
-    Ok(Json::String(text))
-}
-
-/// The two parts of a row's key.
-pub fn key_json(alloc: Global, row: RowName) -> Result<(Json, Json), NoMemory>
-    ensures table { IfOk result (λ parts. view parts.0 ≡ string row.table) }
-    ensures id { IfOk result (λ parts. view parts.1 ≡ number (unsigned row.id)) }
-    ensures read { OnOk result (key.row_in FileVersion.Two (key.key_tree row) ≡ Some row) }
-{
-    let table = table_json(alloc, row.table)?;
-    Ok((table, id_json(row.id)))
 }
 
 /// The row of a key that is an id.

@@ -1,15 +1,18 @@
 //! The parts of a member of a list that stand behind its key.
 
-ghost use Rattle.std.specs.Prelude.{◌≡◌, Some, option_and_then, option_map, Option};
+ghost use Rattle.std.specs.Prelude.{◌≡◌, ◌++◌, Some, OnOk, option_and_then, option_map, Option};
+ghost use Rattle.std.specs.Fmt.{decimal};
 ghost use Rattle.serde_json.specs.Find.{get_item};
 ghost use Rattle.serde_json.specs.View.{view, items_view};
 ghost use Rattle.serde_json.specs.Data.{Data};
+ghost use Rattle.serde_json.specs.Written.{compact_text};
 ghost use Rattle.lab_history_file.specs.Entries.{op_in_number, txn_in_number, value_in, state_in};
 ghost use Rattle.lab_history_file.specs.Tree.{natural_tree, value_tree, state_tree};
 
 use crate::member::whole_of;
+use itoa::Buffer;
 use lab_history::{MAX_OPERATIONS, State};
-use lab_table::{TxnNo, Value};
+use lab_table::{NoMemory, TxnNo, Value};
 use serde_json::Value as Json;
 
 /// What may be one part of a member.
@@ -22,10 +25,17 @@ pub trait Part: Sized + Drop {
     fn from_json(json: &Json) -> Option<Self>
         ensures { result ≡ part_in (view json.now) };
 
-    /// The value that it is.
-    fn json(&self) -> Json
-        ensures value { view result ≡ part_tree self.now }
-        ensures read { part_in (part_tree self.now) ≡ Some self.now };
+    /// Appends the text of the value that it is. After NoMemory, part of it may stand there.
+    fn put_part(&self, out: &mut Vec<u8>) -> Result<(), NoMemory>
+        ensures text { OnOk result (out.new.items ≡ out.old.items ++ compact_text (part_tree self.now)) }
+        ensures read { OnOk result (part_in (part_tree self.now) ≡ Some self.now) };
+}
+
+/// Appends a number without a sign in decimal. After NoMemory, part of it may stand there.
+pub fn put_natural(out: &mut Vec<u8>, number: u32) -> Result<(), NoMemory>
+    ensures { OnOk result (out.new.items ≡ out.old.items ++ decimal number) }
+{
+    out.extend_from_slice(Buffer::new().format(number).as_bytes())
 }
 
 /// The number of a transaction.
@@ -38,8 +48,8 @@ impl Part for TxnNo {
         TxnNo::new(whole_of(json, 1_000_000)?)
     }
 
-    fn json(&self) -> Json {
-        Json::from(self.number())
+    fn put_part(&self, out: &mut Vec<u8>) -> Result<(), NoMemory> {
+        put_natural(out, self.number())
     }
 }
 
@@ -53,8 +63,9 @@ impl Part for Value {
         Value::new(json.as_i64()?)
     }
 
-    fn json(&self) -> Json {
-        Json::from(self.number())
+    #[tactic(auto, using(crate::proofs::WrittenTexts::value_text))]
+    fn put_part(&self, out: &mut Vec<u8>) -> Result<(), NoMemory> {
+        out.extend_from_slice(Buffer::new().format(self.number()).as_bytes())
     }
 }
 
@@ -72,10 +83,10 @@ impl Part for State {
         }
     }
 
-    fn json(&self) -> Json {
+    fn put_part(&self, out: &mut Vec<u8>) -> Result<(), NoMemory> {
         match self {
-            State::Absent => Json::Null,
-            State::Present(value) => value.json(),
+            State::Absent => out.extend_from_slice(b"null"),
+            State::Present(value) => value.put_part(out),
         }
     }
 }

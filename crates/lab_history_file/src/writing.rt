@@ -1,12 +1,11 @@
 //! Writing a history file.
 
 mod entries;
+mod json_text;
 mod operations;
-mod to_json;
 
-ghost use Rattle.std.specs.Prelude.{◌≡◌, ◌≤◌, ◌<◌, length, Some, Ok, Err, IfOk, OnOk, IsUtf8};
+ghost use Rattle.std.specs.Prelude.{◌≡◌, ◌++◌, ◌≤◌, ◌<◌, length, Some, Ok, Err, IfOk, OnOk, IsUtf8};
 ghost use Rattle.serde_json.specs.Read.{read as read_text};
-ghost use Rattle.serde_json.specs.View.{view};
 ghost use Rattle.serde_json.specs.Written.{compact_text};
 ghost use Rattle.lab_history_file.specs.FileOf.{IsFileIn};
 ghost use Rattle.lab_history_file.specs.Format.{history_in};
@@ -16,33 +15,35 @@ ghost use Rattle.lab_history_file.specs.Tree.{tree_of};
 ghost use Rattle.lab_history_file.specs.declared.file_version.FileVersion.TheVariants.{Two};
 
 use crate::write_fault::WriteFault;
-use crate::writing::entries::{installed_json, table_json};
-use crate::writing::to_json::list_json;
+use crate::writing::entries::{put_installed, put_table};
+use crate::writing::json_text::put_list;
 use lab_history::{History, MAX_FILE_BYTES, Parts};
 use lab_table::NoMemory;
-use serde_json::{Value as Json, json};
 use std::alloc::Global;
 
-fn parts_json(alloc: Global, parts: &Parts) -> Result<Json, NoMemory>
+/// Appends the text of a history. After NoMemory, part of it may stand there.
+fn put_parts(out: &mut Vec<u8>, parts: &Parts) -> Result<(), NoMemory>
     requires { Keeps parts.now }
-    ensures value { IfOk result (λ v. view v ≡ tree_of parts.now) }
+    ensures text { OnOk result (out.new.items ≡ out.old.items ++ compact_text (tree_of parts.now)) }
     ensures file { OnOk result (IsFileIn Two (tree_of parts.now) parts.now) }
 {
-    json!(in alloc; {
-        "end": table_json(alloc, &parts.end_table)?,
-        "format": "hermitage-history",
-        "initial": table_json(alloc, &parts.initial)?,
-        "installed": installed_json(alloc, &parts.installed)?,
-        "transactions": list_json(alloc, parts.txns.as_slice())?,
-        "version": 2
-    })
+    out.extend_from_slice(b"{\"end\":")?;
+    put_table(out, &parts.end_table)?;
+    out.extend_from_slice(b",\"format\":\"hermitage-history\",\"initial\":")?;
+    put_table(out, &parts.initial)?;
+    out.extend_from_slice(b",\"installed\":")?;
+    put_installed(out, &parts.installed)?;
+    out.extend_from_slice(b",\"transactions\":")?;
+    put_list(out, parts.txns.as_slice())?;
+    out.extend_from_slice(b",\"version\":2}")?;
+    Ok(())
 }
 
 /// The file of a history, of version 2: compact JSON with the keys of each object in the order of their bytes, without
 /// a newline.
 ///
 /// TooLong where the text would have more than [`MAX_FILE_BYTES`]; NoMemory where an allocation was refused.
-#[tactic(auto, using(crate::proofs::WritableTree::tree_whole, crate::proofs::WritableTree::tree_flat, crate::proofs::FileIsRead::file_is_read))]
+#[tactic(auto, using(crate::proofs::FileIsRead::file_is_read))]
 pub fn write_history(alloc: Global, history: &History) -> Result<Vec<u8>, WriteFault>
     ensures text { IfOk result (λ text. text.items ≡ compact_text (tree_of history.now)) }
     ensures utf8 { IfOk result (λ text. IsUtf8 text.items) }
@@ -55,7 +56,8 @@ pub fn write_history(alloc: Global, history: &History) -> Result<Vec<u8>, WriteF
     ensures within { IfOk result (λ text. length text.items ≤ max_file_bytes) }
     ensures too_long { result ≡ Err WriteFault.TooLong → max_file_bytes < length (compact_text (tree_of history.now)) }
 {
-    let text = parts_json(alloc, history.parts())?.to_vec(alloc)?;
+    let mut text = Vec::new(alloc);
+    put_parts(&mut text, history.parts())?;
     if text.len() > MAX_FILE_BYTES {
         return Err(WriteFault::TooLong);
     }

@@ -1,6 +1,0 @@
-use Rattle.std.proofs.Common.{take}
-use Rattle.lab_history_file.proofs.WrittenLists.{Written}
-use Rattle.lab_history_file.proofs.writing.to_json.list_json.Given as goal
-
-abbrev pub invariant-loop-item : goal.invariant-loop-item
-invariant-loop-item g l = Written g.X.ToJson.tree g.X.ToJson.Is l.values.items (take l.item-index l.items)
