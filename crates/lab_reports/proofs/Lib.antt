@@ -1,4 +1,5 @@
 pub mod AsciiTexts
+mod ListedValues
 pub mod CutTexts
 pub mod Paths
 pub mod Spans
