@@ -1,6 +1,6 @@
 //! Inputs that never end, and readers that are interrupted again and again.
 
-use crate::case::{Subcommand, ran, status_of};
+use crate::case::{Subcommand, run_unhinted, status_of};
 use crate::streams::{Endless, Sink, Source};
 use std::alloc::Global;
 use std::rt::Files;
@@ -23,7 +23,7 @@ fn is_told<T: Files + Threads + Wait + Sync>(
 ) -> bool {
     let mut reader = Endless { byte: b' ' };
     let mut writer = Sink::new(alloc, 9_000, 0);
-    let ran = ran(rt, alloc, subcommand, &mut reader, &mut writer);
+    let ran = run_unhinted(rt, alloc, subcommand, &mut reader, &mut writer);
     let is_told = status_of(ran.run) == 2 && writer.text.as_slice() == text;
     drop(writer);
     is_told
@@ -38,7 +38,7 @@ fn ends_after<T: Files + Threads + Wait + Sync>(
 ) -> bool {
     let mut reader = Source::new(b"setup ();", 9_000, interrupted, 0);
     let mut writer = Sink::new(alloc, 9_000, 0);
-    let ran = ran(rt, alloc, Subcommand::Serial, &mut reader, &mut writer);
+    let ran = run_unhinted(rt, alloc, Subcommand::Serial, &mut reader, &mut writer);
     drop(writer);
     status_of(ran.run) == status && reader.calls == 20_000_000
 }

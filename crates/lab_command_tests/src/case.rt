@@ -187,7 +187,7 @@ pub struct Ran {
 }
 
 /// Runs a subcommand, and drops its hints.
-pub fn ran<T: Files + Threads + Wait + Sync, R: Read, W: Write>(
+pub fn run_unhinted<T: Files + Threads + Wait + Sync, R: Read, W: Write>(
     rt: &T,
     alloc: Global,
     subcommand: Subcommand,
@@ -239,7 +239,7 @@ fn is_due<T: Files + Threads + Wait + Sync>(
     reader.interrupted_between = paces.interrupted > 0;
     let mut writer = Sink::new(alloc, paces.most, 0);
     writer.is_interrupted = paces.interrupted > 0;
-    let ran = ran(rt, alloc, case.subcommand, &mut reader, &mut writer);
+    let ran = run_unhinted(rt, alloc, case.subcommand, &mut reader, &mut writer);
     let is_written = writer.text.as_slice() == case.text;
     drop(reader);
     drop(writer);

@@ -254,7 +254,12 @@ struct Cut {
     noted: usize,
 }
 
-fn cut<T: Threads + Wait + Sync>(rt: &T, alloc: Global, fails_at: u32, flush_fails: bool) -> Cut {
+fn run_cut<T: Threads + Wait + Sync>(
+    rt: &T,
+    alloc: Global,
+    fails_at: u32,
+    flush_fails: bool,
+) -> Cut {
     let held = files_in_memory();
     let is_called = AtomicBool::new(false);
     let due = &RUNS[MANY];
@@ -290,13 +295,13 @@ fn are_behind(cut: &Cut, hint: usize) -> bool {
 
 #[test]
 fn hints_come_behind_what_is_written(rt: HostRuntime) -> Result<(), Fail> {
-    let whole = cut(&rt, rt.alloc(), 0, false);
+    let whole = run_cut(&rt, rt.alloc(), 0, false);
     let hint = whole.noted / 16;
     assert!(rt; whole.run == Ok(RUNS[MANY].status) && are_behind(&whole, hint));
     assert!(rt; 1 < whole.calls && whole.calls < 100);
     // In each run a call fails; in the last it is each flush.
     for fails_at in 1..=whole.calls.min(100).saturating_add(1) {
-        let cut = cut(&rt, rt.alloc(), fails_at, fails_at > whole.calls);
+        let cut = run_cut(&rt, rt.alloc(), fails_at, fails_at > whole.calls);
         let is_so = cut.run == Err(RunFault::Unwritten) && cut.is_front && are_behind(&cut, hint);
         assert!(rt; is_so, "at call {fails_at}");
     }

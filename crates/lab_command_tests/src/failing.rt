@@ -1,6 +1,6 @@
 //! Streams that fail, for one case of each way that a subcommand ends.
 
-use crate::case::{Case, LINES, Subcommand, Task, ran, status_of};
+use crate::case::{Case, LINES, Subcommand, Task, run_unhinted, status_of};
 use crate::chain::REPORTS;
 use crate::files::{Held, HeldFiles};
 use crate::judge::{ABORTED_READ, CUT, CUT_FILE, EMPTY};
@@ -48,7 +48,7 @@ const READING: [Case; 18] = [
 fn reads_of<T: Files + Threads + Wait + Sync>(rt: &T, alloc: Global, case: &Case) -> u32 {
     let mut reader = Source::new(case.input, 10, 0, 0);
     let mut writer = Sink::new(alloc, 9_000, 0);
-    let ran = ran(rt, alloc, case.subcommand, &mut reader, &mut writer);
+    let ran = run_unhinted(rt, alloc, case.subcommand, &mut reader, &mut writer);
     drop(writer);
     if status_of(ran.run) == case.status {
         reader.calls
@@ -68,7 +68,7 @@ fn is_unread<T: Files + Threads + Wait + Sync>(
     let mut reader = Source::new(case.input, 10, 0, fails_at);
     reader.fault = fault;
     let mut writer = Sink::new(alloc, 9_000, 0);
-    let ran = ran(rt, alloc, case.subcommand, &mut reader, &mut writer);
+    let ran = run_unhinted(rt, alloc, case.subcommand, &mut reader, &mut writer);
     let calls = writer.calls;
     drop(writer);
     ran.run == Err(RunFault::Unread) && status_of(ran.run) == 3 && calls == 0 && ran.calls == 0
@@ -179,7 +179,7 @@ fn ended<T: Threads + Wait + Sync>(
         is_written: &is_written,
     };
     let mut reader = Source::new(case.input, 9_000, 0, 0);
-    let ran = ran(&files, alloc, case.subcommand, &mut reader, writer);
+    let ran = run_unhinted(&files, alloc, case.subcommand, &mut reader, writer);
     if ran.run.is_ok() || ran.calls == 0 {
         Some(ran.run)
     } else {

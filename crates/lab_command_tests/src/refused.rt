@@ -1,6 +1,6 @@
 //! What stands where memory is refused to `serial`, `run`, `compare`, `judge`, `chain` and `chain --join`.
 
-use crate::case::{Case, Task, ran, status_of};
+use crate::case::{Case, Task, run_unhinted, status_of};
 use crate::chain::{Due, RUNS};
 use crate::files::{FileRun, ran_on_files};
 use crate::judge::{ABORTED_READ, CUT_FILE};
@@ -110,7 +110,7 @@ fn tried_alone<T: Files + Threads + Wait + Sync>(
     let mut reader = Source::new(case.input, 10, 0, 0);
     let mut writer = Sink::new(alloc, 9_000, 0);
     refuse(alloc, growth);
-    let ran = ran(rt, alloc, case.subcommand, &mut reader, &mut writer);
+    let ran = run_unhinted(rt, alloc, case.subcommand, &mut reader, &mut writer);
     let refused = was_refused(alloc);
     let is_whole = writer.text.as_slice() == case.text;
     let due = if refused {
