@@ -1,4 +1,4 @@
--- The rows and the entries of a history's lists, counted along the lists.
+-- The rows and entries of a history's lists, counted along the lists.
 use Rattle.std.specs.Prelude.{ℕ, ◌+◌, nat_le, List, [], ◌∷◌, length, Bool, Option, Some, None, option_and_then, if◌then◌else◌}
 use Rattle.std.specs.BTreeSet.{insert_key}
 use Rattle.std.specs.FinMap as finite
