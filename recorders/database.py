@@ -1,40 +1,40 @@
-"""What recorders share: a database that plays scripts, and its sessions, whose statements are carried out in threads.
+"""What recorders share: a database that runs scripts, and its sessions, whose statements run in threads.
 
-A recorder is a dialect, a class over Database that has (docs/RECORDING.md, "A recorder for another database"):
+A recorder is a dialect, a class derived from Database with (docs/RECORDING.md, "A recorder for another database"):
 
-    NAME, version()                 what it is called, and its version as it says it
+    NAME, version()                 its name, and the version that the database reports
     LEVELS                          its levels, each with what its manual promises
-    make_tables()                   makes the tables of the script, with the rows of its setup
-    rows()                          what is committed: a value for each row, and a row is its table and its id
+    make_tables()                   creates the tables of the script, with the rows of its setup
+    rows()                          the committed rows: a value for each table and id
     connect()                       a connection, for one session
     begin(connection)               begins a transaction at the level
-    do(connection, txn, statement)  carries out a statement; the operation that it was, or Refused
+    do(connection, txn, statement)  runs a statement; returns its operation or raises Refused
     waits(connection)               whether the statement of a connection waits for another transaction
-    place(connection, txn)          the place of a transaction's commit, while all that it wrote is locked
+    place(connection, txn)          draws the commit number of a transaction, while its writes are locked
     commit(connection), rollback(connection)
-    close()                         puts away what was made
+    close()                         removes what was created
 
-and, where a transaction has a snapshot that can be read from outside, OF_SNAPSHOTS and snapshot(connection); and, for
-recorders/load, clear(). Calls for two sessions may come at once, each from its session's thread.
+If a transaction has a snapshot that can be read from outside, the dialect also has OF_SNAPSHOTS and snapshot(connection);
+for recorders/load, it has clear(). Different sessions may call at the same time, each from its own thread.
 """
 import threading
 import time
 
 from recording import Refused, Waits
 
-LOOK = 0.002  # seconds until a statement that isn't answered is looked at
+LOOK = 0.002  # seconds between two checks of a running statement
 
 
 class Database:
     """The tables of a script in a database, and its dialect."""
 
     NAME = ""
-    LEVELS = {}  # by its name what the manual promises: PL-1, PL-2, PL-2.99, SI or PL-3
+    LEVELS = {}  # for each level, what the manual promises: PL-1, PL-2, PL-2.99, SI or PL-3
     # The levels at which a transaction has one snapshot, which is taken with its first statement.
     OF_SNAPSHOTS = ()
-    # Whether a transaction of which a statement was refused stays open, and the database refuses what comes then.
+    # Whether a transaction stays open after a refused statement, and the database refuses its further statements.
     STAYS_OPEN = False
-    ERRORS = ()  # exceptions of a driver that say that the database doesn't answer
+    ERRORS = ()  # a driver's exceptions for a database that doesn't respond
 
     def __init__(self, words, script):
         self.words, self.script = words, script
@@ -47,23 +47,23 @@ class Database:
         return Session(self)
 
     def snapshot(self, connection):
-        """The versions of all rows in the snapshot of a transaction that is about to give its first statement."""
+        """The versions of all rows in the snapshot of a transaction that is about to run its first statement."""
         raise NotImplementedError
 
     def waits(self, _):
-        """A database that lets nobody wait has none; its `do` raises Waits."""
+        """False for a database that never blocks; its `do` raises Waits instead."""
         return False
 
     def clear(self):
-        """Takes away what names versions, while no transaction is open: what is committed counts as initial then."""
+        """Removes the names of versions, while no transaction is open: what is committed then counts as initial."""
         raise NotImplementedError
 
     def close(self):
-        """Puts away what was made, also where connections wait or were interrupted."""
+        """Removes what was created, even if connections wait or were interrupted."""
 
 
 class Session:
-    """A session's connection, and the statement that it was given."""
+    """A session's connection, and its current statement."""
 
     def __init__(self, database):
         self.database, self.connection = database, database.connect()
@@ -73,12 +73,12 @@ class Session:
         self.database.begin(self.connection)
 
     def start(self, txn, statement):
-        """Gives a statement, and doesn't wait for it."""
+        """Starts a statement, and doesn't wait for it."""
         self.given, self.thread = (txn, statement), None
 
     def is_answered(self):
-        """Returns once the statement is answered (true), or is seen to wait (false). One that is to be tried again is
-        tried each time."""
+        """Returns True once the statement has ended, or False once it is seen to wait. A statement that raised Waits is
+        retried by each call."""
         if not self.thread:
             self.thread = threading.Thread(target=self.try_given, daemon=True)
             self.thread.start()
@@ -94,7 +94,7 @@ class Session:
         return self.thread.is_alive()
 
     def try_given(self):
-        """What comes of the statement in its thread is told by `operation`, whatever it is."""
+        """Runs the statement in its thread; `operation` returns or raises the outcome."""
         self.op = self.failure = None
         try:
             self.op = self.tried(*self.given)
@@ -102,13 +102,14 @@ class Session:
             self.failure = why
 
     def operation(self, *_):
-        """The operation that was answered; Refused where the statement was."""
+        """The operation of the statement; raises Refused if the statement was refused."""
         if self.failure:
             raise self.failure
         return self.op
 
     def carry_out(self, txn, statement):
-        """The operation of a statement, however long it has to wait; Refused. For who has a thread for each session."""
+        """Runs a statement, however long it waits, and returns its operation; raises Refused. For callers that have a
+        thread for each session."""
         while True:
             try:
                 return self.tried(txn, statement)
@@ -116,7 +117,7 @@ class Session:
                 time.sleep(LOOK)
 
     def tried(self, txn, statement):
-        """A script's transaction ends where one of its statements is refused."""
+        """Runs a statement. If it is refused, the transaction is aborted."""
         database = self.database
         self.look_if_open(txn)
         try:
@@ -134,8 +135,8 @@ class Session:
             raise Refused("the transaction was rolled back")
 
     def commit(self, txn):
-        """The place in the order of commits, or None if nothing was written; Refused. The place is drawn while all that
-        the transaction wrote is locked, so of two who wrote one row the first draws first."""
+        """Commits; returns the commit number, or None if nothing was written; raises Refused. The number is drawn while
+        the transaction's writes are locked, so of two transactions that wrote one row, the first draws first."""
         self.look_if_open(txn)
         place = self.database.place(self.connection, txn) if txn.own and not txn.is_refused else None
         try:
