@@ -1,21 +1,57 @@
 """What recorders share: a database that runs scripts, and its sessions, whose statements run in threads.
 
-A recorder is a dialect, a class derived from Database with (docs/RECORDING.md, "A recorder for another database"):
+A recorder is a dialect: a class derived from Database, with the members below. `tables.py` has what SQL databases share,
+`served.py` what servers share, and `client.py` the pipes to a server's command-line client; a blocking Python driver can
+replace it. `toy` is a complete example in 48 lines. Different sessions may call at the same time, each from its thread.
 
-    NAME, version()                 its name, and the version that the database reports
-    LEVELS                          its levels, each with what its manual promises
-    make_tables()                   creates the tables of the script, with the rows of its setup
-    rows()                          the committed rows: a value for each table and id
-    connect()                       a connection, for one session
-    begin(connection)               begins a transaction at the level
-    do(connection, txn, statement)  runs a statement; returns its operation or raises Refused
-    waits(connection)               whether the statement of a connection waits for another transaction
-    place(connection, txn)          draws the commit number of a transaction, while its writes are locked
-    commit(connection), rollback(connection)
-    close()                         removes what was created
+    NAME, version()     the title of a table; the version is the one that the database reports
+    LEVELS              for each level, what the manual promises: PL-1, PL-2, PL-2.99, SI or PL-3. recorders/cases
+                        compares its table with it
+    make_tables()       creates the tables, with the rows of `script.setup`. Everything is committed before the first
+                        session connects
+    rows()              the committed rows: a value for each table and id, without deleted rows. It is called when no
+                        transaction is open
+    connect()           a connection for one session. Another connection sees its uncommitted changes only as far as the
+                        level allows
+    begin(connection)   begins a transaction at `words.level`. It doesn't wait
+    do(connection, txn, statement)
+                        runs a statement; returns operation_of(txn, statement, listed, seen), or raises Refused. It may
+                        wait as long as the database lets it: it runs in the session's own thread
+    waits(connection)   whether the session's statement waits for another transaction: True only if the statement can't
+                        go on before another transaction ends. If it is True while the statement is about to return, the
+                        next line runs too early. It is called from another thread, some 500 times a second, so it needs
+                        its own connection
+    place(connection, txn)
+                        draws the commit number of a transaction that wrote something: in the transaction, after its last
+                        write, while its writes are locked. Of two transactions that wrote one row, the one that commits
+                        first has the lower number
+    commit(connection)  commits; raises Refused if the database refuses. The outcome is what the database reports
+    rollback(connection)
+                        rolls back, also if the database has already done so
+    clear()             removes the names of versions, and deleted rows: what is committed counts as initial from then on.
+                        Rows and values stay, and no later statement sees an older version. Only recorders/load calls it,
+                        when no transaction is open
+    close()             removes what was created, also if sessions wait or were interrupted
 
-If a transaction has a snapshot that can be read from outside, the dialect also has OF_SNAPSHOTS and snapshot(connection);
-for recorders/load, it has clear(). Different sessions may call at the same time, each from its own thread.
+What `do` must guarantee:
+
+    listed              has an entry for each row that the statement returned or matched, and for the row of an insert: the
+                        id, the old value, the two numbers of the old version (None, None for the initial one), and the
+                        new value or None. All of it comes from the statement itself; if the statement waited for a row, it
+                        is what the statement found after the wait
+    seen                has the version (None for the initial one) of each other row that the statement may match, present
+                        or deleted, as the statement saw it. Read it in the statement (mariadb), in its transaction if that
+                        has one snapshot (sqlite), or in its snapshot (postgres: `snapshot(connection)`, called at the
+                        levels of OF_SNAPSHOTS). The base class adds the transaction's own writes and its snapshot
+    the version's name  txn.next_version() goes into the row with the value, in the same statement. If the statement is
+                        refused, nothing of it remains
+    nothing else        it takes no lock and reads no row that the statement alone wouldn't. The recorder's documentation
+                        lists the exceptions
+    no guesses          if it can't know something, it sets `remark` of the operation, which is printed on standard error,
+                        or raises Untold, which leaves the run out
+
+If the database doesn't block but reports that it is locked, as SQLite does, `do` raises Waits, and is called again when
+another transaction has ended. Unreachable is raised if the database doesn't respond.
 """
 import threading
 import time
