@@ -57,7 +57,8 @@ impl Dependencies {
         known.ends_right().then_some(found)
     }
 
-    /// Adds the dependencies of an operation in both directions; `turns` has for each row the position of the version that it saw.
+    /// Adds the dependencies of an operation in both directions; `turns` has for each row the position of the version that it
+    /// saw.
     fn take(&mut self, known: &Known, me: usize, op: &Op, turns: &[Option<usize>]) {
         for (row, _) in &op.rows {
             let (chain, Some(seen)) = (&known.versions[*row], turns[*row]) else {
