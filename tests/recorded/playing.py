@@ -3,7 +3,8 @@
 usage: playing.py RECORDER LEVEL
 
 Each line of standard input is a script as JSON. Each line of standard output is the history, or null, and the lines of the
-log; without a history, the last line says why."""
+log; without a history, the last line says why.
+"""
 import json
 import os
 import sys
