@@ -6,6 +6,8 @@ from sources import behind, code_of
 ITEM = re.compile(r"\bfn ([a-z_0-9]+)\b")
 OWNER = re.compile(r"^(?:pub )?(impl|trait)\b([^{;]*)\{", re.M)
 CLAUSE = re.compile(r"\b(requires|ensures)\s*(\w*)\s*\{")
+PUBLIC = re.compile(r"\bpub (?:const )?fn ([a-z_0-9]+)\b")
+EXPORTS = re.compile(r"^pub use [\w:]+::(?:\{([^}]*)\}|(\w+));", re.M)
 
 
 def owner_name(kind, head):
@@ -47,3 +49,21 @@ def functions_of(path):
         name = "::".join(within[-1:] + [item.group(1)])
         found.setdefault(name, []).extend(contract(text, item.end()))
     return found
+
+
+def exported_from(crate):
+    """The names that a crate's lib.rt exports."""
+    parts = EXPORTS.findall(code_of(f"{crate}/src/lib.rt"))
+    return {word for several, one in parts for word in re.findall(r"\w+", several or one)}
+
+
+def public_in(path, exported):
+    """The functions of a file that are exported, or are public ones of a type, or any of a trait, that is."""
+    text = code_of(path)
+    owners = owners_in(text)
+    public = {item.start(1) for item in PUBLIC.finditer(text)}
+    for item in ITEM.finditer(text):
+        within = [(kind, name) for kind, name, start, end in owners if start < item.start() < end][-1:]
+        is_public = item.start(1) in public or within and within[0][0] == "trait"
+        if is_public and (within[0][1] if within else item.group(1)) in exported:
+            yield "::".join([name for _, name in within] + [item.group(1)])
