@@ -1,6 +1,11 @@
-"""How contracts of functions are read: the promised clauses of each function of a source, by its name."""
+"""How contracts are read: the promised clauses of each function of a source, and which functions are public."""
+import glob
+import os
 import re
+from typing import NamedTuple
 
+from crates import paragraphs
+from harness import TOP
 from sources import behind, code_of
 
 ITEM = re.compile(r"\bfn ([a-z_0-9]+)\b")
@@ -39,14 +44,18 @@ def owners_in(text):
     return [(m.group(1), owner_name(*m.groups()), m.start(), behind(text, m.end())) for m in OWNER.finditer(text)]
 
 
-def functions_of(path):
-    """The functions of a file by name, those of a type or trait as `Type::name`, each with its clauses."""
-    text = code_of(path)
+def items_in(text):
+    """The functions of a text: the match of each head, and its name, of a type's or a trait's `Type::name`."""
     owners = owners_in(text)
-    found = {}
     for item in ITEM.finditer(text):
         within = [name for _, name, start, end in owners if start < item.start() < end]
-        name = "::".join(within[-1:] + [item.group(1)])
+        yield item, "::".join(within[-1:] + [item.group(1)])
+
+
+def functions_of(path):
+    """The functions of a file by name, those of a type or trait as `Type::name`, each with its clauses."""
+    text, found = code_of(path), {}
+    for item, name in items_in(text):
         found.setdefault(name, []).extend(contract(text, item.end()))
     return found
 
@@ -67,3 +76,34 @@ def public_in(path, exported):
         is_public = item.start(1) in public or within and within[0][0] == "trait"
         if is_public and (within[0][1] if within else item.group(1)) in exported:
             yield "::".join([name for _, name in within] + [item.group(1)])
+
+
+def doc_above(lines, number):
+    """The doc comment above a line, in one line. Attributes and plain comments may be between them."""
+    found = []
+    while number and lines[number - 1].strip().startswith(("//", "#[")):
+        number -= 1
+        if lines[number].strip().startswith("///"):
+            found.insert(0, lines[number].strip())
+    return " ".join(paragraphs("\n".join(found), "///"))
+
+
+class Public(NamedTuple):
+    """A public function: its file, its name, its doc comment, and its promised clauses."""
+
+    file: str
+    name: str
+    doc: str
+    clauses: dict
+
+
+def public_functions(crate):
+    """The public functions of a library, file by file."""
+    exported = exported_from(f"{TOP}/crates/{crate}")
+    for path in sorted(glob.glob(f"{TOP}/crates/{crate}/src/**/*.rt", recursive=True)):
+        names, clauses, text = list(public_in(path, exported)), functions_of(path), code_of(path)
+        with open(path, encoding="utf-8") as file:
+            lines = file.read().split("\n")
+        docs = {name: doc_above(lines, text.count("\n", 0, item.start())) for item, name in items_in(text)}
+        for name in names:
+            yield Public(os.path.relpath(path, TOP), name, docs[name], dict(clauses[name]))
