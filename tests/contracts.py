@@ -97,13 +97,14 @@ class Public(NamedTuple):
     clauses: dict
 
 
-def public_functions(crate):
-    """The public functions of a library, file by file."""
-    exported = exported_from(f"{TOP}/crates/{crate}")
-    for path in sorted(glob.glob(f"{TOP}/crates/{crate}/src/**/*.rt", recursive=True)):
-        names, clauses, text = list(public_in(path, exported)), functions_of(path), code_of(path)
-        with open(path, encoding="utf-8") as file:
-            lines = file.read().split("\n")
+def public_functions(crate, besides):
+    """The public functions of a crate, file by file, and besides them those of these names, by the file."""
+    root = f"{TOP}/crates/{crate}"
+    exported = exported_from(root) if os.path.isfile(f"{root}/src/lib.rt") else set()
+    for path in sorted(glob.glob(f"{root}/src/**/*.rt", recursive=True)):
+        file, clauses, text = os.path.relpath(path, TOP), functions_of(path), code_of(path)
+        with open(path, encoding="utf-8") as source:
+            lines = source.read().split("\n")
         docs = {name: doc_above(lines, text.count("\n", 0, item.start())) for item, name in items_in(text)}
-        for name in names:
-            yield Public(os.path.relpath(path, TOP), name, docs[name], dict(clauses[name]))
+        for name in [*public_in(path, exported), *besides.get(file, ())]:
+            yield Public(file, name, docs[name], dict(clauses[name]))
