@@ -4,6 +4,8 @@ from typing import NamedTuple
 
 from harness import TOP
 
+# A link of a doc comment: [`name`], or [text](path of an item).
+ITEM_LINK = re.compile(r"\[([^\[\]]*)\]\((?!https?:)[^()]*\)|(?<![\w\]])\[(`[^`\]]*`)\]")
 
 class Layer(NamedTuple):
     """A layer: its title, what it has, and the names of its crates."""
@@ -56,11 +58,12 @@ def head(crate):
 
 
 def paragraphs(text, mark):
-    """The paragraphs of the comment with which a text begins, whose lines begin with a mark."""
+    """The paragraphs of the comment with which a text begins, whose lines begin with a mark; of a link to an item of the
+    code only its text."""
     found = [""]
     for line in text.split("\n"):
         if not line.startswith(mark):
             break
         words = line.removeprefix(mark).strip()
         found = [*found[:-1], f"{found[-1]} {words}".strip()] if words else [*found, ""]
-    return [re.sub(r"\[(`[^`\]]*`)\](?!\()", r"\1", one) for one in found if one]
+    return [ITEM_LINK.sub(lambda link: link[1] or link[2], one) for one in found if one]
