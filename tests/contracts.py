@@ -2,6 +2,7 @@
 import glob
 import os
 import re
+from collections.abc import Iterator
 from typing import NamedTuple
 
 from crates import paragraphs
@@ -44,7 +45,7 @@ def owners_in(text):
     return [(m.group(1), owner_name(*m.groups()), m.start(), behind(text, m.end())) for m in OWNER.finditer(text)]
 
 
-def items_in(text):
+def items_in(text: str) -> Iterator[tuple[re.Match, str]]:
     """The functions of a text: the match of each head, and its name, of a type's or a trait's `Type::name`."""
     owners = owners_in(text)
     for item in ITEM.finditer(text):
@@ -78,7 +79,7 @@ def public_in(path, exported):
             yield "::".join([name for _, name in within] + [item.group(1)])
 
 
-def doc_above(lines, number):
+def doc_above(lines: list[str], number: int) -> str:
     """The doc comment above a line, in one line. Attributes and plain comments may be between them."""
     found = []
     while number and lines[number - 1].strip().startswith(("//", "#[")):
@@ -94,10 +95,10 @@ class Public(NamedTuple):
     file: str
     name: str
     doc: str
-    clauses: dict
+    clauses: dict[str, str]
 
 
-def public_functions(crate, besides):
+def public_functions(crate: str, besides: dict[str, list[str]]) -> Iterator[Public]:
     """The public functions of a crate, file by file, and besides them those of these names, by the file."""
     root = f"{TOP}/crates/{crate}"
     exported = exported_from(root) if os.path.isfile(f"{root}/src/lib.rt") else set()

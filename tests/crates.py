@@ -12,13 +12,14 @@ class Layer(NamedTuple):
 
     title: str
     what: str
-    crates: list
+    crates: list[str]
 
 
-def layers(path=f"{TOP}/crates.txt"):
+def layers(path: str = f"{TOP}/crates.txt") -> list[Layer]:
     """The layers of crates.txt in their order. A comment right above a crate is the head of a layer: its title, a full
     stop, and what the layer has."""
-    found, comment = [], None
+    found: list[Layer] = []
+    comment = None
     with open(path, encoding="utf-8") as lines:
         for line in map(str.strip, lines):
             if line.startswith("#"):
@@ -34,19 +35,19 @@ def layers(path=f"{TOP}/crates.txt"):
     return found
 
 
-def uses(path=f"{TOP}/crates.txt"):
+def uses(path: str = f"{TOP}/crates.txt") -> dict[str, list[str]]:
     """The crates that each crate uses, those of the kit too, by its name."""
     with open(path, encoding="utf-8") as lines:
         rows = [line.partition("#")[0].partition(":") for line in lines]
     return {name.strip(): below.split() for name, colon, below in rows if colon}
 
 
-def is_test(crate):
+def is_test(crate: str) -> bool:
     """Whether a crate has tests and nothing else."""
     return crate.endswith("_tests")
 
 
-def head(crate):
+def head(crate: str) -> list[str]:
     """The paragraphs of the doc comment of a crate's root, each in one line and without the brackets of links."""
     for root in "lib", "main":
         try:
@@ -57,9 +58,9 @@ def head(crate):
     return []
 
 
-def paragraphs(text, mark):
-    """The paragraphs of the comment with which a text begins, whose lines begin with a mark; of a link to an item of the
-    code only its text."""
+def paragraphs(text: str, mark: str) -> list[str]:
+    """The paragraphs of the comment with which a text begins, whose lines begin with a mark. Links to items of the code
+    are replaced by their texts."""
     found = [""]
     for line in text.split("\n"):
         if not line.startswith(mark):

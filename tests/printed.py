@@ -6,12 +6,12 @@ In a page, a part that `tests/NAME` prints is between the lines `<!-- printed by
 import os
 import re
 
-from harness import NAME, TOP
+from harness import NAME, TOP, Tally
 
 PART = re.compile(rf"(<!-- printed by tests/{NAME}: (\w+) -->\n)(.*?)(<!-- printed -->\n)", re.S)
 
 
-def write(page, parts):
+def write(page: str, parts: dict[str, str]) -> None:
     """Puts the texts of these parts, by name, into a page."""
     with open(page, encoding="utf-8") as file:
         text = file.read()
@@ -19,7 +19,7 @@ def write(page, parts):
         file.write(PART.sub(lambda found: found[1] + parts[found[2]] + found[4], text))
 
 
-def compare(tally, page, parts):
+def compare(tally: Tally, page: str, parts: dict[str, str]) -> None:
     """Counts the parts of a page that are as printed, and those that aren't."""
     with open(page, encoding="utf-8") as file:
         there = {name: text for _, name, text, _ in PART.findall(file.read())}
@@ -30,7 +30,7 @@ def compare(tally, page, parts):
         tally.note(False, f"{name}: tests/{NAME} prints no part {part}")
 
 
-def table(*rows):
+def table(*rows: list[str]) -> str:
     """The lines of a table with these rows, of which the first is the head."""
     head, *others = rows
     lines = [f"| {' | '.join(row)} |" for row in (head, ["---"] * len(head), *others)]
