@@ -7,7 +7,7 @@ from typing import NamedTuple
 
 from crates import paragraphs
 from harness import TOP
-from sources import behind, code_of
+from sources import behind, code_of, hidden
 
 ITEM = re.compile(r"\bfn ([a-z_0-9]+)\b")
 OWNER = re.compile(r"^(?:pub )?(impl|trait)\b([^{;]*)\{", re.M)
@@ -22,15 +22,16 @@ def owner_name(kind, head):
     return re.search(r"\w+", head.split(" for ")[-1]).group()
 
 
-def contract(text, place):
-    """The promised clauses of the function whose head begins at a place: (name, text) each."""
+def contract(text, place, source=None):
+    """The promised clauses of the function whose head begins at a place: (name, text) each. Where a source is given, of
+    which the text has all but comments and quotes at the same places, the clauses are cut out of it."""
     clauses, depth = [], 0
     while place < len(text):
         clause = CLAUSE.match(text, place) if depth == 0 else None
         if clause:
             end = behind(text, clause.end())
             if clause.group(1) == "ensures":
-                clauses.append((clause.group(2) or "ensures", text[clause.end() : end - 1]))
+                clauses.append((clause.group(2) or "ensures", (source or text)[clause.end() : end - 1]))
             place = end
             continue
         depth += {"(": 1, "[": 1, ")": -1, "]": -1}.get(text[place], 0)
@@ -103,9 +104,11 @@ def public_functions(crate: str, besides: dict[str, list[str]]) -> Iterator[Publ
     root = f"{TOP}/crates/{crate}"
     exported = exported_from(root) if os.path.isfile(f"{root}/src/lib.rt") else set()
     for path in sorted(glob.glob(f"{root}/src/**/*.rt", recursive=True)):
-        file, clauses, text = os.path.relpath(path, TOP), functions_of(path), code_of(path)
-        with open(path, encoding="utf-8") as source:
-            lines = source.read().split("\n")
-        docs = {name: doc_above(lines, text.count("\n", 0, item.start())) for item, name in items_in(text)}
+        file = os.path.relpath(path, TOP)
+        with open(path, encoding="utf-8") as opened:
+            source = opened.read()
+        text, lines = hidden(source), source.split("\n")
+        items = {name: item for item, name in items_in(text)}
         for name in [*public_in(path, exported), *besides.get(file, ())]:
-            yield Public(file, name, docs[name], dict(clauses[name]))
+            doc = doc_above(lines, text.count("\n", 0, items[name].start()))
+            yield Public(file, name, doc, dict(contract(text, items[name].end(), source)))
