@@ -32,7 +32,7 @@ def build(name, crates, kit=""):
     """Proves and builds a program over hard links of these libraries of the product, and these of the kit. Returns its
     path."""
     with open(f"{TOP}/crates.txt", encoding="ascii") as it:
-        over = dict(line.strip().split(":", 1) for line in it if ":" in line)
+        over = dict(line.strip().split(":", 1) for line in it if ":" in line and not line.startswith("#"))
     room = f"{TOP}/crates/hermitage_lab/out/bench/{name}"
     own, used = f"{room}/crates/{name}", below(crates, over)
     os.makedirs(f"{own}/src", exist_ok=True)
