@@ -18,6 +18,7 @@ from recorded.records import AT_ONCE, PROMISES, SECONDS
 
 SESSIONS, ROWS, CUT = 4, 20, 30
 SHRUNK = 10  # the first parts of a load
+LEFT_OUT, INTERRUPTED = 4, 130  # exit statuses
 TOLD = re.compile(
     r"recorders/load: (\d+) transactions, (\d+) committed, (\d+) refused, (\d+) parts(?:, (\d+) left out)?,"
     r" (\d+\.\d) seconds, \d+ transactions a second"
@@ -114,8 +115,9 @@ class Interrupted(Ended):
 
 def try_parts(tally, name, load, promise, status=0):
     """The result of a load: at least two parts, each sound and at the promised level, each beginning as the one before it
-    ended; and its output about them."""
-    told = TOLD.fullmatch(load.said[-1 if status == 0 else -2]) if len(load.said) > (status != 0) else None
+    ended; and its output about them. After an interrupt, a further line reports it."""
+    summary = load.said[-2 if status == INTERRUPTED else -1 :][:1]
+    told = TOLD.fullmatch(*summary) if summary else None
     if not tally.note(load.ended.returncode == status and told, f"{name}: {load.ended.returncode}, {load.said}"):
         return
     is_met, why = load.is_met(tally.program, promise)
@@ -174,7 +176,7 @@ def try_edited(tally):
     left_out = [int(number) for number in re.findall(r"part (\d+) is left out: gone", "\n".join(load.said))]
     is_left_out = len(left_out) == 1 and left_out[0] not in load.texts and left_out[0] < max(load.texts, default=0)
     tally.note(is_left_out, f"a part that can't be told isn't left out: {load.said}")
-    try_parts(tally, "a load of which a part can't be told", load, "PL-3")
+    try_parts(tally, "a load of which a part can't be told", load, "PL-3", status=LEFT_OUT)
 
 
 def is_of_mix(statements):
@@ -223,4 +225,4 @@ def try_refused(tally):
 def try_interrupt_of_load(tally):
     load = Interrupted(["toy", *OTHERS], seconds=60)
     tally.note(load.said[-1:] == ["recorders/load: interrupted"], f"an interrupted load said {load.said}")
-    try_parts(tally, "an interrupted load", load, "PL-3", status=130)
+    try_parts(tally, "an interrupted load", load, "PL-3", status=INTERRUPTED)
