@@ -73,7 +73,7 @@ def by_path(name):
         size = os.path.getsize(name)
     except OSError:
         size = 0
-    return os.path.abspath(name).decode() if name else None, size
+    return os.fsdecode(os.path.abspath(name)) if name else None, size
 
 
 def reason(why):

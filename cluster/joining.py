@@ -32,7 +32,7 @@ class Joining:
     def joined(self, words):
         """Runs the program that joins the results, with these arguments. Without results, it gets a run without parts."""
         ended = self.ran(*words, *(["--join", *self.paths] if self.paths else ["--files-from", os.devnull]))
-        if ended.returncode not in range(4):
+        if ended.returncode not in range(4) or not ended.stdout:
             raise Stop(f"the program that joins answers ended with {ended.returncode}: {ended.stderr.decode()}")
         return ended
 

@@ -10,6 +10,7 @@ from words import Stop
 PER_THREAD = 4  # submitted bundles for each thread of the cluster
 WAITING = 4  # times as many may be submitted, or done and waiting for an earlier one
 LOOK = 1  # seconds between two looks at the cluster
+NOBODY = "for {:.0f} s no worker was there that can run the program"
 
 
 class Judging:
@@ -49,7 +50,7 @@ class Judging:
                 if self.threads():
                     since = time.monotonic()
                 elif time.monotonic() - since > self.patience:
-                    raise Stop(f"for {self.patience:.0f} s no worker was there that can run the program") from None
+                    raise Stop(NOBODY.format(self.patience)) from None
 
     def collect(self):
         """Takes one result, or the reason why there is none."""

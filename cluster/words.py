@@ -20,8 +20,9 @@ EPILOG = """examples:
   cluster/judge --scheduler tcp://HOST:8786 --parts --require PL-3 parts/part*.json
 
 exit status: 0 to 3 as for batch or chain, the highest of all files; also 3 if the scheduler or all workers are gone: the
-output is then only the beginning of the whole. 5 the command line was refused. 6 a file wasn't judged, `file: unjudged`:
-the workers that had it died, or the program failed on it. Standard error has the files and the reasons.
+output is then only the beginning of the whole; or if the program isn't hermitage_lab, or has several versions on the
+workers. 5 the command line was refused. 6 a file wasn't judged, `file: unjudged`: the workers that had it died, or the
+program failed on it or had no result for it. Standard error has the files and the reasons.
 """
 
 
