@@ -9,6 +9,16 @@ looked_up=$out/looked_up
 
 say() { echo "$name: $*" >&2; }
 
+# Returns whether the checkout has what finding and building a program needs; otherwise prints what is missing.
+is_whole() {
+    local part
+    for part in crates.txt crates prove; do
+        [ -e "$top/$part" ] && continue
+        say "$top has no $part: the launcher needs a whole checkout; a built program runs alone"
+        return 1
+    done
+}
+
 # Prints the lines of a folder's crates.txt for a crate (the program if none is named) and its dependencies: lowest first,
 # its own last.
 crate_lines() {
