@@ -21,11 +21,15 @@ class Served(Tables):
         super().__init__(words, script)
 
     def connect(self):
-        given = ((name, getattr(self.words, name)) for name in self.OPTIONS)
-        client = self.CLIENT([f"--{name}={value}" for name, value in given if value])
+        client = self.CLIENT([f"--{name}={value}" for name, value in self.given().items()])
         self.connections.append(client)
         self.set_up(client)
         return client
+
+    def given(self):
+        """The options of a connection that were given."""
+        found = {name: getattr(self.words, name) for name in self.OPTIONS}
+        return {name: value for name, value in found.items() if value}
 
     def make_tables(self):
         self.look(f"create schema {self.schema}")
