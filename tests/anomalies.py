@@ -254,10 +254,11 @@ def play(draw: random.Random) -> tuple[str, str]:
     lines = ["setup (1, 10), (2, 20), (3, 30);", *(f"begin; -- T{no}" for no in range(1, sessions + 1))]
     for _ in range(draw.randint(5, 14)):
         id, no = draw.randint(1, rows), draw.randint(1, sessions)
-        text = draw.choice((
-            f"select * from test where id = {id}", f"update test set value = value + {no} where id = {id}",
-            f"update test set value = value + {no} where id = {id}", f"update test set value = {no} where id = {id}",
-            f"select * from test where value > {10 * id}", f"delete from test where id = {id}", "commit",
-        ) if draw.random() < 0.3 else (f"select * from test where id = {id}", f"update test set value = value + {no} where id = {id}"))
+        read, add = f"select * from test where id = {id}", f"update test set value = value + {no} where id = {id}"
+        others = (
+            f"update test set value = {no} where id = {id}", f"select * from test where value > {10 * id}",
+            f"delete from test where id = {id}", "commit",
+        )
+        text = draw.choice((read, add, add, *others) if draw.random() < 0.3 else (read, add))
         lines.append(f"{text}; -- T{no}")
     return draw.choice(ENGINES), "\n".join([*lines, *(f"commit; -- T{no}" for no in range(1, sessions + 1)), ""])
