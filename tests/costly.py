@@ -314,9 +314,9 @@ def long_changes(part: int) -> bytes:
 def reborn_while_read(part: int) -> bytes:
     """T1 runs long selects that list nothing; T2 deletes rows and inserts them again."""
     selects = long_conditions(small_remainder, "select * from test where ")
-    lines = [setup(400), of(1, "begin"), *(of(1, next(selects)) for _ in range(1_000 // part)), of(2, "begin")]
+    lines = [setup(150), of(1, "begin"), *(of(1, next(selects)) for _ in range(1_000 // part)), of(2, "begin")]
     for number in range(480 // part):
-        row = number % 400 + 1
+        row = number % 150 + 1
         lines += [of(2, "delete from test where id >= 1"), of(2, f"insert into test (id, value) values ({row}, {STEP})")]
     return script([*lines, of(2, "commit"), of(1, "commit")])
 
@@ -352,7 +352,7 @@ def waiting(part: int, maker: Maker = small_remainder, change: str = "update tes
     lines = [setup(300), of(1, "begin"), of(1, f"update test set value = value + {STEP} where id = 1")]
     lines += [of(session, "begin") for session in range(2, 10)]
     lines += [of(session, next(deletes) + tail) for session in range(2, 10)]
-    lines += [of(1, change.format(row=number % 290 + 10)) for number in range(1_900 // part)]
+    lines += [of(1, change.format(row=number % 50 + 10)) for number in range(1_900 // part)]
     return script([*lines, of(1, "commit")])
 
 
@@ -374,7 +374,7 @@ def waiting_over_reads(part: int) -> bytes:
 def committed_by_turns(part: int) -> bytes:
     """Eight sessions by turns that select and update by short conditions that name no row, and commit; one long
     transaction reads throughout, and commits last."""
-    lines = [setup(300, lambda row: row % 10), of(9, "begin")]
+    lines = [setup(100, lambda row: row % 10), of(9, "begin")]
     for number in range(480 // part):
         session, last = number % 8 + 1, number % 10
         lines += [of(session, "begin"), of(session, f"select * from test where value % 10 = {(last + 5) % 10}")]
