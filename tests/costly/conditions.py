@@ -104,6 +104,14 @@ def mixed(draw: random.Random) -> str:
     return draw.choice(MIXED)(draw)
 
 
+# The kinds of parts of a condition, by their names.
+KINDS: dict[str, Maker] = {
+    "remainders": remainder, "no_remainders": no_remainder, "negative_remainders": negative_remainder, "equals": equal,
+    "not_unequals": not_unequal, "unequals": unequal_twice, "gaps": in_gap, "out_of_reach": out_of_reach, "members": members,
+    "negations": negation, "some_ids": of_some_ids, "id_or_values": id_or_value, "id_remainders": id_remainder, "mixed": mixed,
+}
+
+
 def long_condition(draw: random.Random, maker: Maker, room: int) -> str:
     """A condition of at most so many bytes, and as long as may be."""
     parts = [maker(draw)]
@@ -114,6 +122,11 @@ def long_condition(draw: random.Random, maker: Maker, room: int) -> str:
         if size > room:
             return " or ".join(parts)
         parts.append(part)
+
+
+def bounded(draw: random.Random) -> str:
+    """One remainder and a bound of its own, so that no two conditions are equal."""
+    return f"{remainder(draw)} and value < {LARGEST - draw.randrange(900)}"
 
 
 def long_conditions(maker: Maker, before: str, room: int = STATEMENT) -> Iterator[str]:
