@@ -7,6 +7,8 @@ import sys
 TOP = os.path.dirname(os.path.dirname(os.path.realpath(__file__)))
 NAME = os.path.basename(sys.argv[0])
 SECONDS = 60
+# No call has to ask for more bytes at once: the preloaded library ends a program that does.
+LARGEST = 64 * 1_024 * 1_024
 
 
 def refuse(why):
