@@ -1,17 +1,17 @@
-"""What the sources ask of an allocator: how much room a call makes at once.
+"""How much memory the sources ask for: the number of elements in calls that reserve room.
 
-A body that asks for more than there can be is refused memory, and proves as one that was refused a small block. So what is
-asked for has to be the length of something that is there. Anything else is listed in tests/allocations.tsv: numbers,
-arithmetic, branches, constants, and what a function answers."""
+A body that asks for more than exists is refused memory, and is proved like one that was refused a small block. So a request
+must be the length of something that exists. tests/requests.tsv lists all others, word for word: numbers, arithmetic,
+branches, constants, parameters, and results of functions."""
 import re
 from collections.abc import Iterator
 
 from sources import behind
 
-# Calls whose last argument is a number of elements, and the third part of `vec![in alloc; VALUE; COUNT]`.
+# Calls with a number of elements as last argument, and lists `vec![in alloc; VALUE; COUNT]`.
 CALL = re.compile(r"\b(?:with_capacity|(?:try_)?reserve(?:_exact)?|resize)\(|\bvec!\[\s*in\b")
 DEFINED = re.compile(r"\bfn $")
-# Names, fields, and methods that answer how many there are of something.
+# Names, fields, and methods that return how many elements something has.
 PLAIN = re.compile(
     r"^(?:\w+(?:\.\w+)*(?:\.entries\(\)|\.as_bytes\(\))?(?:\.(?:len|nodes)\(\))?)(?: as usize)?$"
 )
@@ -19,7 +19,7 @@ NUMBER = re.compile(r"^\d|(?:^|[.:])[A-Z][A-Z_0-9]*$")
 
 
 def parts(text: str, separator: str) -> list[str]:
-    """The parts of a list between brackets of any kind."""
+    """The parts of a list, at separators outside of brackets."""
     found, depth = [""], 0
     for sign in text:
         depth += (sign in "([{") - (sign in ")]}")
@@ -31,8 +31,8 @@ def parts(text: str, separator: str) -> list[str]:
 
 
 def asked_of(text: str, call: re.Match[str]) -> str | None:
-    """How much a call asks for, as the source says it; None for a list whose elements are written out, and for a `reserve` of
-    the project's own, which takes an allocator besides."""
+    """The request of a call, as in the source. None for a list whose elements are written out, and for the project's own
+    `reserve`, which has an allocator as another argument."""
     if text[call.end() - 1] == "(":
         arguments = [part for part in parts(text[call.end() : behind(text, call.end(), "(", ")") - 1], ",") if part]
         is_filled = call.group().startswith("resize")
@@ -44,21 +44,28 @@ def asked_of(text: str, call: re.Match[str]) -> str | None:
     return members[2] if len(members) == 3 else None
 
 
+def is_assigned(name: str, before: str) -> bool:
+    """Whether a text gives a name another value than the one that it is bound to."""
+    return re.search(rf"(?:^|[;{{}}\s]){re.escape(name)} [-+*/|&^]?= ", before) is not None
+
+
 def is_length(asked: str, before: str) -> bool:
-    """Whether what is asked for is the length of something; a name that the text before binds is what is bound to it."""
-    asked = re.sub(r"^usize::from\((.*)\)$", r"\1", asked)
-    if not PLAIN.match(asked) or NUMBER.search(asked.removesuffix(" as usize")):
+    """Whether a request is the length of something. A name must be bound to one in the text before."""
+    asked = re.sub(r"^usize::from\((.*)\)$", r"\1", asked).removesuffix(" as usize")
+    if not PLAIN.match(asked) or NUMBER.search(asked):
         return False
-    bound = re.findall(rf"\blet (?:mut )?{re.escape(asked.removesuffix(' as usize'))}(?:: [\w<>]+)? = ([^;]*);", before)
-    return not bound or is_length(" ".join(bound[-1].split()), "")
+    if asked.endswith("()"):
+        return True
+    bound = re.findall(rf"\blet {re.escape(asked)}(?:: [\w<>]+)? = ([^;]*);", before)
+    return len(bound) == 1 and not is_assigned(asked, before.replace(f"let {asked} =", "")) and is_length(" ".join(bound[0].split()), "")
 
 
-def odd_requests(text: str) -> Iterator[int]:
-    """The places of a text where something else than a length is asked for."""
+def odd_requests(text: str) -> Iterator[tuple[int, str]]:
+    """The requests in a text that aren't the length of something, with the place of each."""
     for call in CALL.finditer(text):
         if DEFINED.search(text[: call.start()]):
             continue
         asked = asked_of(text, call)
         begin = text.rfind("\n}", 0, call.start())
         if asked is not None and not is_length(asked, text[max(begin, 0) : call.start()]):
-            yield call.start()
+            yield call.start(), asked
