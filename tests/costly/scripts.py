@@ -113,6 +113,31 @@ def waiting_over_reads(part: int) -> bytes:
     return script([*lines, *(of(1, next(selects)) for _ in range(1_900 // part)), of(9, "commit"), of(1, "commit")])
 
 
+def waiting_for_reader(part: int) -> bytes:
+    """Eight sessions wait for T1, which reads on by long selects that list nothing: its reads block nobody whom it doesn't
+    block already, and free nobody."""
+    selects = long_conditions(small_remainder, "select * from test where ")
+    deletes = long_conditions(small_remainder, "delete from test where ", 890)
+    lines = [setup(300), of(1, "begin"), of(1, f"update test set value = value + {STEP} where id = 1")]
+    lines += [of(session, "begin") for session in range(2, 10)]
+    lines += [of(session, next(deletes) + " or id = 1") for session in range(2, 10)]
+    return script([*lines, *(of(1, next(selects)) for _ in range(1_900 // part)), of(1, "commit")])
+
+
+def unseen_rows(part: int) -> bytes:
+    """T2 writes all rows and commits; T1, which began before, selects one row again and again, and doesn't see what T2 wrote on
+    an engine with snapshots: its views list nothing."""
+    select = of(1, "select * from test where id = 1")
+    lines = [setup(400), of(1, "begin"), select, of(2, "begin"), of(2, "update test set value = value + 1"), of(2, "commit")]
+    return script([*lines, *[select] * (1_980 // part), of(1, "commit")])
+
+
+def alone(part: int) -> bytes:
+    """One session updates rows by long conditions that match nothing, while nobody else is in a transaction."""
+    updates = long_conditions(small_remainder, f"update test set value = value + {STEP} where ")
+    return script([setup(400), of(1, "begin"), *(of(1, next(updates)) for _ in range(1_900 // part)), of(1, "commit")])
+
+
 def committed_by_turns(part: int) -> bytes:
     """Eight sessions by turns that select and update by short conditions that name no row, and commit; one long
     transaction reads throughout, and commits last."""
@@ -164,6 +189,9 @@ SCRIPTS: dict[str, Made] = {
     "waiting_by_value": partial(waiting, tail=f" or value = {STEP}"),
     "waiting_for_all": waiting_for_all,
     "waiting_over_reads": waiting_over_reads,
+    "waiting_for_reader": waiting_for_reader,
+    "unseen_rows": unseen_rows,
+    "alone": alone,
     "committed_by_turns": committed_by_turns,
     "overlapping_updates": overlapping_updates,
     "long_serial": long_serial,
