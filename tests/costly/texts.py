@@ -13,6 +13,13 @@ def rows_in_two_lists(part: int, version: int = 1) -> bytes:
             f'"version":{version}}}').encode()
 
 
+def unsorted_at_end(part: int) -> bytes:
+    """A file with its keys in the order of docs/FORMATS.md, many rows at first, and two in the wrong order in the end."""
+    initial = ",".join(f"[{row},0]" for row in range(1, 700_000 // part))
+    return (f'{{"format":"hermitage-history","version":1,"initial":[{initial}],"transactions":[],"installed":[],'
+            '"end":[[2,0],[1,0]]}').encode()
+
+
 def repeated(unit: str, size: int, part: int) -> bytes:
     """A list of as many units as have so many bytes together."""
     return b"[" + b",".join([unit.encode()] * (size // part // (len(unit) + 1))) + b"]"
@@ -26,6 +33,7 @@ def nested(begin: str, inner: str, end: str, depth: int) -> str:
 TEXTS: dict[str, tuple[Made, bytes]] = {
     "rows_in_two_lists": (rows_in_two_lists, b"file: OverLimit ids\n"),
     "rows_in_two_lists_2": (partial(rows_in_two_lists, version=2), b"file: OverLimit ids\n"),
+    "unsorted_at_end": (unsorted_at_end, b"file: Unsorted /end\n"),
     "ones": (partial(repeated, "1", 8_000_000), b"file: WrongFormat /\n"),
     "ones_bare": (lambda part: b"1," * (4_000_000 // part), b"file: NotJson\n"),
 }
