@@ -167,7 +167,8 @@ def wide_seams(room):
         table, row, _ = rows[place]
         due = at_seam(20, f"{name}.json", f"{table} {row}".removeprefix("test "))
         yield Run(["chain", *["same.json"] * 19, f"{name}.json"], b"", due)
-        yield Run(["chain", "--json", "same.json", f"{name}.json"], b"", lambda ran, it=changed[name]: is_answer(ran.stdout, rows, it))
+        words = ["chain", "--json", "same.json", f"{name}.json"]
+        yield Run(words, b"", lambda ran, it=changed[name]: is_answer(ran.stdout, rows, it))
 
 
 def is_answer(out, initial, end):

@@ -57,7 +57,9 @@ def is_length(asked: str, before: str) -> bool:
     if asked.endswith("()"):
         return True
     bound = re.findall(rf"\blet {re.escape(asked)}(?:: [\w<>]+)? = ([^;]*);", before)
-    return len(bound) == 1 and not is_assigned(asked, before.replace(f"let {asked} =", "")) and is_length(" ".join(bound[0].split()), "")
+    if len(bound) != 1 or is_assigned(asked, before.replace(f"let {asked} =", "")):
+        return False
+    return is_length(" ".join(bound[0].split()), "")
 
 
 def odd_requests(text: str) -> Iterator[tuple[int, str]]:
