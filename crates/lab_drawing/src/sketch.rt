@@ -1,4 +1,4 @@
-//! Making a drawing.
+//! Makes drawings.
 
 ghost use Rattle.std.specs.Prelude.{◌≡◌, [], map, flat_map, IfOk};
 ghost use Rattle.lab_drawing.specs.Making.{arrows_of, listed};
@@ -16,8 +16,7 @@ use lab_reports::Phenomenon;
 use lab_table::{NoMemory, TxnNo};
 use std::alloc::Global;
 
-/// The drawing of a serial verdict, or of what a report finds of a phenomenon. NoMemory where an allocation was
-/// refused.
+/// Returns the drawing of the serial verdict, or of the finding about a phenomenon.
 pub fn draw(
     alloc: Global,
     history: &History,
