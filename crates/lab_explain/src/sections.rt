@@ -185,8 +185,8 @@ fn one_text(
     Ok(out)
 }
 
-/// The explanation of a report on a history: of its serial verdict, its snapshot verdict, its phenomena and its level; or of
-/// what it finds of one phenomenon. It has at most 100 lines. NoMemory where an allocation was refused.
+/// Returns the explanation of a report on a history: of its serial verdict, its snapshot verdict, its phenomena and its
+/// level; or of its finding about one phenomenon. It has at most 100 lines.
 pub fn explanation(
     alloc: Global,
     history: &History,
