@@ -1,4 +1,4 @@
-//! The dependencies of a yes that a picture has.
+//! The dependencies of a yes that a picture shows.
 
 ghost use Rattle.std.specs.Prelude.{◌≡◌, ◌↔◌, ◌++◌, [], Contains, IfOk, OnOk};
 ghost use Rattle.lab_history.specs.History.{History as Held};
@@ -152,8 +152,8 @@ fn serial_arrows(alloc: Global, history: &History, serial: &Serial) -> Result<Ve
     }
 }
 
-/// The arrows of a yes: those of the least dependencies between transactions that are near to each other. None of a no,
-/// and of what is found of a phenomenon. NoMemory where an allocation was refused.
+/// Returns the arrows of a yes: those of the least dependencies between transactions whose columns are near to each
+/// other. Returns none for a no, or for a finding about a phenomenon.
 pub fn forward_arrows(
     alloc: Global,
     history: &History,

@@ -1,4 +1,4 @@
-//! The text of a drawing, in SVG.
+//! The SVG text of a drawing.
 
 ghost use Rattle.std.specs.Prelude.{◌≡◌, ◌++◌, ◌≤◌, IfOk, OnOk};
 ghost use Rattle.lab_picture.specs.Svg.{numbers_text, view_text, svg_text, letters_text, open_text, told_title, told_line, told_text, marker_text, ground_text, head_text, arrows_drawn, drawn_columns, placed, drawn_arrows, values_y, whole_height, body_text, svg_with, svg_of, goes_below, frame_of};
@@ -252,7 +252,7 @@ fn put_drawing(
     out.extend_from_slice(b"</svg>\n")
 }
 
-/// The text of a drawing of some of a history's transactions. NoMemory where an allocation was refused.
+/// Returns the SVG text of a drawing.
 pub fn print_drawing(
     alloc: Global,
     history: &History,
