@@ -1,4 +1,4 @@
-//! What one line says of a run in parts.
+//! A line of the summary of a run in parts.
 
 ghost use Rattle.std.specs.Prelude.{◌≡◌, IfOk};
 ghost use Rattle.lab_chain.specs.Lines.{line_weight, line_joined};
@@ -16,14 +16,14 @@ pub fn text_of(alloc: Global, bytes: &[u8]) -> Result<Text, NoMemory>
     Ok(Text::new(Vec::from_slice(alloc, bytes)?))
 }
 
-/// What one line says of a run in parts: of a verdict or of a phenomenon.
+/// A line of the summary, about a verdict or a phenomenon.
 #[derive(Drop)]
 pub enum Line {
-    /// Each part says yes, or that the phenomenon is absent.
+    /// For each part, the verdict is yes or the phenomenon is absent.
     Clear,
-    /// No part says no, or present, and this is the first that doesn't say.
+    /// No part has a no or the phenomenon, and this is the first part that wasn't judged.
     Unjudged { part: Text },
-    /// This is the first part that says no, or present, and why.
+    /// The first part with a no or the phenomenon, and the reason.
     Found { part: Text, reason: Text },
 }
 
@@ -71,7 +71,7 @@ impl Line {
         }
     }
 
-    /// What is said of two pieces of a run, one behind the other.
+    /// Returns the line of two pieces of a run, `self` before `next`.
     pub fn joined(self, next: Line) -> Line
         ensures { result ≡ line_joined self next }
     {
