@@ -1,4 +1,4 @@
-//! The subcommands, and the program's command with all of them.
+//! The subcommands, and the command of the program with all of them.
 
 ghost use Rattle.std.specs.Prelude.{ℕ, List, [], ◌∷◌, ◌++◌, ◌≡◌, codes, IfOk};
 ghost use Rattle.lab_command_line.specs.Subcommands.{HasSubcommands, IsNamed, subcommands};
@@ -187,7 +187,7 @@ fn with_subcommand<'a>(
     command?.subcommand(more?)
 }
 
-/// The program's command with all subcommands. NoMemory where an allocation was refused.
+/// Returns the command of the program with all subcommands.
 // What was refused is handed on, and looked at in `with_subcommand` alone: each exit here would let a command go.
 pub fn command<'a>(alloc: Global, names: &'a Names) -> Result<Command<'a>, AllocError>
     ensures { IfOk result (λ c. subcommand_names c ≡ subcommands) }
