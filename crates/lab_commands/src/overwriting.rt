@@ -28,7 +28,7 @@ fn remove_row(alloc: Global, rows: &mut ByRow<Value>, row: RowName)
     *rows = ByRow::from_rising(entries);
 }
 
-/// Puts a row into a state, by which it is absent where there is none. The one refusal is want of memory, and leaves all as it was.
+/// Sets the state of a row; `None` removes it. On failure, nothing has changed.
 pub fn put_state(
     alloc: Global,
     rows: &mut ByRow<Value>,

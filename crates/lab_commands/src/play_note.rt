@@ -1,4 +1,4 @@
-//! What is said on standard error beside the answer of a play.
+//! Writes hints on a play to standard error.
 
 use lab_hints::{limit_rule, note_rule};
 use lab_session::{CloseFault, PlayFault};
@@ -40,8 +40,8 @@ fn rule_of(fault: &PlayFault) -> Option<&'static str> {
     }
 }
 
-/// Writes what there is to say of a play beside the answer: on its fault if it has one, else on the fault of its script or
-/// of its history's file, or that no transaction begins in it. Nothing for want of memory. The texts aren't promised.
+/// Writes a hint on a play after its output: on its fault if it has one, else on the fault of its script or of its
+/// history's file, or that no transaction begins in it. Writes nothing if memory runs out. The texts aren't promised.
 pub fn note_play<N: Write>(
     alloc: Global,
     input: &[u8],
