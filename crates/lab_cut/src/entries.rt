@@ -1,4 +1,4 @@
-//! Histories whose statements are recorded to have seen less.
+//! Removes entries of views from a history.
 
 ghost use Rattle.std.specs.Prelude.{◌≡◌, cond, ◌∷◌, [], ◌++◌, IfOk, OnOk, IfSome, length, drop};
 ghost use Rattle.std.specs.FinMap as map;
@@ -12,8 +12,8 @@ use lab_history::{History, Installed, Installers, Op, Ops, Parts, Txn, Txns, Ver
 use lab_table::{NoMemory, RowName, Table};
 use std::alloc::Global;
 
-/// A history without the entries of views that aren't kept. `kept` says of each, in the order of the file, whether it is;
-/// entries beyond it are. NoMemory where an allocation was refused, and None where what is left isn't a history.
+/// Returns the history without the view entries whose flag in `kept` is `false`. The flags are in the order of the
+/// file; entries beyond them stay. Returns `None` if the rest isn't a history.
 pub fn without_entries(
     alloc: Global,
     history: &History,

@@ -1,4 +1,4 @@
-//! Histories of some of their rows.
+//! Removes rows from a history.
 
 ghost use Rattle.std.specs.Prelude.{◌≡◌, map, IfOk, IfSome};
 ghost use Rattle.std.specs.FinMap.{retain_keys};
@@ -13,8 +13,8 @@ use lab_history::{History, Installed, Installers, Op, Ops, Parts, Rows, Txn, Txn
 use lab_table::{ByRow, NoMemory, RowName, Table};
 use std::alloc::Global;
 
-/// A history of which each list names these rows alone. The statements are the same. NoMemory where an allocation was
-/// refused, and None where what is left isn't a history.
+/// Returns the history with only these rows in its lists, and the same statements. Returns `None` if the rest isn't a
+/// history.
 pub fn with_rows(
     alloc: Global,
     history: &History,

@@ -1,4 +1,4 @@
-//! The tables before and behind the operations that are kept.
+//! The initial and final tables of a part.
 
 ghost use Rattle.std.specs.Prelude.{◌≡◌, [], ◌++◌, None, Some, MatchOption, IfOk, OnOk, option_map};
 ghost use Rattle.std.specs.FinMap as map;
@@ -199,7 +199,7 @@ fn put_present(rows: &mut ByRow<Value>, states: &[(RowName, State)]) -> Result<(
     Ok(())
 }
 
-/// A table with rows in new states. NoMemory where an allocation was refused.
+/// Returns a copy of `table` with these rows in new states.
 fn with_states(alloc: Global, table: &Table, states: &Writes) -> Result<Table, NoMemory>
     ensures { IfOk result (λ made. made ≡ overwritten states.now table.now) }
 {
