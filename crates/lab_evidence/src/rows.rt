@@ -1,5 +1,4 @@
-//! The rows of a page. Each function that takes bytes appends to them; after NoMemory, part of what was to be appended may
-//! stand there.
+//! The rows of a page. Functions that take bytes append; on failure, a part of the text may have been appended.
 
 ghost use Rattle.std.specs.Prelude.{◌≡◌, ◌++◌, ◌≤◌, is_some, flat_map, IfOk, OnOk};
 ghost use Rattle.std.specs.FinMap as finite;
@@ -236,7 +235,7 @@ fn put_rows_with(
     out.extend_from_slice(rows_close())
 }
 
-/// Appends the whole part.
+/// Appends the section on rows.
 pub fn put_rows(
     alloc: Global,
     out: &mut Vec<u8>,

@@ -1,4 +1,4 @@
-//! What a page shows of a history.
+//! The part of a history that a page shows.
 
 ghost use Rattle.std.specs.Prelude.{◌≡◌, ◌++◌, is_some, IfOk, OnOk};
 ghost use Rattle.lab_history.specs.Version.{ops_of, op_at};
@@ -15,12 +15,12 @@ use lab_table::{NoMemory, RowName, TxnNo};
 use std::alloc::Global;
 use std::marker::Model;
 
-/// What a page shows.
+/// The part of a history that a page shows.
 #[derive(Drop)]
 pub struct Scope {
     /// The transactions.
     pub txns: Vec<TxnNo>,
-    /// What is in question.
+    /// The operations in question.
     pub asked: Vec<Question>,
     /// The rows in question.
     pub rows: Vec<RowName>,
@@ -111,7 +111,7 @@ fn scope_with(
     Ok(Scope { txns, asked, rows })
 }
 
-/// What the page of a report shows. NoMemory where an allocation was refused.
+/// Returns the part of a history that the page of a report shows.
 pub fn scope_of(
     alloc: Global,
     history: &History,
