@@ -173,10 +173,10 @@ impl<'p, P: Write> Subcommand for Shrinker<'p, P> {
     ghost whole = { λ s. shrinks_whole s.asked };
 }
 
-/// Reads a history file, and writes one of a part of its history that shows what a judgement of the history shows: the no of
-/// its serial verdict, its fault's kind, or the phenomenon that is asked for. Where it shows nothing of that, where nothing can
-/// go, or where the part's file would be too long, it writes the input as it is, and `notes` is told. Or the line of the
-/// file's first fault. It reads, writes and ends as [`answer_input`] does.
+/// Reads a history file, and writes the file of a part of its history that shows what the judgement shows: the no of
+/// its serial verdict, the kind of its fault, or the phenomenon that is asked for. If the judgement shows none of
+/// these, nothing can be removed, or the file of the part would be too long, writes the input unchanged, and a line to
+/// `notes`. If the file is refused, writes the line of its first fault. Reads, writes and ends as `answer_input` does.
 pub fn shrink<R: Read, W: Write, N: Write, P: Write>(
     alloc: Global,
     reader: &mut R,
