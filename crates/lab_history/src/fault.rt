@@ -5,7 +5,7 @@ use lab_table::TxnNo;
 use std::alloc::{AllocError, AllocFailed};
 use thiserror::Error;
 
-/// What a history or its file can have too many of.
+/// The limits of histories and of their files.
 #[derive(Clone, Copy, Debug, PartialEq, Eq)]
 pub enum Limit {
     /// A file has at most 8,388,608 bytes.
