@@ -103,10 +103,10 @@ fn take_round<W: Watcher>(
     Ok(found)
 }
 
-/// Shrinks a history: returns a part of it that shows the goal. No transaction, operation, row or view entry can be
-/// removed from the part, unless the search ended before that was known (`is_least`). If nothing could be removed,
-/// `history` is `None`. The search first keeps what the judgement names, a cycle or a fault, with what that needs. Then
-/// it removes halves, quarters and so on, of transactions, operations, rows and view entries.
+/// Shrinks a history: returns a part of it that shows the goal, or `None` in `history` if nothing could be removed.
+/// `is_least` says whether the search ended with a part from which no transaction, operation, row or view entry can be
+/// removed; no clause states this. The search first keeps what the judgement names, a cycle or a fault, with what that
+/// needs. Then it removes halves, quarters and so on, of transactions, operations, rows and view entries.
 pub fn shrink<W: Watcher>(
     alloc: Global,
     history: &History,
