@@ -1,4 +1,4 @@
-//! What the subcommands share: reading an input, writing a text, how a run ends, and how a report is written.
+//! Shared parts of the subcommands: reading an input, writing a text, the end of a run, and the formats of a report.
 //!
 //! A subcommand that reads an input implements [`Subcommand`]; [`answer_input`] runs it on its streams. A subcommand
 //! that prints something about a history implements [`Teller`]; [`tell_history`] reads its file.
