@@ -2,7 +2,8 @@
 //! each case on each engine, and [`matrix_at`] on the engines of given levels.
 //!
 //! Each writes one text. If it was written, the result is an `Ending`, otherwise a `RunFault` other than `Unread`. The
-//! matrix has one text, by the contracts of [`matrix_answer_unique`] and [`columns_answer_unique`].
+//! matrix has one text, by the contracts of [`matrix_answer_unique`] and [`columns_answer_unique`]. Functions that
+//! allocate return `NoMemory` if an allocation fails.
 #![tactic(auto)]
 
 mod laws;

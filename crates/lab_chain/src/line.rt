@@ -9,7 +9,7 @@ use std::alloc::Global;
 /// The bytes of a text.
 pub type Text = Sequence<u8>;
 
-/// These bytes as a text. NoMemory where an allocation was refused.
+/// These bytes as a text.
 pub fn text_of(alloc: Global, bytes: &[u8]) -> Result<Text, NoMemory>
     ensures { IfOk result (λ made. made ≡ bytes.now) }
 {
@@ -28,7 +28,7 @@ pub enum Line {
 }
 
 impl Line {
-    /// That something wasn't judged, from this part on. NoMemory where an allocation was refused.
+    /// That something wasn't judged, from this part on.
     pub(crate) fn unjudged_from(alloc: Global, part: &[u8]) -> Result<Line, NoMemory>
         ensures { IfOk result (λ line. line ≡ Line.Unjudged part.now) }
     {
@@ -37,7 +37,7 @@ impl Line {
         })
     }
 
-    /// That something was found in this part, and why. NoMemory where an allocation was refused.
+    /// That something was found in this part, and why.
     pub(crate) fn found_in(alloc: Global, part: &[u8], reason: Text) -> Result<Line, NoMemory>
         ensures { IfOk result (λ line. line ≡ Line.Found part.now reason) }
     {
@@ -47,7 +47,7 @@ impl Line {
         })
     }
 
-    /// The same again. NoMemory where an allocation was refused.
+    /// The same again.
     pub(crate) fn copy(&self, alloc: Global) -> Result<Line, NoMemory>
         ensures { IfOk result (λ copy. copy ≡ self.now) }
     {

@@ -28,7 +28,7 @@ pub enum Outcome {
     Unreadable,
 }
 
-/// A text without its first bytes. NoMemory where an allocation was refused.
+/// A text without its first bytes.
 #[tactic(auto, using(crate::proofs::Behind::behind_front))]
 fn behind(alloc: Global, text: &[u8], count: usize) -> Result<Text, NoMemory>
     ensures { IfOk result (λ made. made ≡ drop count text.now) }
@@ -130,7 +130,7 @@ fn unjudged_lines(alloc: Global, part: &[u8]) -> Result<Lines, NoMemory>
     Lines::of(alloc, &line, &line)
 }
 
-/// What is said of a run that has one part alone, of which there is no report. NoMemory where an allocation was refused.
+/// What is said of a run that has one part alone, of which there is no report.
 fn unjudged_summary(alloc: Global, part: &[u8]) -> Result<Summary, NoMemory>
     ensures { IfOk result (λ summary. summary ≡ spec.unjudged_summary part.now) }
 {
@@ -146,7 +146,7 @@ fn unjudged_summary(alloc: Global, part: &[u8]) -> Result<Summary, NoMemory>
     })
 }
 
-/// What is said of a run that was judged and has one part alone. NoMemory where an allocation was refused.
+/// What is said of a run that was judged and has one part alone.
 fn judged_summary(
     alloc: Global,
     part: &[u8],

@@ -67,7 +67,7 @@ fn parted_at(last: &Option<Table>, initial: &Option<Table>) -> Option<RowName>
     }
 }
 
-/// Why a part doesn't fit to the one before it. NoMemory where an allocation was refused.
+/// Why a part doesn't fit to the one before it.
 fn seam_reason(alloc: Global, row: RowName) -> Result<Text, NoMemory>
     ensures { IfOk result (λ text. text ≡ spec.seam_reason row) }
 {
@@ -76,7 +76,7 @@ fn seam_reason(alloc: Global, row: RowName) -> Result<Text, NoMemory>
     Ok(Text::new(reason))
 }
 
-/// What the seam in front of a part says. NoMemory where an allocation was refused.
+/// What the seam in front of a part says.
 fn seam_at(alloc: Global, part: &Text, row: Option<RowName>) -> Result<Seam, NoMemory>
     ensures { IfOk result (λ seam. seam ≡ spec.seam_at part.now row) }
 {
@@ -95,7 +95,7 @@ fn seam_at(alloc: Global, part: &Text, row: Option<RowName>) -> Result<Seam, NoM
     })
 }
 
-/// What the seam between two pieces says. NoMemory where an allocation was refused.
+/// What the seam between two pieces says.
 pub fn seam_between(
     alloc: Global,
     first: &Option<Ends>,

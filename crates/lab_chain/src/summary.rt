@@ -63,7 +63,7 @@ impl Lines {
         }
     }
 
-    /// Lines that say the same of both verdicts, and the same of each phenomenon. NoMemory where an allocation was refused.
+    /// Lines that say the same of both verdicts, and the same of each phenomenon.
     pub(crate) fn of(alloc: Global, verdict: &Line, found: &Line) -> Result<Lines, NoMemory>
         ensures { IfOk result (λ lines. lines ≡ spec.lines_of verdict.now found.now) }
     {

@@ -26,7 +26,7 @@ struct Joined {
     hints: Vec<u8>,
 }
 
-/// What is said of a run with another piece behind it. NoMemory where an allocation was refused.
+/// What is said of a run with another piece behind it.
 fn with_piece(alloc: Global, summary: Summary, piece: Piece) -> Result<Summary, NoMemory>
     ensures { IfOk result (λ next. next ≡ with_piece summary piece) }
 {
@@ -36,7 +36,7 @@ fn with_piece(alloc: Global, summary: Summary, piece: Piece) -> Result<Summary, 
     }
 }
 
-/// Reads the files, and joins what they tell. NoMemory where an allocation was refused.
+/// Reads the files, and joins what they tell.
 fn read_pieces<T: Files>(
     rt: &T,
     alloc: Global,

@@ -27,7 +27,7 @@ struct Judged {
     shortfalls: Vec<u8>,
 }
 
-/// Reads and judges some more files. After NoMemory, part of what there is to say of them may stand there.
+/// Reads and judges some more files. On failure, a part of the output may have been appended.
 fn judge_window<T: Files + Threads + Sync>(
     rt: &T,
     alloc: Global,

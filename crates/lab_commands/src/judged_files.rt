@@ -81,7 +81,7 @@ fn faults(
     Ok(faults)
 }
 
-/// A line for each file whose report doesn't meet what is required. NoMemory where an allocation was refused.
+/// A line for each file whose report doesn't meet what is required.
 fn shortfalls(
     alloc: Global,
     names: &[&str],

@@ -61,7 +61,7 @@ fn put_each(
     Ok(())
 }
 
-/// Puts writes over rows. After NoMemory some of them may stand there.
+/// Puts writes over rows. On failure, some of them may have been applied.
 pub fn overwrite(alloc: Global, rows: &mut ByRow<Value>, writes: &Writes) -> Result<(), NoMemory>
     ensures { OnOk result (rows.new ≡ overwritten writes.now rows.old) }
 {

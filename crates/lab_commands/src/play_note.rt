@@ -18,7 +18,7 @@ fn session_of(fault: &PlayFault) -> Option<Session> {
     }
 }
 
-/// The rule that a run which wasn't closed, or its session, didn't keep; None for want of memory.
+/// The rule that a run which wasn't closed, or its session, didn't keep; None if memory runs out.
 fn rule_of_close(fault: &CloseFault) -> Option<&'static str> {
     match fault {
         CloseFault::NoMemory => None,
@@ -29,7 +29,7 @@ fn rule_of_close(fault: &CloseFault) -> Option<&'static str> {
     }
 }
 
-/// The rule that a play which has no recording for this reason didn't keep; None for want of memory.
+/// The rule that a play which has no recording for this reason didn't keep; None if memory runs out.
 fn rule_of(fault: &PlayFault) -> Option<&'static str> {
     match fault {
         PlayFault::NoMemory => None,

@@ -19,7 +19,7 @@ pub struct Standing {
     pub rows: ByRow<Value>,
 }
 
-/// The rows of a table. NoMemory where an allocation was refused.
+/// The rows of a table.
 fn by_row(alloc: Global, table: &Table) -> Result<ByRow<Value>, NoMemory>
     ensures { IfOk result (λ rows. rows ≡ table.now) }
 {

@@ -36,7 +36,7 @@ pub fn without_operations(
     made(alloc, left_parts(alloc, history, kept)?)
 }
 
-/// The parts of what is left. NoMemory where an allocation was refused.
+/// The parts of what is left.
 fn left_parts(alloc: Global, history: &History, kept: &[bool]) -> Result<Parts, NoMemory>
     ensures exact { IfOk result (λ parts. parts ≡ cut kept.now history.now) }
     ensures part { IfOk result (λ parts. IsPartOf parts history.now) }

@@ -243,8 +243,8 @@ fn put_those_of(
     out.extend_from_slice(end)
 }
 
-/// Appends the nicknames of a cycle in parentheses, each whose form it has; nothing where it has none. After NoMemory, part
-/// of what was to be appended may stand there.
+/// Appends the nicknames of a cycle in parentheses, each whose form it has; nothing where it has none. On failure, a
+/// part of the text may have been appended.
 pub fn put_nicknames(out: &mut Vec<u8>, history: &History, walk: &[Edge]) -> Result<(), NoMemory>
     ensures { OnOk result (out.new.items ≡ out.old.items ++ in_parentheses (nicknames_of history.now walk.now)) }
 {

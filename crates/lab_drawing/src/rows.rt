@@ -20,7 +20,7 @@ fn is_of(walk: &[Edge], row: RowName) -> bool
     false
 }
 
-/// The rows that the dependencies of a cycle name, by rising row. NoMemory where an allocation was refused.
+/// The rows that the dependencies of a cycle name, by rising row.
 pub fn rows_of(alloc: Global, history: &History, walk: &[Edge]) -> Result<Vec<RowName>, NoMemory>
     ensures { IfOk result (λ rows. rows.items ≡ rows_of history.now walk.now) }
 {

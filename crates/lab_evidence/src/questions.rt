@@ -182,7 +182,7 @@ fn put_of_fault(
     }
 }
 
-/// All questions. NoMemory where an allocation was refused.
+/// All questions.
 pub fn questions_of(
     alloc: Global,
     history: &History,

@@ -67,7 +67,7 @@ fn put_later_rows(
     Ok(())
 }
 
-/// The rows that aren't in question. NoMemory where an allocation was refused.
+/// The rows that aren't in question.
 fn other_rows(alloc: Global, history: &History, rows: &[RowName]) -> Result<Vec<RowName>, NoMemory>
     ensures { IfOk result (λ others. others.items ≡ other_rows history.now rows.now) }
 {

@@ -87,7 +87,7 @@ fn named_txns(columns: &[TxnNo]) -> &[TxnNo]
     &columns[..columns.len().min(MAX_TXNS)]
 }
 
-/// The transactions that are shown. NoMemory where an allocation was refused.
+/// The transactions that are shown.
 fn shown_txns(alloc: Global, named: &[TxnNo], txns: &[Txn]) -> Result<Vec<TxnNo>, NoMemory>
     ensures { IfOk result (λ shown. shown.items ≡ shown_txns named.now txns.now) }
 {
@@ -96,7 +96,7 @@ fn shown_txns(alloc: Global, named: &[TxnNo], txns: &[Txn]) -> Result<Vec<TxnNo>
     Ok(shown)
 }
 
-/// What a page with this drawing shows where these are in question. NoMemory where an allocation was refused.
+/// What a page with this drawing shows where these are in question.
 fn scope_with(
     alloc: Global,
     history: &History,

@@ -17,7 +17,6 @@ use std::alloc::{AllocError, Global};
 use std::io::{Read, Write};
 
 /// The explanation of a judgement of a history; a fault that may come of newer rows is noted where its cause is told.
-/// NoMemory where an allocation was refused.
 fn explained(
     alloc: Global,
     history: &History,

@@ -180,7 +180,7 @@ fn reads_input(subcommand: &str) -> bool {
         || takes_phenomenon(subcommand)
 }
 
-/// What the words behind a subcommand come to. NoMemory where an allocation was refused.
+/// What the words behind a subcommand come to.
 fn meaning_of<'a>(
     alloc: Global,
     subcommand: &str,

@@ -92,7 +92,7 @@ pub fn judge_recording(alloc: Global, recording: &Recording) -> Result<Report, N
     judge(alloc, recording.history())
 }
 
-/// The judgement of a sound history. NoMemory where an allocation was refused.
+/// The judgement of a sound history.
 fn judge_sound(alloc: Global, history: &History, sound: &Sound) -> Result<Report, NoMemory>
     requires { IsSound history.now }
     ensures { IfOk result (IsExactJudgement history.now) }
@@ -110,8 +110,7 @@ fn judge_sound(alloc: Global, history: &History, sound: &Sound) -> Result<Report
     })
 }
 
-/// What is found in a sound history with this serial verdict: nothing where it is a yes. NoMemory where an allocation
-/// was refused.
+/// What is found in a sound history with this serial verdict: nothing where it is a yes.
 fn find_beside(
     alloc: Global,
     net: &Dependencies<'_>,
@@ -127,8 +126,7 @@ fn find_beside(
     }
 }
 
-/// The judgement of a history that isn't sound, where this fault was answered. NoMemory where an allocation was
-/// refused.
+/// The judgement of a history that isn't sound, where this fault was answered.
 fn judge_unsound(alloc: Global, history: &History, fault: &LocalFault) -> Result<Report, NoMemory>
     requires answer { IsAnswer history.now fault.now }
     requires first { IsFirst history.now fault.now }

@@ -12,7 +12,7 @@ use rayon::prelude::*;
 use std::alloc::{AllocError, Global};
 use std::thread::Threads;
 
-/// The judgement of one file, with want of memory apart.
+/// Judges one file, and returns `NoMemory` separately from other faults.
 fn judged(alloc: Global, bytes: &[u8]) -> Result<Result<Report, FileFault>, NoMemory>
     ensures { IfOk result (IsFileAnswer bytes.now) }
 {

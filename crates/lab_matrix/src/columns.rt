@@ -71,7 +71,7 @@ fn reports_at(alloc: Global, level: Level) -> Result<CaseReports, MatrixFault>
     })
 }
 
-/// Adds a column. NoMemory where an allocation was refused.
+/// Adds a column.
 fn add(columns: &mut Vec<CaseReports>, column: CaseReports) -> Result<(), NoMemory>
     ensures { OnOk result (columns.new.items ≡ columns.old.items ++ column ∷ []) }
 {

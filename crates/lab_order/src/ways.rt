@@ -60,7 +60,7 @@ impl<'a> Ways<'a> {
     }
 }
 
-/// For each node the set of itself and of those with an arrow to it. NoMemory where an allocation was refused.
+/// For each node the set of itself and of those with an arrow to it.
 fn arrows_alone(alloc: Global, graph: &Graph) -> Result<Vec<NumberSet>, NoMemory>
     ensures size { IfOk result (λ sets. length sets.items ≡ nodes_of graph.now) }
     ensures rooms { IfOk result (λ sets. All (λ s. room s ≡ room_for (nodes_of graph.now)) sets.items) }
@@ -73,7 +73,7 @@ fn arrows_alone(alloc: Global, graph: &Graph) -> Result<Vec<NumberSet>, NoMemory
     Ok(sets)
 }
 
-/// The set of a node and of some others, all below a bound. NoMemory where an allocation was refused.
+/// The set of a node and of some others, all below a bound.
 fn set_of(alloc: Global, bound: u32, node: u32, others: &[u32]) -> Result<NumberSet, NoMemory>
     requires node { node < bound }
     requires others { All (λ n. n < bound) others.now }

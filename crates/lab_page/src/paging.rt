@@ -15,7 +15,7 @@ use lab_table::NoMemory;
 use std::alloc::{AllocError, Global};
 use std::io::{Read, Write};
 
-/// The page of a judgement of a history. NoMemory where an allocation was refused.
+/// The page of a judgement of a history.
 fn page_of(
     alloc: Global,
     history: &History,

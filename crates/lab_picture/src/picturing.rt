@@ -16,7 +16,7 @@ use lab_table::NoMemory;
 use std::alloc::{AllocError, Global};
 use std::io::{Read, Write};
 
-/// The picture of a judgement of a history. NoMemory where an allocation was refused.
+/// The picture of a judgement of a history.
 fn picture_of(
     alloc: Global,
     history: &History,

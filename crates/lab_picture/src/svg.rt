@@ -123,7 +123,7 @@ fn put_head(out: &mut Vec<u8>, width: u128, height: u128, drawing: &Drawing) -> 
     put_ground(out, width, height)
 }
 
-/// The arrows of a drawing that are drawn, those of a yes too. NoMemory where an allocation was refused.
+/// The arrows of a drawing that are drawn, those of a yes too.
 fn arrows_drawn(alloc: Global, drawing: &Drawing) -> Result<Vec<Arrow>, NoMemory>
     ensures { IfOk result (λ arrows. arrows.items ≡ arrows_drawn drawing.now) }
 {
@@ -147,7 +147,7 @@ fn put_drawn_columns(
     put_columns(alloc, out, history, frame, &arrows, drawing, columns)
 }
 
-/// Arrows of a drawing with the places of their ends for their numbers. NoMemory where an allocation was refused.
+/// Arrows of a drawing with the places of their ends for their numbers.
 fn placed(
     alloc: Global,
     frame: Frame,
@@ -185,7 +185,7 @@ fn goes_below(drawing: &Drawing) -> bool
     has_round(columns, &drawing.arrows) || has_round(columns, &drawing.forward)
 }
 
-/// The frame of a drawing. NoMemory where an allocation was refused.
+/// The frame of a drawing.
 fn frame_of(alloc: Global, history: &History, drawing: &Drawing) -> Result<Frame, NoMemory>
     ensures { IfOk result (λ frame. frame ≡ frame_of history.now drawing.now) }
 {

@@ -24,7 +24,7 @@ fn path_json(alloc: Global, path: Path) -> Result<Json, NoMemory>
     text_json(alloc, &path.print(alloc)?)
 }
 
-/// What a file is refused for. NoMemory where that is want of memory.
+/// Returns why a file is refused, as JSON. Fails if the fault is itself `NoMemory`.
 fn file_fault_json(alloc: Global, fault: &FileFault) -> Result<Json, NoMemory>
     ensures value { IfOk result (λ v. view v ≡ file_fault_tree fault.now) }
     ensures memory { fault.now ≡ FileFault.NoMemory → IsErr result }

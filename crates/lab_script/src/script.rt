@@ -24,8 +24,7 @@ impl Script {
     ghost use Rattle.std.specs.Prelude.{◌≡◌, OnOk};
     ghost use Rattle.lab_script.specs.Script.{extended};
 
-    /// Takes commands and adds them, as those of a session from this line of the text. NoMemory where an allocation was
-    /// refused.
+    /// Takes commands and adds them, as those of a session from this line of the text.
     pub(crate) fn take(
         &mut self,
         session: Session,

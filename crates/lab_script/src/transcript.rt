@@ -90,7 +90,7 @@ pub fn spell_rows(text: &mut Vec<u8>, rows: &[(RowName, Value)]) -> bool
     spell_list(text, rows) && text.put(b"\n")
 }
 
-/// Spells why a statement was refused, to the end of its line; want of memory isn't spelled.
+/// Spells why a statement was refused, to the end of its line. `NoMemory` isn't spelled.
 pub fn spell_fault(text: &mut Vec<u8>, fault: &TableFault) -> bool
     ensures text { OnTaken result (text.new.items ≡ text.old.items ++ fault_text fault.now ++ newline) }
     ensures refused { OnTaken result (fault.now ≢ TableFault.NoMemory) }

@@ -132,7 +132,7 @@ impl ScriptFaultKind {
     }
 }
 
-/// Spells the line that tells a fault, and nothing for want of memory.
+/// Spells the line that tells a fault, and nothing if memory runs out.
 fn spell_fault(out: &mut Vec<u8>, fault: &ScriptFault) -> bool
     ensures { OnTaken result (out.new.items ≡ out.old.items ++ fault_text fault.now) }
 {
