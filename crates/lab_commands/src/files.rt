@@ -74,8 +74,8 @@ pub fn read_files<T: Files>(rt: &T, alloc: Global, names: &[&str]) -> Result<Inp
     })
 }
 
-/// Writes the name of each file that isn't read, or that is refused with a fault, and a hint after it. `faults` has one
-/// entry for each file. Errors of `notes` are ignored.
+/// Writes the name of each file that couldn't be read or was refused, and a hint after it. `faults` has one entry for
+/// each file. Ignores errors of `notes`.
 pub fn note_files<N: Write>(
     alloc: Global,
     names: &[&str],

@@ -1,4 +1,4 @@
-//! Drawings.
+//! The type of drawings.
 
 ghost use Rattle.std.specs.Prelude.{◌≡◌};
 ghost use Rattle.lab_drawing.specs.Ties.{is_dashed};

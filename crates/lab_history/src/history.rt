@@ -1,4 +1,4 @@
-//! Histories.
+//! The type of histories.
 
 ghost use Rattle.std.specs.Prelude.{◌≡◌, IfOk, IfErr};
 ghost use Rattle.lab_history.specs.Index.{IsIndexOf};
@@ -75,7 +75,8 @@ impl History {
         &self.parts.initial
     }
 
-    /// Returns the transactions, in the order of the file. Their numbers differ, and their operations keep the limit.
+    /// Returns the transactions, in the order of the file. Their numbers differ, and they have at most 10,000
+    /// operations together.
     pub fn txns(&self) -> &Txns
         ensures value { result.now ≡ self.now.txns }
         ensures keeps { Keeps self.now }

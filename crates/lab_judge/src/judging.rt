@@ -40,7 +40,7 @@ use std::alloc::Global;
 ///   what the history records.
 /// - A snapshot yes has a start and a commit timestamp for each committed transaction. With these, each sees the
 ///   committed state at its start and its own writes, and transactions that overlap write different rows.
-/// - A no has the first fault of the history, in the order of `check_local`. If the history is sound, it has a cycle of
+/// - A no has the first fault of the history, in the order of `check_local`. For a sound history, it has a cycle of
 ///   dependencies, or of starts and commits. Without such a fault or cycle, the verdict is yes.
 pub fn judge(alloc: Global, history: &History) -> Result<Report, NoMemory>
     ensures exact { IfOk result (IsExactJudgement history.now) }

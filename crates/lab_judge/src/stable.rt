@@ -23,8 +23,8 @@ pub fn stable_reads_are_serial()
     ensures no_walk { (level : Level) (setup : Table) (past : Past) (h : History) → IsLegalRecording level setup past h → ReadsStable level setup past → NoWalk (IsClosedWalk h) }
 {}
 
-/// Locking keeps reads stable, and so does each level whose rules keep what a transaction has read: a transaction that
-/// would change it waits, or the commit fails.
+/// Locking keeps reads stable, and so does each level whose rules keep what a transaction has read unchanged until its
+/// commit: a transaction that would change it waits, or the commit fails.
 pub fn who_keeps_reads_stable()
     ensures locking { (setup : Table) (past : Past) → ReadsStable Locking setup past }
     ensures kept { (level : Level) (setup : Table) (past : Past) → IsTrue (keeps_reads (rules_of level)) → IsLegal level setup past → ReadsStable level setup past }

@@ -58,8 +58,9 @@ impl Transcript {
         spell_statement(&mut self.text, statement) && self.text.put(b" -> ")
     }
 
-    /// Returns the text without copying it, if each statement in it keeps the limits of a text. Fails with `TooDeep`,
-    /// or else with `TooLong`, for the first statement that doesn't. Allocates nothing.
+    /// Returns the text without copying it, if each statement in it keeps the limits of a text. Otherwise fails with
+    /// the limit that the first other statement exceeds: `TooDeep`, or `TooLong` if only the length exceeds its limit.
+    /// Allocates nothing.
     pub fn into_text(self) -> Result<Vec<u8>, PrintFault>
         ensures text { IfOk result (λ text. text.items ≡ self.text) }
         ensures printed { OnOk result (self.unprintable ≡ None) }
@@ -123,8 +124,8 @@ pub fn spell_table(text: &mut Vec<u8>, rows: &[(RowName, Value)]) -> bool
     text.put(b"end ") && spell_named_rows(text, b"none", rows) && text.put(b"\n")
 }
 
-/// Returns a copy of the text of a transcript, if each statement in it keeps the limits of a text. Fails with
-/// `TooDeep`, or else with `TooLong`, for the first statement that doesn't.
+/// Returns a copy of the text of a transcript, if each statement in it keeps the limits of a text. Otherwise fails with
+/// the limit that the first other statement exceeds: `TooDeep`, or `TooLong` if only the length exceeds its limit.
 pub fn print_transcript(alloc: Global, output: &Transcript) -> Result<Vec<u8>, PrintFault>
     ensures text { IfOk result (λ text. text.items ≡ output.now.text) }
     ensures printed { IfOk result (λ text. output.now.unprintable ≡ None) }

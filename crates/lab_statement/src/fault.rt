@@ -74,7 +74,7 @@ impl Refusal {
     ghost use Rattle.std.specs.Prelude.{◌≡◌};
     ghost use Rattle.lab_statement.specs.Fault.{refusal_at};
 
-    /// Returns the fault of a script whose line `line` has this fault.
+    /// Returns this fault as the fault of line `line` of a script.
     pub fn at(self, line: u32) -> ScriptFault
         ensures { result ≡ refusal_at self line }
     {

@@ -11,8 +11,8 @@ use lab_printing::{PrintFault, check_statement, put_statement};
 use lab_table::Statement;
 use std::alloc::Global;
 
-/// Returns the printed form of a statement, if it keeps the limits of a text. Fails with `TooDeep`, or else with
-/// `TooLong`.
+/// Returns the printed form of a statement, if it keeps the limits of a text. Otherwise fails with `TooDeep`, or with
+/// `TooLong` if only the length exceeds its limit.
 pub fn print_statement(alloc: Global, statement: &Statement) -> Result<Vec<u8>, PrintFault>
     ensures text { IfOk result (λ text. text.items ≡ printed_statement statement.now) }
     // What is printed is read as the same statement again.

@@ -58,7 +58,7 @@ pub fn print_refused(
     }
 }
 
-/// How a subcommand ends that wrote a report.
+/// Returns how a subcommand that wrote a report ends.
 pub fn ending_of(requirement: Option<Requirement>, report: &Report) -> Ending
     ensures { result ≡ ending_due requirement report.now }
 {
