@@ -6,7 +6,9 @@
  *   REFUSE_COUNT=K      refuses K allocations in a row from that one on; 0: all from it on
  *   REFUSE_LOG=FILE     each refusal adds a byte to this file
  *   REFUSE_DELAY=SEED   delays threads at random at their allocations, so that their order varies
+ *   LARGEST=BYTES       ends the program with SIGABRT, and a line on standard error, if one block is larger
  *   THREADS_LOG=FILE    each thread that starts adds a byte to this file
+ *   WORKERS_LOG=FILE    each thread that makes WORK allocations adds a byte to this file
  * A test requests a refusal with blocks of special sizes, which without this library are ordinary blocks:
  *   MARK + n bytes, n > 0   from now on the n-th allocation is refused, once; MARK bytes: none
  *   ASK bytes               refused if an allocation was refused since the last mark */
@@ -30,6 +32,7 @@ int close(int);
 int nanosleep(const struct timespec *, struct timespec *);
 int sched_yield(void);
 void _exit(int) __attribute__((noreturn));
+void abort(void) __attribute__((noreturn));
 #define errno (*__errno_location())
 
 /* Threads share the variables below. */
@@ -41,6 +44,8 @@ void _exit(int) __attribute__((noreturn));
 #define ASK 5100003ul
 /* The longest delay of a thread. */
 #define NANOSECONDS 200000
+/* A thread that makes so many allocations does some work. */
+#define WORK 1000
 
 static void *(*next_malloc)(size_t);
 static void *(*next_realloc)(void *, size_t);
@@ -51,6 +56,7 @@ static long to_last;  /* allocations up to the last refused one; 0: none is refu
 static long in_a_row; /* the number of refused ones */
 static int endless;   /* there is no last one: all further ones are refused */
 static long refusals;
+static unsigned long largest; /* 0: blocks of any size */
 static unsigned long draws; /* the state of the generator of delays; 0: no delays */
 
 /* Refuses `count` allocations from the n-th on, or all from there on if `count` is 0. */
@@ -68,6 +74,7 @@ __attribute__((constructor)) static void start(void) {
     next_realloc = (void *(*)(void *, size_t))dlsym(RTLD_NEXT, "realloc");
     next_create = (creator)dlsym(RTLD_NEXT, "pthread_create");
     if (at) arm(atol(at), count ? atol(count) : 1);
+    if (getenv("LARGEST")) STORE(largest, strtoul(getenv("LARGEST"), NULL, 10));
     /* A factor spreads small seeds; a state of 0 would stay 0. */
     if (seed) STORE(draws, (strtoul(seed, NULL, 10) * 0x9e3779b97f4a7c15ul) | 1ul);
 }
@@ -80,6 +87,21 @@ static void note(const char *word) {
         if (write(file, ".", 1) < 0) _exit(99);
         close(file);
     }
+}
+
+/* Ends the program if a block is larger than the largest allowed. */
+static void look_at(size_t size) {
+    static const char why[] = "refuse: a block is larger than LARGEST\n";
+    if (LOAD(largest) && size > LOAD(largest)) {
+        if (write(2, why, sizeof why - 1) < 0) _exit(99);
+        abort();
+    }
+}
+
+/* Counts the allocations of this thread, and notes that it works at the WORK-th. */
+static void count_work(void) {
+    static __thread long made;
+    if (++made == WORK) note("WORKERS_LOG");
 }
 
 /* Counts an allocation, and returns whether to refuse it. */
@@ -132,12 +154,16 @@ void *malloc(size_t size) {
         return next_malloc(16);
     }
     if (size == ASK) return LOAD(refusals) ? NULL : next_malloc(16);
+    look_at(size);
+    count_work();
     hold_up();
     return is_refused() ? NULL : next_malloc(size);
 }
 
 void *realloc(void *block, size_t size) {
     if (!next_realloc) start();
+    look_at(size);
+    count_work();
     hold_up();
     return is_refused() ? NULL : next_realloc(block, size);
 }

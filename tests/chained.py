@@ -167,7 +167,8 @@ def wide_seams(room):
         table, row, _ = rows[place]
         due = at_seam(20, f"{name}.json", f"{table} {row}".removeprefix("test "))
         yield Run(["chain", *["same.json"] * 19, f"{name}.json"], b"", due)
-        yield Run(["chain", "--json", "same.json", f"{name}.json"], b"", lambda out, it=changed[name]: is_answer(out, rows, it))
+        words = ["chain", "--json", "same.json", f"{name}.json"]
+        yield Run(words, b"", lambda ran, it=changed[name]: is_answer(ran.stdout, rows, it))
 
 
 def is_answer(out, initial, end):
@@ -214,6 +215,19 @@ def long_names(room):
     for name in wide + "n", deep, "n" * 1_000_000, "n" * (MOST_BYTES - len("part.json\n") - 1):
         words, text = listed(["part.json", name])
         yield Run(["chain", *words], text, missing([name]) + unjudged(2, name), 3)
+    yield from long_lists()
+
+
+def long_lists():
+    """Runs with lists of names that are as long as allowed, and longer. None of the names is that of a file."""
+    count = MOST_BYTES // 4_096
+    names = [f"{number:04095}" for number in range(count)]
+    words, text = listed(names)
+    assert len(text) == MOST_BYTES
+    yield Run(["batch", *words], text, missing(names), 3)
+    yield Run(["chain", *words], text, missing(names) + unjudged(count, names[0]), 3)
+    for word, more in ("batch", "n"), ("chain", "\n"), ("batch", "part.json\n" * 100_000), ("chain", "part.json\n" * 100_000):
+        yield Run([word, *words], text + more.encode(), b"", 5)
 
 
 def many_answers(room):

@@ -7,6 +7,8 @@ import sys
 TOP = os.path.dirname(os.path.dirname(os.path.realpath(__file__)))
 NAME = os.path.basename(sys.argv[0])
 SECONDS = 60
+# No call has to ask for more bytes at once: the preloaded library ends a program that does.
+LARGEST = 64 * 1_024 * 1_024
 
 
 def refuse(why):
@@ -103,3 +105,15 @@ class Progress:
         """Erases the line, so that another can be written."""
         if self.is_told:
             print("\r\x1b[K", end="", file=sys.stderr, flush=True)
+
+
+def addresses_of(words: list[str]) -> int:
+    """The kilobytes of address space that a run of the program may have: 256 MiB, and for each thread that it may start
+    128 MiB, as much as the C library sets aside for one."""
+    threads = 9 if "--free" in words else os.cpu_count() or 1 if words[:1] in (["batch"], ["chain"]) else 0
+    return 1_024 * (256 + 128 * threads)
+
+
+def within(words: list[str], kilobytes: int, seconds: int) -> list[str]:
+    """The words by which a command runs with so much address space and so many processor seconds at the most."""
+    return ["/bin/sh", "-c", 'ulimit -v "$0" && ulimit -t "$1" && shift && exec "$@"', str(kilobytes), str(seconds), *words]

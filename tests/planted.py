@@ -1,13 +1,13 @@
 """The table of wrong bodies that were planted once, docs/internals/planted.tsv: what is wrong with its rows.
 
-A row has four cells: crates, functions, mistakes, and what shows the mistakes. Crates and functions are separated by
-commas, mistakes and the items of the last cell by semicolons. An item is one of these:
+A row has four cells: crates, functions or constants, mistakes, and what shows the mistakes. Crates and functions are
+separated by commas, mistakes and the items of the last cell by semicolons. An item is one of these:
 
 - `contract`: a clause of the function, or of the trait's function; `clause NAME, ..` names it
 - `invariant`: the invariant of a loop or of a type
 - `case FILE: NAME`, `cases FILE`: cases of tests/cases
 - `example PATH`: an expected output of examples/
-- `test NAME`: a test of tests/, or a `#[test]` function
+- `test NAME`, `test NAME: WHAT`: a test of tests/, or a `#[test]` function
 - `harmless: REASON`: nothing refuses the body, and nothing has to
 - `open: REASON`: nothing refuses the body yet
 """
@@ -20,17 +20,20 @@ from collections.abc import Iterator
 
 from contracts import functions_of
 from harness import TOP
+from sources import code_of
 
 TABLE = f"{TOP}/docs/internals/planted.tsv"
 HEAD = ["crate", "function", "mistake", "shown by"]
+CONSTANT = re.compile(r"\b(?:const|static) ([A-Z_]+)\b")
 ITEM = re.compile(r"(?:^|; )(contract|clause|invariant|cases?|example|test|harmless|open)\b:? ?")
 
 
 @functools.lru_cache(maxsize=None)
 def clauses_in(crate: str) -> dict[str, list[str]]:
-    """The functions of a crate, each with the names of its clauses."""
+    """The functions of a crate, each with the names of its clauses, and its constants, which have none."""
     found: dict[str, list[str]] = {}
     for path in glob.glob(f"{TOP}/crates/{crate}/src/**/*.rt", recursive=True):
+        found.update((name, []) for name in CONSTANT.findall(code_of(path)))
         for name, clauses in functions_of(path).items():
             found.setdefault(name, []).extend(clause for clause, _ in clauses)
     return found
@@ -66,7 +69,8 @@ def is_shown(kind: str, text: str, clauses: list[str]) -> bool:
         file, _, name = text.partition(": ")
         return name in case_names(file)
     if kind == "test":
-        return os.path.exists(f"{TOP}/tests/{text}") or text in test_functions()
+        name = text.partition(":")[0]
+        return os.path.exists(f"{TOP}/tests/{name}") or name in test_functions()
     return {"contract": not text, "invariant": not text, "cases": bool(case_names(text)),
             "example": os.path.exists(f"{TOP}/examples/{text}")}.get(kind, bool(text))
 
