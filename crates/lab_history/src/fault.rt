@@ -47,7 +47,7 @@ impl Limit {
 /// Why a file or parts are no history.
 #[derive(Clone, Copy, Debug, PartialEq, Eq, Error)]
 pub enum FileFault {
-    /// An allocation was refused.
+    /// An allocation failed.
     #[error("no memory")]
     NoMemory,
     /// The bytes are no JSON text.
