@@ -53,7 +53,7 @@ pub enum FileFault {
     /// The bytes are no JSON text.
     #[error("the file is no JSON text")]
     NotJson,
-    /// A value isn't of the format: the innermost one, or the object if a key is missing or unknown.
+    /// A value isn't of the format: the innermost one, or the object if a key is missing or extra.
     #[error("a value is not of the format")]
     WrongFormat { path: Path },
     /// The file's version is neither 1 nor 2.

@@ -21,8 +21,8 @@ impl Statement {
         row == self.row(id)
     }
 
-    /// Returns whether a row in this state matches the statement; `None` is an absent row. An absent row matches no
-    /// statement but an insert, which matches the row that it adds.
+    /// Returns whether a row in this state matches the statement; `None` is an absent row, which matches no statement.
+    /// An insert matches the row that it adds, if that is present.
     #[inline(always)]
     pub fn matches(&self, row: RowName, state: Option<Value>) -> bool
         ensures { result ≡ matches self.now row state }
