@@ -80,22 +80,23 @@ def public_in(path, exported):
             yield "::".join([name for _, name in within] + [item.group(1)])
 
 
-def doc_above(lines: list[str], number: int) -> str:
-    """The doc comment above a line, in one line. Attributes and plain comments may be between them."""
+def doc_above(lines: list[str], number: int) -> list[str]:
+    """The paragraphs and the list items of the doc comment above a line. Attributes and plain comments may be between
+    them."""
     found = []
     while number and lines[number - 1].strip().startswith(("//", "#[")):
         number -= 1
         if lines[number].strip().startswith("///"):
             found.insert(0, lines[number].strip())
-    return " ".join(paragraphs("\n".join(found), "///"))
+    return paragraphs("\n".join(found), "///")
 
 
 class Public(NamedTuple):
-    """A public function: its file, its name, its doc comment, and its promised clauses."""
+    """A public function: its file, its name, the paragraphs of its doc comment, and its promised clauses."""
 
     file: str
     name: str
-    doc: str
+    doc: list[str]
     clauses: dict[str, str]
 
 

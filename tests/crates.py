@@ -59,12 +59,15 @@ def head(crate: str) -> list[str]:
 
 
 def paragraphs(text: str, mark: str) -> list[str]:
-    """The paragraphs of the comment with which a text begins, whose lines begin with a mark. Links to items of the code
-    are replaced by their texts."""
+    """The paragraphs of the comment with which a text begins, whose lines begin with a mark. The items of a list are
+    paragraphs too. Links to items of the code are replaced by their texts."""
     found = [""]
     for line in text.split("\n"):
         if not line.startswith(mark):
             break
         words = line.removeprefix(mark).strip()
-        found = [*found[:-1], f"{found[-1]} {words}".strip()] if words else [*found, ""]
+        if not words or words.startswith("- "):
+            found.append(words.removeprefix("- "))
+        else:
+            found[-1] = f"{found[-1]} {words}".strip()
     return [ITEM_LINK.sub(lambda link: link[1] or link[2], one) for one in found if one]

@@ -13,8 +13,8 @@ fn is_asked(named: Option<&[&str]>, level: Level) -> bool {
     }
 }
 
-/// The levels of the engines that the arguments name, each once and in the order of the levels; all where they name none.
-/// NoMemory where an allocation was refused.
+/// The levels of the engines that the arguments name, each once and in the order of the levels; all where they name
+/// none.
 pub fn levels_of(alloc: Global, matches: &ArgMatches<'_>) -> Result<Vec<Level>, AllocError> {
     let named = matches.get_strs("engine");
     let mut levels = Vec::with_capacity(alloc, LEVELS.len())?;

@@ -55,7 +55,7 @@ fn text_of<'b, N: Write>(bytes: &'b [u8], notes: &mut N) -> Option<&'b str> {
     }
 }
 
-/// The names that the arguments give. NoMemory where an allocation was refused.
+/// The names that the arguments give.
 fn given_names<'a>(alloc: Global, matches: &'a ArgMatches<'_>) -> Result<Vec<&'a str>, AllocError> {
     let mut names = Vec::new(alloc);
     if let Some(given) = matches.get_strs("FILE") {

@@ -1,4 +1,4 @@
-//! `hermitage_lab`: scripts of transactions in, and proved answers out.
+//! The program `hermitage_lab`: runs scripts of transactions and judges histories, with proved results.
 #![tactic(auto)]
 
 mod engines;
@@ -58,7 +58,7 @@ fn given_arguments(rt: &HostRuntime) -> Result<Option<Vec<String>>, RunFault> {
     }
 }
 
-/// Prints help, the version or why the arguments are refused, and answers the exit status.
+/// Prints the help, the version, or why the arguments are refused, and returns the exit status.
 fn report(rt: &HostRuntime, error: &clap::Error) -> Result<u8, RunFault>
     ensures memory { kind_of error.now ≡ OutOfMemory → result ≡ Err RunFault.NoMemory }
     ensures refused { (kind_of error.now ≢ OutOfMemory) → (kind_of error.now ≢ DisplayHelp) → (kind_of error.now ≢ DisplayVersion) → result ≡ Ok 5 }

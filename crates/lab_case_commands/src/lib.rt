@@ -1,9 +1,9 @@
-//! The subcommands of the program that read nothing: [`case`] writes the script of a case, and [`matrix`] plays and judges
-//! each case on each engine; [`matrix_at`] does so on the engines of some levels.
+//! The subcommands of the program that read nothing: [`case`] writes the script of a case, [`matrix`] plays and judges
+//! each case on each engine, and [`matrix_at`] on the engines of given levels.
 //!
-//! One text is written whole. Where it was written the answer is an `Ending`, and where it wasn't a `RunFault`, which is
-//! never `Unread`. There is one text of the matrix, by the contracts of [`matrix_answer_unique`]
-//! and [`columns_answer_unique`].
+//! Each writes one text. If it was written, the result is an `Ending`, otherwise a `RunFault` other than `Unread`. The
+//! matrix has one text, by the contracts of [`matrix_answer_unique`] and [`columns_answer_unique`]. Functions that
+//! allocate return `NoMemory` if an allocation fails.
 #![tactic(auto)]
 
 mod laws;

@@ -1,4 +1,4 @@
-//! The subcommand `case`: the script of a case.
+//! The subcommand `case`: prints the script of a case.
 
 ghost use Rattle.std.specs.Prelude.{◌≡◌, ◌≢◌, ◌⊎◌, IfOk, IfErr, OnOk};
 ghost use Rattle.std.specs.Io.KnownBytes.{Appends, Keeps};
@@ -28,8 +28,8 @@ fn text_of(alloc: Global, name: CaseName) -> Result<Vec<u8>, NoMemory>
     }
 }
 
-/// Writes the script of a case in printed form. `NoMemory` where an allocation was refused, and then nothing is
-/// written; `Unwritten` where a write fails.
+/// Writes the printed script of a case. Fails with `NoMemory` before anything is written, and with `Unwritten` if a
+/// write fails.
 pub fn case<W: Write>(alloc: Global, name: CaseName, writer: &mut W) -> Result<Ending, RunFault>
     ensures done { IfOk result (λ ending. ending ≡ Ending.Done) }
     ensures written { OnOk result (Appends (W.contents writer.old) (W.contents writer.new) (printed_script (case_script name))) }

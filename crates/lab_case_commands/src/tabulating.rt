@@ -50,9 +50,9 @@ fn answer(alloc: Global) -> Result<Answer, NoMemory>
     }
 }
 
-/// Writes the matrix: for each case the level that its history meets on each engine, and whether it is a snapshot run;
-/// or the line of a play that was refused. `NoMemory` where an allocation was refused, and then nothing is written;
-/// `Unwritten` where a write fails.
+/// Writes the matrix: for each case, the level that its history meets on each engine, and whether it is a snapshot run;
+/// or the line of a play that was refused. Fails with `NoMemory` before anything is written, and with `Unwritten` if a
+/// write fails.
 pub fn matrix<W: Write>(alloc: Global, writer: &mut W) -> Result<Ending, RunFault>
     ensures written { IfOk result (λ ending. (text : List ℕ) × Appends (W.contents writer.old) (W.contents writer.new) text × IsMatrixAnswer text ending) }
     ensures reads_nothing { IfErr result (λ fault. fault ≢ RunFault.Unread) }

@@ -1,4 +1,4 @@
-//! The subcommand `matrix`, where engines are named: each case on each of them.
+//! The subcommand `matrix` with given engines: each case on each of them.
 
 ghost use Rattle.std.specs.Prelude.{◌≡◌, ◌≢◌, ◌⊎◌, List, ℕ, IfOk, IfErr};
 ghost use Rattle.std.specs.Io.KnownBytes.{Appends, Keeps};
@@ -51,9 +51,9 @@ fn answer_at(alloc: Global, levels: &[Level]) -> Result<Answer, NoMemory>
     }
 }
 
-/// Writes the matrix of the engines of these levels, in their order: for each case the level that its history meets, and
-/// whether it is a snapshot run; or the line of a play that was refused. `NoMemory` where an allocation was refused, and then
-/// nothing is written; `Unwritten` where a write fails.
+/// Writes the matrix of the engines of these levels, in their order: for each case, the level that its history meets,
+/// and whether it is a snapshot run; or the line of a play that was refused. Fails with `NoMemory` before anything is
+/// written, and with `Unwritten` if a write fails.
 pub fn matrix_at<W: Write>(
     alloc: Global,
     writer: &mut W,

@@ -1,4 +1,4 @@
-//! What is so of a run in parts of which something is said.
+//! Theorems on the summaries of runs in parts, stated as contracts of empty functions.
 
 ghost use Rattle.std.specs.Prelude.{◌≡◌, ◌≢◌, ◌↔◌, ◌++◌, [], None, List, Some};
 ghost use Rattle.std.specs.List.{All};
@@ -16,33 +16,36 @@ ghost use Rattle.lab_chain.specs.Summary.{clear_lines, joined};
 ghost use Rattle.lab_chain.specs.declared.line.Line.TheVariants.{Clear};
 ghost use Rattle.lab_chain.specs.declared.summary.Summary.{Summary};
 
-/// Of three pieces of a run the same is said whichever two are joined first, where a piece that has no part says nothing.
+/// The summary of three pieces of a run doesn't depend on which two are joined first, if a piece without parts has
+/// clear lines.
 pub fn joining_is_associative()
     ensures { (a b c : Summary) → (b.ends ≡ None → b.lines ≡ clear_lines) → joined (joined a b) c ≡ joined a (joined b c) }
 {}
 
-/// What is said of a run is what is joined of what is said of consecutive pieces of it.
+/// The summary of a run is the join of the summaries of consecutive pieces of it.
 pub fn pieces_make_the_run()
     ensures { (ps qs : List Part) → summary_of (ps ++ qs) ≡ joined (summary_of ps) (summary_of qs) }
 {}
 
-/// Where tables are said to differ they do, at no lesser row; and else they are the same.
+/// If a first difference between two tables is reported, they differ there and at no lesser row; if none is reported,
+/// they are equal.
 pub fn differences_are_least()
     ensures same { (a b : Table) → (first_difference a b ≡ None) ↔ (a ≡ b) }
     ensures least { (a b : Table) (row : Row) → first_difference a b ≡ Some row → IsLeastDifference a b row }
 {}
 
-/// Where a run is said to be serializable, its parts' orders one behind the other are a serial run of the whole.
+/// If a run is reported as serializable, the orders of its parts, one after another, are a serial run of the whole.
 pub fn yes_is_a_serial_run()
     ensures { (ps : List Part) → ps ≢ [] → All IsPart ps → (summary_of ps).lines.serial ≡ Clear → IsSerialInParts ps }
 {}
 
-/// Where a run is said to be a snapshot run, it is one with its parts' places, those of each behind those before.
+/// If a run is reported as a snapshot run, it is one with the timestamps of its parts, those of each after those of the
+/// parts before.
 pub fn yes_is_a_snapshot_run()
     ensures { (ps : List Part) → ps ≢ [] → All IsPart ps → (summary_of ps).lines.snapshot ≡ Clear → IsSnapshotInParts ps }
 {}
 
-/// Of a run whose parts are sound and fit, what is said of cycles is so of its history, and so is its level.
+/// If the parts of a run are sound and fit, the lines about cycles are true of its history, and the level is its level.
 pub fn sound_runs_are_told()
     ensures g0 { (ps : List Part) (first : History) (others : List History) → AreSound ps first others → TellsOf (summary_of ps).lines.g0 (NoWalk (IsG0 (whole first others))) }
     ensures g1c { (ps : List Part) (first : History) (others : List History) → AreSound ps first others → TellsOf (summary_of ps).lines.g1c (NoWalk (IsG1c (whole first others))) }

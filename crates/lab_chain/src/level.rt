@@ -5,7 +5,7 @@ ghost use Rattle.lab_chain.specs.Levels.{level_rank, level_name, level_of, level
 
 use lab_judge::Grade;
 
-/// The level of a run in parts: the least of its parts'. From the best to the worst.
+/// The level of a run in parts: the worst level of its parts. Listed from best to worst.
 #[derive(Clone, Copy, Debug, PartialEq, Eq)]
 pub enum Level {
     /// PL-3.
@@ -16,9 +16,9 @@ pub enum Level {
     Pl2,
     /// PL-1.
     Pl1,
-    /// A part has no report, and none of the others is worse than PL-1.
+    /// A part has no report, and no other part is worse than PL-1.
     NotJudged,
-    /// A part shows G0.
+    /// A part has G0.
     BelowPl1,
     /// A part isn't sound, or doesn't begin with the rows with which the part before it ended.
     Unsound,
@@ -36,7 +36,7 @@ impl Level {
         Level::Unsound,
     ];
 
-    /// The level of one part.
+    /// Returns the level of one part.
     pub fn of(grade: Grade) -> Level
         ensures { result ≡ level_of grade }
     {
@@ -50,7 +50,7 @@ impl Level {
         }
     }
 
-    /// The level as it is printed: `PL-3`, `not judged`, `unsound` and the like.
+    /// Returns the printed level, such as `PL-3`, `not judged` or `unsound`.
     pub fn name(self) -> &'static str
         ensures { result.now ≡ level_name self }
     {
@@ -80,7 +80,7 @@ impl Level {
         }
     }
 
-    /// How many of the levels PL-1, PL-2, PL-2.99 and PL-3 the run meets.
+    /// Returns how many of the levels PL-1, PL-2, PL-2.99 and PL-3 the run meets.
     pub fn levels_met(self) -> u8
         ensures { result ≡ levels_met self }
     {
@@ -93,7 +93,7 @@ impl Level {
         }
     }
 
-    /// The worse of two.
+    /// Returns the worse of two levels.
     pub fn worse(self, other: Level) -> Level
         ensures { result ≡ worse self other }
     {

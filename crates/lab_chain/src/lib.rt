@@ -1,13 +1,14 @@
-//! What is said of a run that was recorded in parts.
+//! Summaries of runs that were recorded in parts.
 //!
-//! A [`Summary`] has how many parts a run has, a [`Line`] for each verdict and phenomenon, the [`Level`], and the rows at its
-//! [`Ends`]. Of one part it is [`part_summary`], by what became of it (an [`Outcome`]); of consecutive pieces of a run it is
-//! `joined`, and where two don't fit their seam is a line of its own. It is printed by [`print_summary`], and as JSON by
-//! [`print_summary_json`], which [`read_summary`] reads back, so that pieces are judged apart and joined later.
+//! A [`Summary`] has the number of parts of a run, a [`Line`] for each verdict and phenomenon, the [`Level`], and the
+//! rows at its [`Ends`]. [`part_summary`] makes the summary of one part from its [`Outcome`]. `joined` joins the
+//! summaries of consecutive pieces of a run; if two don't fit, their seam gets a line. [`print_summary`] prints a
+//! summary, and [`print_summary_json`] prints it as JSON, which [`read_summary`] reads back, so that pieces can be
+//! judged separately and joined later.
 //!
-//! The laws are the contracts of functions that have nothing to do: which pieces are joined first makes no difference; a yes
-//! is one of the history that the parts make together (`whole` of `lab_parts`); and of sound parts that fit each line about
-//! cycles is so of that history, and so is the level.
+//! Theorems, stated as contracts of empty functions: the order of joining makes no difference; a yes is one of the
+//! history that the parts form together (`whole` of `lab_parts`); and if the parts are sound and fit, each line about
+//! cycles and the level are true of that history. Functions that allocate return `NoMemory` if an allocation fails.
 #![tactic(auto)]
 
 mod laws;

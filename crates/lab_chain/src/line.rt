@@ -1,4 +1,4 @@
-//! What one line says of a run in parts.
+//! A line of the summary of a run in parts.
 
 ghost use Rattle.std.specs.Prelude.{◌≡◌, IfOk};
 ghost use Rattle.lab_chain.specs.Lines.{line_weight, line_joined};
@@ -9,26 +9,26 @@ use std::alloc::Global;
 /// The bytes of a text.
 pub type Text = Sequence<u8>;
 
-/// These bytes as a text. NoMemory where an allocation was refused.
+/// These bytes as a text.
 pub fn text_of(alloc: Global, bytes: &[u8]) -> Result<Text, NoMemory>
     ensures { IfOk result (λ made. made ≡ bytes.now) }
 {
     Ok(Text::new(Vec::from_slice(alloc, bytes)?))
 }
 
-/// What one line says of a run in parts: of a verdict or of a phenomenon.
+/// A line of the summary, about a verdict or a phenomenon.
 #[derive(Drop)]
 pub enum Line {
-    /// Each part says yes, or that the phenomenon is absent.
+    /// For each part, the verdict is yes or the phenomenon is absent.
     Clear,
-    /// No part says no, or present, and this is the first that doesn't say.
+    /// No part has a no or the phenomenon, and this is the first part that wasn't judged.
     Unjudged { part: Text },
-    /// This is the first part that says no, or present, and why.
+    /// The first part with a no or the phenomenon, and the reason.
     Found { part: Text, reason: Text },
 }
 
 impl Line {
-    /// That something wasn't judged, from this part on. NoMemory where an allocation was refused.
+    /// That something wasn't judged, from this part on.
     pub(crate) fn unjudged_from(alloc: Global, part: &[u8]) -> Result<Line, NoMemory>
         ensures { IfOk result (λ line. line ≡ Line.Unjudged part.now) }
     {
@@ -37,7 +37,7 @@ impl Line {
         })
     }
 
-    /// That something was found in this part, and why. NoMemory where an allocation was refused.
+    /// That something was found in this part, and why.
     pub(crate) fn found_in(alloc: Global, part: &[u8], reason: Text) -> Result<Line, NoMemory>
         ensures { IfOk result (λ line. line ≡ Line.Found part.now reason) }
     {
@@ -47,7 +47,7 @@ impl Line {
         })
     }
 
-    /// The same again. NoMemory where an allocation was refused.
+    /// The same again.
     pub(crate) fn copy(&self, alloc: Global) -> Result<Line, NoMemory>
         ensures { IfOk result (λ copy. copy ≡ self.now) }
     {
@@ -71,7 +71,7 @@ impl Line {
         }
     }
 
-    /// What is said of two pieces of a run, one behind the other.
+    /// Returns the line of two pieces of a run, `self` before `next`.
     pub fn joined(self, next: Line) -> Line
         ensures { result ≡ line_joined self next }
     {

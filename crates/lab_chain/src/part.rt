@@ -1,4 +1,4 @@
-//! What is said of one part of a run.
+//! The summary of one part of a run.
 
 ghost use Rattle.std.specs.Prelude.{◌≡◌, drop, IfOk};
 ghost use Rattle.lab_judge.specs.ReportText.{fault_text, walk_text, circle_text, place_text};
@@ -13,22 +13,22 @@ use lab_judge::{Finding, Places, Point, Report, Serial, put_circle, put_fault, p
 use lab_table::{NoMemory, RowName, Table, TxnNo};
 use std::alloc::Global;
 
-/// What became of a part.
+/// The result of judging a part.
 #[derive(Drop)]
 pub enum Outcome {
-    /// It was judged; it begins and ends with these rows.
+    /// The part was judged; it begins and ends with these rows.
     Judged {
         report: Report,
         initial: Table,
         last: Table,
     },
-    /// It was refused.
+    /// The part was refused.
     Refused(FileFault),
-    /// It can't be opened or read.
+    /// The part can't be opened or read.
     Unreadable,
 }
 
-/// A text without its first bytes. NoMemory where an allocation was refused.
+/// A text without its first bytes.
 #[tactic(auto, using(crate::proofs::Behind::behind_front))]
 fn behind(alloc: Global, text: &[u8], count: usize) -> Result<Text, NoMemory>
     ensures { IfOk result (λ made. made ≡ drop count text.now) }
@@ -130,7 +130,7 @@ fn unjudged_lines(alloc: Global, part: &[u8]) -> Result<Lines, NoMemory>
     Lines::of(alloc, &line, &line)
 }
 
-/// What is said of a run that has one part alone, of which there is no report. NoMemory where an allocation was refused.
+/// What is said of a run that has one part alone, of which there is no report.
 fn unjudged_summary(alloc: Global, part: &[u8]) -> Result<Summary, NoMemory>
     ensures { IfOk result (λ summary. summary ≡ spec.unjudged_summary part.now) }
 {
@@ -146,7 +146,7 @@ fn unjudged_summary(alloc: Global, part: &[u8]) -> Result<Summary, NoMemory>
     })
 }
 
-/// What is said of a run that was judged and has one part alone. NoMemory where an allocation was refused.
+/// What is said of a run that was judged and has one part alone.
 fn judged_summary(
     alloc: Global,
     part: &[u8],
@@ -170,7 +170,7 @@ fn judged_summary(
     })
 }
 
-/// What is said of a run that has the part of this name alone. NoMemory where an allocation was refused.
+/// Returns the summary of a run that has only the part of this name.
 pub fn part_summary(alloc: Global, part: &str, outcome: Outcome) -> Result<Summary, NoMemory>
     ensures { IfOk result (λ summary. summary ≡ spec.part_summary part.now outcome) }
 {

@@ -1,4 +1,4 @@
-//! What may be required of a run in parts.
+//! Requirements on a run in parts.
 
 ghost use Rattle.std.specs.Prelude.{◌≡◌, ◌++◌, OnOk};
 ghost use Rattle.lab_chain.specs.Chain.{is_clear, chain_meets, instead_text, chain_shortfall};
@@ -14,7 +14,7 @@ fn is_clear(line: &Line) -> bool
     matches!(line, Line::Clear)
 }
 
-/// Whether a run meets a requirement: its level is the one that is required or a higher one, or it is a snapshot run.
+/// Returns whether a run meets a requirement: its level is the required one or higher, or it is a snapshot run.
 pub fn is_met(requirement: Requirement, summary: &Summary) -> bool
     ensures { result ≡ chain_meets requirement summary.now }
 {
@@ -44,8 +44,8 @@ fn put_instead(
     }
 }
 
-/// Appends why a run doesn't meet what was required of it, without a newline: the requirement, and the level that was
-/// found, as `PL-3 asked, PL-2 found`. NoMemory where an allocation was refused, and then part of it may stand there.
+/// Appends why a run doesn't meet a requirement, without a newline: the requirement and the level that was found, such
+/// as `PL-3 asked, PL-2 found`. On failure, a part of it may have been appended.
 pub fn put_chain_shortfall(
     out: &mut Vec<u8>,
     requirement: Requirement,

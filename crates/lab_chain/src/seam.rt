@@ -1,4 +1,4 @@
-//! Whether a part begins with the rows with which the part before it ended.
+//! The seam between two parts: whether a part begins with the rows with which the part before it ended.
 
 ghost use Rattle.std.specs.Prelude.{◌≡◌, IfOk};
 ghost use Rattle.lab_chain.specs.Difference.{lesser, same_entry, parted, first_difference};
@@ -11,7 +11,7 @@ use lab_printing::put_row_name;
 use lab_table::{NoMemory, RowName, Table, Value};
 use std::alloc::Global;
 
-/// What the seam between two pieces of a run says.
+/// The lines and the level of the seam between two pieces of a run.
 #[derive(Drop)]
 pub struct Seam {
     pub lines: Lines,
@@ -49,7 +49,7 @@ fn parted(entries: &[(RowName, Value)], others: &[(RowName, Value)]) -> Option<R
     rest.first().map(|other| other.0)
 }
 
-/// The least row of which two tables say otherwise; None where they are the same.
+/// Returns the least row at which two tables differ, or `None` if they are equal.
 pub fn first_difference(table: &Table, other: &Table) -> Option<RowName>
     ensures { result ≡ first_difference table.now other.now }
 {
@@ -67,7 +67,7 @@ fn parted_at(last: &Option<Table>, initial: &Option<Table>) -> Option<RowName>
     }
 }
 
-/// Why a part doesn't fit to the one before it. NoMemory where an allocation was refused.
+/// Why a part doesn't fit to the one before it.
 fn seam_reason(alloc: Global, row: RowName) -> Result<Text, NoMemory>
     ensures { IfOk result (λ text. text ≡ spec.seam_reason row) }
 {
@@ -76,7 +76,7 @@ fn seam_reason(alloc: Global, row: RowName) -> Result<Text, NoMemory>
     Ok(Text::new(reason))
 }
 
-/// What the seam in front of a part says. NoMemory where an allocation was refused.
+/// What the seam in front of a part says.
 fn seam_at(alloc: Global, part: &Text, row: Option<RowName>) -> Result<Seam, NoMemory>
     ensures { IfOk result (λ seam. seam ≡ spec.seam_at part.now row) }
 {
@@ -95,7 +95,7 @@ fn seam_at(alloc: Global, part: &Text, row: Option<RowName>) -> Result<Seam, NoM
     })
 }
 
-/// What the seam between two pieces says. NoMemory where an allocation was refused.
+/// What the seam between two pieces says.
 pub fn seam_between(
     alloc: Global,
     first: &Option<Ends>,

@@ -1,4 +1,4 @@
-//! What is said of a run in parts.
+//! The summary of a run in parts.
 
 ghost use Rattle.std.specs.Prelude.{◌≡◌, IfOk};
 ghost use Rattle.lab_chain.specs.Summary as spec;
@@ -9,7 +9,7 @@ use crate::seam::{Seam, seam_between};
 use lab_table::{NoMemory, Table};
 use std::alloc::Global;
 
-/// The lines about a run in parts, but its level.
+/// The lines of the summary of a run in parts, without its level.
 #[derive(Drop)]
 pub struct Lines {
     pub serial: Line,
@@ -28,25 +28,25 @@ pub struct Lines {
 pub struct Ends {
     /// The name of its first part.
     pub first: Text,
-    /// The rows with which that begins; None where it has no report.
+    /// The rows with which the first part begins, or `None` if it has no report.
     pub initial: Option<Table>,
-    /// The rows with which its last part ends; None where that has no report.
+    /// The rows with which the last part ends, or `None` if it has no report.
     pub last: Option<Table>,
 }
 
-/// What is said of a run in parts, or of consecutive parts of one.
+/// The summary of a run in parts, or of consecutive parts of one.
 #[derive(Drop)]
 pub struct Summary {
-    /// How many parts it has.
+    /// The number of parts.
     pub parts: u64,
     pub lines: Lines,
     pub level: Level,
-    /// Its ends; None where it has no part.
+    /// Its ends, or `None` if it has no parts.
     pub ends: Option<Ends>,
 }
 
 impl Lines {
-    /// The lines of what has no part.
+    /// Returns the lines of a piece without parts.
     pub fn clear() -> Lines
         ensures { result ≡ spec.clear_lines }
     {
@@ -63,7 +63,7 @@ impl Lines {
         }
     }
 
-    /// Lines that say the same of both verdicts, and the same of each phenomenon. NoMemory where an allocation was refused.
+    /// Lines that say the same of both verdicts, and the same of each phenomenon.
     pub(crate) fn of(alloc: Global, verdict: &Line, found: &Line) -> Result<Lines, NoMemory>
         ensures { IfOk result (λ lines. lines ≡ spec.lines_of verdict.now found.now) }
     {
@@ -80,7 +80,7 @@ impl Lines {
         })
     }
 
-    /// The lines of two pieces of a run, one behind the other.
+    /// Returns the lines of two pieces of a run, `self` before `next`.
     pub fn joined(self, next: Lines) -> Lines
         ensures { result ≡ spec.lines_joined self next }
     {
@@ -114,7 +114,7 @@ fn ends_joined(first: Option<Ends>, next: Option<Ends>) -> Option<Ends>
 }
 
 impl Summary {
-    /// What is said of a run that has no part.
+    /// Returns the summary of a run without parts.
     pub fn nothing() -> Summary
         ensures { result ≡ spec.nothing }
     {
@@ -126,7 +126,7 @@ impl Summary {
         }
     }
 
-    /// What is said of two pieces of a run, one behind the other. NoMemory where an allocation was refused.
+    /// Returns the summary of two pieces of a run, `self` before `next`.
     pub fn joined(self, alloc: Global, next: Summary) -> Result<Summary, NoMemory>
         ensures { IfOk result (λ both. both ≡ spec.joined self next) }
     {

@@ -1,4 +1,4 @@
-//! What is said of a run in parts, as a line of JSON.
+//! Prints the summary of a run in parts as a line of JSON.
 
 ghost use Rattle.std.specs.Prelude.{◌≡◌, Some, IfOk, OnOk, IsUtf8};
 ghost use Rattle.serde_json.specs.Data.{null, string};
@@ -131,8 +131,8 @@ fn summary_json(alloc: Global, summary: &Summary) -> Result<Json, NoMemory>
     })
 }
 
-/// What is said of a run in parts as one line of compact JSON with its newline, the keys of each object in the order of
-/// their bytes. NoMemory where an allocation was refused.
+/// Returns the summary of a run in parts as one line of compact JSON with its newline. The keys of each object are in
+/// the order of their bytes.
 #[tactic(auto, using(crate::proofs::WritableChain::chain_whole, crate::proofs::WritableChain::chain_flat))]
 pub fn print_summary_json(alloc: Global, summary: &Summary) -> Result<Vec<u8>, NoMemory>
     ensures line { IfOk result (λ line. line.items ≡ line_of (chain_tree summary.now)) }

@@ -1,4 +1,4 @@
-//! Reading what is said of a run in parts.
+//! Reads the summary of a run in parts.
 
 ghost use Rattle.std.specs.Prelude.{◌≡◌, IsTrue, IfOk, IfSome};
 ghost use Rattle.lab_chain.specs.ChainTree.{IsLines, IsLastLine, IsAnswerOf};
@@ -155,8 +155,8 @@ fn ends_in_line(bytes: &[u8], line: &[u8]) -> bool
     is_same(end, line) && is_lines(front)
 }
 
-/// What is said of a run in parts in the last line of a text, as [`print_summary_json`] writes it; None where it is no such
-/// line, or is about no part. NoMemory where an allocation was refused.
+/// Returns the summary in the last line of a text, as `print_summary_json` writes it, or `None` if the text ends with
+/// no such line or the summary has no parts.
 pub fn read_summary(alloc: Global, bytes: &[u8]) -> Result<Option<Summary>, NoMemory>
     ensures { IfOk result (λ read. IfSome read (IsAnswerOf bytes.now)) }
 {

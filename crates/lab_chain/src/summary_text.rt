@@ -1,4 +1,4 @@
-//! What is said of a run in parts, as lines.
+//! Prints the summary of a run in parts as lines.
 
 ghost use Rattle.std.specs.Prelude.{◌≡◌, ◌++◌, codes, IfOk, OnOk};
 ghost use Rattle.lab_judge.specs.ReportText.{line_text};
@@ -65,8 +65,8 @@ fn put_level(out: &mut Vec<u8>, level: Level) -> Result<(), NoMemory>
     out.extend_from_slice(b"\n")
 }
 
-/// What is said of a run in parts: a line with their number, and ten as a report has them. NoMemory where an allocation
-/// was refused.
+/// Returns the printed summary of a run in parts: a line with the number of parts, and ten lines like those of a
+/// report.
 pub fn print_summary(alloc: Global, summary: &Summary) -> Result<Vec<u8>, NoMemory>
     ensures { IfOk result (λ text. text.items ≡ chain_text summary.now) }
 {

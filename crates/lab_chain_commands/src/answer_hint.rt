@@ -62,7 +62,7 @@ fn put_found(out: &mut Vec<u8>, bytes: &[u8]) -> Result<(), NoMemory> {
     }
 }
 
-/// A line on a file that has no answer, behind its name. NoMemory where an allocation was refused.
+/// A line on a file that has no answer, behind its name.
 fn no_answer_hint(alloc: Global, name: &str, bytes: &[u8]) -> Result<Vec<u8>, NoMemory> {
     let mut line = Vec::new(alloc);
     put_shown(&mut line, name.as_bytes(), SHOWN_NAME)?;

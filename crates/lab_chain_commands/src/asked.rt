@@ -1,9 +1,9 @@
-//! What is asked of `chain`.
+//! Options of `chain`.
 
 use lab_reports::Requirement;
 use lab_streams::Format;
 
-/// How what is said of a run is written, what is required of it, and whether the reports of its parts are written too.
+/// The output format of `chain`, the requirement on the run, and whether the reports of its parts are written too.
 #[derive(Clone, Copy, Debug, PartialEq, Eq)]
 pub struct Asked {
     pub format: Format,

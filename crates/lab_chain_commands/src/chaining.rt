@@ -112,16 +112,16 @@ pub fn note_shortfall<N: Write>(alloc: Global, asked: Asked, summary: &Summary, 
     }
 }
 
-/// Reads and judges the parts of a run, several at a time, and writes what is said of the whole
-/// run: how many parts it has, and ten lines as a report has them; or a line of JSON. Before that stands, as `batch` writes
-/// it, why a part has no report, and where reports are asked for each part's; that is written as it comes. Answers the
-/// greatest exit status met: 1 where the run doesn't meet what is required of it, 2 where a part is refused, 3 where one
-/// can't be opened or read.
+/// Reads and judges the parts of a run, several at a time, and writes the summary of the whole run: the number of
+/// parts, and ten lines like those of a report; or a line of JSON. Before the summary, as `batch` does, it writes why a
+/// part has no report, and each part's report if these are asked for; this is written as it is computed. Returns the
+/// greatest exit status: 1 if the run doesn't meet the requirement, 2 if a part is refused, 3 if a part can't be opened
+/// or read.
 ///
-/// Parts are read while others are judged, and at most 32 are held at a time. `NoMemory` where an
-/// allocation was refused, and then what there is to say of the first parts may be written; `Unwritten` where a write fails.
-/// `notes` is given a hint on each part that is refused, why one can't be opened or read, and why the run doesn't meet what
-/// is required; what fails there is let go.
+/// Parts are read while others are judged, and at most 32 are held in memory. Fails with `NoMemory`, when the output
+/// for the first parts may already be written, and with `Unwritten` if a write fails. `notes` gets a line for each part
+/// that is refused or can't be read, and the reason if the run doesn't meet the requirement; failures of `notes` are
+/// ignored.
 pub fn chain<T: Files + Threads + Sync, W: Write, N: Write, P: Write>(
     rt: &T,
     alloc: Global,

@@ -26,7 +26,7 @@ struct Joined {
     hints: Vec<u8>,
 }
 
-/// What is said of a run with another piece behind it. NoMemory where an allocation was refused.
+/// What is said of a run with another piece behind it.
 fn with_piece(alloc: Global, summary: Summary, piece: Piece) -> Result<Summary, NoMemory>
     ensures { IfOk result (λ next. next ≡ with_piece summary piece) }
 {
@@ -36,7 +36,7 @@ fn with_piece(alloc: Global, summary: Summary, piece: Piece) -> Result<Summary, 
     }
 }
 
-/// Reads the files, and joins what they tell. NoMemory where an allocation was refused.
+/// Reads the files, and joins what they tell.
 fn read_pieces<T: Files>(
     rt: &T,
     alloc: Global,
@@ -115,14 +115,14 @@ fn write_refusals<W: Write, N: Write>(
     Ok(status)
 }
 
-/// Reads what [`chain`](crate::chain) said in JSON of consecutive pieces of a run, in their order, and writes what it says
-/// of the whole run. Where a file has no such line at its end, or can't be opened or read, that is written in its place,
-/// and nothing of the run. Answers the exit status: 1 where the run doesn't meet what is required of it, 2 where a file
-/// has no such line, 3 where one can't be opened or read.
+/// Reads the JSON summaries that `chain` wrote for consecutive pieces of a run, in their order, and writes the summary
+/// of the whole run. If a file doesn't end with such a line, or can't be opened or read, writes that instead, and no
+/// summary. Returns the exit status: 1 if the run doesn't meet the requirement, 2 if a file has no such line, 3 if a
+/// file can't be opened or read.
 ///
-/// `NoMemory` where an allocation was refused, and then nothing is written; `Unwritten` where a write fails. Behind the
-/// answer `notes` is given why a file can't be opened or read, what a file has in place of an answer, or why the run doesn't
-/// meet what is required; what fails there is let go.
+/// Fails with `NoMemory` before anything is written, and with `Unwritten` if a write fails. After the output, `notes`
+/// gets the reason why a file can't be opened or read, what a file has instead of a summary, or why the run doesn't
+/// meet the requirement; failures of `notes` are ignored.
 pub fn join<T: Files, W: Write, N: Write>(
     rt: &T,
     alloc: Global,

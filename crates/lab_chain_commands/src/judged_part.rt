@@ -33,7 +33,7 @@ pub struct JudgedPart<'n> {
     pub hint: Vec<u8>,
 }
 
-/// Reads the parts' files, in their order. NoMemory where an allocation was refused.
+/// Reads the parts' files, in their order.
 pub fn read_parts<'n, T: Files>(
     rt: &T,
     alloc: Global,
@@ -49,7 +49,7 @@ pub fn read_parts<'n, T: Files>(
     Ok(inputs)
 }
 
-/// The judgement of a part, and the rows with which it begins and ends. NoMemory where an allocation was refused.
+/// The judgement of a part, and the rows with which it begins and ends.
 fn judged(alloc: Global, history: &History) -> Result<Outcome, NoMemory>
     ensures { IfOk result (λ outcome. (bytes : List ℕ) → HoldsHistory bytes history.now → IsOutcome (Some bytes) outcome) }
 {
@@ -63,7 +63,7 @@ fn judged(alloc: Global, history: &History) -> Result<Outcome, NoMemory>
     })
 }
 
-/// What becomes of a part of which this was read. NoMemory where an allocation was refused.
+/// What becomes of a part of which this was read.
 fn outcome_of(alloc: Global, bytes: &[u8]) -> Result<Outcome, NoMemory>
     ensures { IfOk result (IsOutcome (Some bytes.now)) }
 {
@@ -74,7 +74,7 @@ fn outcome_of(alloc: Global, bytes: &[u8]) -> Result<Outcome, NoMemory>
     }
 }
 
-/// What becomes of a part of whose file this was read. NoMemory where an allocation was refused.
+/// What becomes of a part of whose file this was read.
 fn outcome_in(alloc: Global, read: &Inputs) -> Result<Outcome, NoMemory>
     ensures { IfOk result (λ outcome. (input : Option (List ℕ)) × IsOutcome input outcome) }
 {
@@ -92,7 +92,7 @@ fn fault_of(outcome: &Outcome) -> Option<FileFault> {
     }
 }
 
-/// Judges a part. NoMemory where an allocation was refused.
+/// Judges a part.
 fn judge_part<'i, 'n>(alloc: Global, input: &'i Input<'n>) -> Result<JudgedPart<'i>, NoMemory>
 where
     'n: 'i,
@@ -115,8 +115,7 @@ where
     })
 }
 
-/// Judges parts, as many at a time as there are processors; as many answers as inputs, in their order. NoMemory where an
-/// allocation was refused.
+/// Judges parts, as many at a time as there are processors; as many answers as inputs, in their order.
 ///
 /// It starts threads, as many as there are processors, and waits for them.
 pub fn judge_parts<'i, 'n, T: Threads + Sync>(

@@ -1,7 +1,8 @@
-//! The subcommand `chain`: what is said of a run that was recorded in parts.
+//! The subcommand `chain`: the summary of a run that was recorded in parts.
 //!
-//! [`chain`] reads and judges the parts' files, as many at a time as there are processors, and writes what is said of the
-//! whole run. [`join`] does so of what `chain` wrote of consecutive pieces of one.
+//! [`chain`] reads and judges the files of the parts, as many at a time as there are processors, and writes the summary
+//! of the whole run. [`join`] makes it from summaries that `chain` wrote for consecutive pieces. Functions that
+//! allocate return `NoMemory` if an allocation fails.
 #![tactic(auto)]
 
 mod answer_hint;

@@ -71,7 +71,7 @@ pub fn put_unreadable(
     }
 }
 
-/// Appends what there is to say of a part. NoMemory where an allocation was refused.
+/// Appends what there is to say of a part.
 pub fn put_outcome(
     alloc: Global,
     out: &mut Vec<u8>,
@@ -105,7 +105,7 @@ pub fn outcome_status(outcome: &Outcome) -> u8
     }
 }
 
-/// What is said of a run, in a format. NoMemory where an allocation was refused.
+/// What is said of a run, in a format.
 pub fn print_whole(alloc: Global, format: Format, summary: &Summary) -> Result<Vec<u8>, NoMemory>
     ensures { IfOk result (λ text. text.items ≡ whole_text format summary.now) }
 {

@@ -26,7 +26,7 @@ pub enum Piece {
     Unreadable,
 }
 
-/// What was read of one file tells this. NoMemory where an allocation was refused.
+/// What was read of one file tells this.
 fn piece_in(alloc: Global, inputs: &Inputs) -> Result<Piece, NoMemory>
     ensures { IfOk result (λ piece. (input : Option (List ℕ)) × IsPiece input piece) }
 {
@@ -39,8 +39,8 @@ fn piece_in(alloc: Global, inputs: &Inputs) -> Result<Piece, NoMemory>
     }
 }
 
-/// Reads what a file tells of a piece of a run, and appends a hint why it can't be opened or read, or what was found in it
-/// in place of an answer. NoMemory where an allocation was refused.
+/// Reads what a file tells of a piece of a run, and appends a hint why it can't be opened or read, or what was found in
+/// it in place of an answer.
 pub fn read_piece<T: Files>(
     rt: &T,
     alloc: Global,
@@ -82,8 +82,7 @@ fn put_no_answer(
     }
 }
 
-/// Appends why a file tells nothing of a run, if it doesn't. NoMemory where an allocation was refused, and then part of it
-/// may stand there.
+/// Appends why a file tells nothing of a run, if it doesn't. On failure, a part of the text may have been appended.
 pub fn put_refusal(
     alloc: Global,
     out: &mut Vec<u8>,

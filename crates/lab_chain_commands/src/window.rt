@@ -27,7 +27,7 @@ pub struct Window {
     pub hints: Vec<u8>,
 }
 
-/// Adds a part to a window. NoMemory where an allocation was refused.
+/// Adds a part to a window.
 fn with_part(
     alloc: Global,
     window: Window,
@@ -62,7 +62,7 @@ fn with_part(
     })
 }
 
-/// What is said of some parts. NoMemory where an allocation was refused.
+/// What is said of some parts.
 fn tell_parts(alloc: Global, asked: Asked, parts: Vec<JudgedPart<'_>>) -> Result<Window, NoMemory>
     ensures { IfOk result (λ window. (window.summary ≡ fold (λ s p. with_part s (part_of p)) nothing parts.entry.items)
         × (window.status ≡ fold (λ s p. max s (outcome_status p.outcome)) 0 parts.entry.items)
@@ -80,7 +80,7 @@ fn tell_parts(alloc: Global, asked: Asked, parts: Vec<JudgedPart<'_>>) -> Result
     Ok(window)
 }
 
-/// Judges some parts of which this was read. NoMemory where an allocation was refused.
+/// Judges some parts of which this was read.
 fn judge_window<T: Threads + Sync>(
     rt: &T,
     alloc: Global,
@@ -93,8 +93,8 @@ fn judge_window<T: Threads + Sync>(
     tell_parts(alloc, asked, parts)
 }
 
-/// Judges some parts of which this was read, and reads the parts with these names meanwhile; NoMemory where an allocation
-/// was refused. Where no thread can be made, one is done after the other.
+/// Judges some parts of which this was read, and reads the parts with these names meanwhile. Where no thread can be
+/// made, one is done after the other.
 pub fn judge_and_read<'n, T: Files + Threads + Sync>(
     rt: &T,
     alloc: Global,

@@ -1,7 +1,8 @@
-//! The command line: subcommands, their arguments, and what help says of them.
+//! The command line: subcommands, their arguments and their help.
 //!
-//! [`command`] makes the program's command, which parses arguments and prints help by the kit's crate `clap`. Which names
-//! options take is given ([`Names`]), so that nothing of the laboratory stands below this crate.
+//! [`command`] makes the program's command, which parses arguments and prints help with the kit's crate `clap`. The
+//! names that options accept are passed in ([`Names`]), so this crate depends on no other crate of the laboratory. It
+//! fails with `AllocError` if an allocation fails.
 #![tactic(auto)]
 
 mod arguments;

@@ -1,6 +1,6 @@
-//! The names that arguments may give.
+//! The names that arguments accept.
 
-/// The names that arguments may give.
+/// The names that arguments accept.
 #[derive(Drop)]
 pub struct Names {
     pub cases: [&'static str; 10],

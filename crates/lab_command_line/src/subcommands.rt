@@ -1,4 +1,4 @@
-//! The subcommands, and the program's command with all of them.
+//! The subcommands, and the command of the program with all of them.
 
 ghost use Rattle.std.specs.Prelude.{ℕ, List, [], ◌∷◌, ◌++◌, ◌≡◌, codes, IfOk};
 ghost use Rattle.lab_command_line.specs.Subcommands.{HasSubcommands, IsNamed, subcommands};
@@ -25,7 +25,7 @@ fn plain_command<'a>(alloc: Global, name: &'a str, about: &'a str, whole: &'a st
         .after_help(help::STATUSES)
 }
 
-/// The subcommand `run`. NoMemory where an allocation was refused.
+/// The subcommand `run`.
 fn run_command<'a>(alloc: Global, names: &'a Names) -> Result<Command<'a>, AllocError>
     ensures { IfOk result (IsNamed (codes "run")) }
 {
@@ -41,7 +41,7 @@ fn run_command<'a>(alloc: Global, names: &'a Names) -> Result<Command<'a>, Alloc
     with_arg(command, json_of_run(alloc))
 }
 
-/// The subcommand `compare`. NoMemory where an allocation was refused.
+/// The subcommand `compare`.
 fn compare_command<'a>(alloc: Global, names: &'a Names) -> Result<Command<'a>, AllocError>
     ensures { IfOk result (IsNamed (codes "compare")) }
 {
@@ -52,7 +52,7 @@ fn compare_command<'a>(alloc: Global, names: &'a Names) -> Result<Command<'a>, A
     ))
 }
 
-/// The subcommand `judge`. NoMemory where an allocation was refused.
+/// The subcommand `judge`.
 fn judge_command<'a>(alloc: Global, names: &'a Names) -> Result<Command<'a>, AllocError>
     ensures { IfOk result (IsNamed (codes "judge")) }
 {
@@ -61,7 +61,7 @@ fn judge_command<'a>(alloc: Global, names: &'a Names) -> Result<Command<'a>, All
     with_arg(command, Ok(flag(alloc, "json", help::JSON)))
 }
 
-/// A subcommand over files. NoMemory where an allocation was refused.
+/// A subcommand over files.
 fn files_command<'a>(
     alloc: Global,
     command: Command<'a>,
@@ -82,7 +82,7 @@ fn files_command<'a>(
     with_arg(command, Ok(flag(alloc, "progress", help::PROGRESS)))
 }
 
-/// The subcommand `batch`. NoMemory where an allocation was refused.
+/// The subcommand `batch`.
 fn batch_command<'a>(alloc: Global, names: &'a Names) -> Result<Command<'a>, AllocError>
     ensures { IfOk result (IsNamed (codes "batch")) }
 {
@@ -90,7 +90,7 @@ fn batch_command<'a>(alloc: Global, names: &'a Names) -> Result<Command<'a>, All
     files_command(alloc, command, names)
 }
 
-/// The subcommand `chain`. NoMemory where an allocation was refused.
+/// The subcommand `chain`.
 fn chain_command<'a>(alloc: Global, names: &'a Names) -> Result<Command<'a>, AllocError>
     ensures { IfOk result (IsNamed (codes "chain")) }
 {
@@ -103,7 +103,7 @@ fn chain_command<'a>(alloc: Global, names: &'a Names) -> Result<Command<'a>, All
     )
 }
 
-/// The subcommand `case`. NoMemory where an allocation was refused.
+/// The subcommand `case`.
 fn case_command<'a>(alloc: Global, names: &'a Names) -> Result<Command<'a>, AllocError>
     ensures { IfOk result (IsNamed (codes "case")) }
 {
@@ -115,7 +115,7 @@ fn case_command<'a>(alloc: Global, names: &'a Names) -> Result<Command<'a>, Allo
     plain_command(alloc, "case", help::CASE, help::CASE_WHOLE).arg(name)
 }
 
-/// The subcommand `matrix`. NoMemory where an allocation was refused.
+/// The subcommand `matrix`.
 fn matrix_command<'a>(alloc: Global, names: &'a Names) -> Result<Command<'a>, AllocError>
     ensures { IfOk result (IsNamed (codes "matrix")) }
 {
@@ -126,7 +126,7 @@ fn matrix_command<'a>(alloc: Global, names: &'a Names) -> Result<Command<'a>, Al
     ))
 }
 
-/// The subcommand `picture`. NoMemory where an allocation was refused.
+/// The subcommand `picture`.
 fn picture_command<'a>(alloc: Global, names: &'a Names) -> Result<Command<'a>, AllocError>
     ensures { IfOk result (IsNamed (codes "picture")) }
 {
@@ -134,7 +134,7 @@ fn picture_command<'a>(alloc: Global, names: &'a Names) -> Result<Command<'a>, A
     command.arg(phenomenon(alloc, help::PHENOMENON, names))
 }
 
-/// The subcommand `explain`. NoMemory where an allocation was refused.
+/// The subcommand `explain`.
 fn explain_command<'a>(alloc: Global, names: &'a Names) -> Result<Command<'a>, AllocError>
     ensures { IfOk result (IsNamed (codes "explain")) }
 {
@@ -142,7 +142,7 @@ fn explain_command<'a>(alloc: Global, names: &'a Names) -> Result<Command<'a>, A
     command.arg(phenomenon(alloc, help::EXPLAINED, names))
 }
 
-/// The subcommand `shrink`. NoMemory where an allocation was refused.
+/// The subcommand `shrink`.
 fn shrink_command<'a>(alloc: Global, names: &'a Names) -> Result<Command<'a>, AllocError>
     ensures { IfOk result (IsNamed (codes "shrink")) }
 {
@@ -151,7 +151,7 @@ fn shrink_command<'a>(alloc: Global, names: &'a Names) -> Result<Command<'a>, Al
     with_arg(command, Ok(flag(alloc, "progress", help::LEFT)))
 }
 
-/// The subcommand `page`. NoMemory where an allocation was refused.
+/// The subcommand `page`.
 fn page_command<'a>(alloc: Global, names: &'a Names) -> Result<Command<'a>, AllocError>
     ensures { IfOk result (IsNamed (codes "page")) }
 {
@@ -187,7 +187,7 @@ fn with_subcommand<'a>(
     command?.subcommand(more?)
 }
 
-/// The program's command with all subcommands. NoMemory where an allocation was refused.
+/// Returns the command of the program with all subcommands.
 // What was refused is handed on, and looked at in `with_subcommand` alone: each exit here would let a command go.
 pub fn command<'a>(alloc: Global, names: &'a Names) -> Result<Command<'a>, AllocError>
     ensures { IfOk result (λ c. subcommand_names c ≡ subcommands) }

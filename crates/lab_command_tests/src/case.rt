@@ -1,4 +1,4 @@
-//! A subcommand with its input, and what is due.
+//! A test case: a subcommand, its input and the expected output.
 
 use crate::streams::{Sink, Source};
 use lab_case_commands::{case as case_script, matrix, matrix_at};

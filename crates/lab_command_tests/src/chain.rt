@@ -1,4 +1,4 @@
-//! What `chain` and `chain --join` write of files that stand in memory.
+//! The output of `chain` and `chain --join` for files held in memory.
 
 use crate::case::{JSON, LINES, Task, status_of};
 use crate::files::{FileRun, ran_on_files};

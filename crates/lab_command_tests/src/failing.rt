@@ -1,4 +1,4 @@
-//! Streams that fail, for one case of each way that a subcommand ends.
+//! Streams that fail, for one case of each way in which a subcommand ends.
 
 use crate::case::{Case, LINES, Subcommand, Task, run_unhinted, status_of};
 use crate::chain::REPORTS;

@@ -1,5 +1,5 @@
-//! What `batch`, `chain` and `chain --join` write of files that can't be opened, of which a read fails, or that change while
-//! they are read.
+//! The output of `batch`, `chain` and `chain --join` for files that can't be opened, fail while they are read, or
+//! change while they are read.
 
 use crate::case::{JSON, LINES, Task, status_of};
 use crate::files::{FileRun, Held, Telling, ran_on_files};

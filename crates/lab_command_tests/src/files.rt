@@ -1,4 +1,4 @@
-//! Files that stand in memory.
+//! Files held in memory.
 
 use crate::case::{Task, with_files};
 use crate::streams::Sink;

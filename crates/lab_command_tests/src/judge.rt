@@ -1,4 +1,4 @@
-//! What `judge` writes.
+//! The output of `judge`.
 
 use crate::case::{Case, Subcommand, check};
 use std::test::Fail;

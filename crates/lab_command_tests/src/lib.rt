@@ -1,8 +1,8 @@
-//! Tests of the subcommands' functions: what no contract says, and what the program itself can't show.
+//! Tests of the subcommands' functions: properties that no contract states and the program itself can't show.
 //!
-//! For each subcommand a table of inputs and outputs; and streams that give little at a time, are interrupted, fail or
-//! never end, files that stand in memory and fail or change, and memory that is refused. And a call beside them, which no
-//! subcommand makes: a transcript's copy.
+//! Each subcommand has a table of inputs and expected outputs. Other tests use streams that transfer a few bytes at a
+//! time, are interrupted, fail or never end; files in memory that fail or change; and failing allocations. One test
+//! copies a transcript, which no subcommand does.
 #![tactic(auto)]
 
 #[cfg(test)]

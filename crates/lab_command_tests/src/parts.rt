@@ -1,4 +1,4 @@
-//! Files that tests hold in memory: parts of runs, and answers about pieces of runs.
+//! Files that tests hold in memory: parts of runs, and summaries of pieces of runs.
 
 use crate::files::Held;
 

@@ -1,4 +1,4 @@
-//! What stands where memory is refused to `serial`, `run`, `compare`, `judge`, `chain` and `chain --join`.
+//! The output of `serial`, `run`, `compare`, `judge`, `chain` and `chain --join` when an allocation fails.
 
 use crate::case::{Case, Task, run_unhinted, status_of};
 use crate::chain::{Due, RUNS};

@@ -1,4 +1,4 @@
-//! What `run` writes, also by threads.
+//! The output of `run`, also with threads.
 
 use crate::case::{Case, Subcommand, check};
 use lab_commands::Shown;

@@ -1,4 +1,4 @@
-//! What `serial` writes.
+//! The output of `serial`.
 
 use crate::case::{Case, Subcommand, check};
 use std::test::Fail;

@@ -1,4 +1,4 @@
-//! Readers and writers that give or take little at a time, are interrupted, fail, or never end.
+//! Readers and writers that transfer a few bytes at a time, are interrupted, fail, or never end.
 
 use std::alloc::Global;
 use std::io::{Error, ErrorKind, Read, Result as IoResult, Write};

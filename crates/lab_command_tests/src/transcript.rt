@@ -1,4 +1,4 @@
-//! A transcript that is handed out as a copy.
+//! A copied transcript.
 
 use lab_script::{Script, parse_script, print_transcript, run_serial};
 use std::alloc::{AllocError, Global};

@@ -1,4 +1,4 @@
-//! What `picture`, `explain`, `compare`, `shrink`, `case` and `matrix` write, and `batch` of one file.
+//! The output of `picture`, `explain`, `compare`, `shrink`, `case` and `matrix`, and of `batch` for one file.
 
 use crate::case::{Case, Subcommand, Task, check};
 use crate::judge::{CUT, CUT_FAULT, EMPTY, INTERMEDIATE};

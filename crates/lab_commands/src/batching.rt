@@ -27,7 +27,7 @@ struct Judged {
     shortfalls: Vec<u8>,
 }
 
-/// Reads and judges some more files. After NoMemory, part of what there is to say of them may stand there.
+/// Reads and judges some more files. On failure, a part of the output may have been appended.
 fn judge_window<T: Files + Threads + Sync>(
     rt: &T,
     alloc: Global,
@@ -46,7 +46,7 @@ fn judge_window<T: Files + Threads + Sync>(
     judged.shortfalls.extend_from_slice(&answer.shortfalls)
 }
 
-/// Reads and judges files, as many at a time as are held.
+/// Reads and judges files, as many at a time as may be held in memory.
 fn judge_windows<T: Files + Threads + Sync, P: Write>(
     rt: &T,
     alloc: Global,
@@ -72,15 +72,15 @@ fn judge_windows<T: Files + Threads + Sync, P: Write>(
     Ok(judged)
 }
 
-/// Reads and judges these files, as many at a time as there are processors, and then writes for each, in their order, a
-/// line `== NAME` and the report of a judgement of its history, the line of its fault, or `file: unreadable` where it can't
-/// be opened or read; in JSON a line for each, with its name. Answers the greatest exit status met: 1 is that of a report
-/// that doesn't meet what is required.
+/// Reads and judges files, as many at a time as there are processors. Then writes, for each file in order, a line
+/// `== NAME` and the report, the line of the file's fault, or `file: unreadable` if it can't be opened or read; in
+/// JSON, one line for each file, with its name. Returns the greatest exit status of the files; 1 is that of a report
+/// that doesn't meet the requirement.
 ///
-/// All files are read and judged before the first write, and the bytes of at most 64 are held. `NoMemory` where an
-/// allocation was refused, and then nothing is written; `Unwritten` where a write fails. Behind the answer `notes` is given
-/// a hint on each file that is refused, why one can't be opened or read, and why a report doesn't meet what is required,
-/// each behind the file's name; what fails there is let go.
+/// All files are read and judged before the first write. At most 64 files are held in memory. Fails with `NoMemory`
+/// before anything is written, and with `Unwritten` if a write fails. After the output, `notes` gets a line for each
+/// file that is refused, can't be read, or doesn't meet the requirement, with the file's name; failures of `notes` are
+/// ignored.
 pub fn batch<T: Files + Threads + Sync, W: Write, N: Write, P: Write>(
     rt: &T,
     alloc: Global,

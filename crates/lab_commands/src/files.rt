@@ -1,4 +1,4 @@
-//! Reading the files of a batch.
+//! Reads the files of a batch.
 
 ghost use Rattle.std.specs.Prelude.{◌≡◌, length, IfOk};
 
@@ -43,7 +43,8 @@ fn read_file<T: Files>(
     }
 }
 
-/// Files' bytes, and which of them were read; one that wasn't has none, and why stands beside it.
+/// The bytes of files, and which of them could be read. A file that couldn't be read has no bytes, and the reason is
+/// kept beside it.
 #[derive(Drop)]
 pub struct Inputs {
     pub files: Vec<Vec<u8>>,
@@ -51,7 +52,7 @@ pub struct Inputs {
     missing: Vec<Option<Missing>>,
 }
 
-/// Opens and reads each of these files, in their order. NoMemory where an allocation was refused.
+/// Opens and reads each of these files, in their order.
 pub fn read_files<T: Files>(rt: &T, alloc: Global, names: &[&str]) -> Result<Inputs, NoMemory>
     ensures files { IfOk result (λ inputs. length inputs.files.items ≡ length names.now) }
     ensures are_read { IfOk result (λ inputs. length inputs.are_read.items ≡ length names.now) }
@@ -73,8 +74,8 @@ pub fn read_files<T: Files>(rt: &T, alloc: Global, names: &[&str]) -> Result<Inp
     })
 }
 
-/// Writes the name of each file that isn't read, or that is refused with a fault, and a hint after it. `faults` has one
-/// entry for each file. Errors of `notes` are ignored.
+/// Writes the name of each file that couldn't be read or was refused, and a hint after it. `faults` has one entry for
+/// each file. Ignores errors of `notes`.
 pub fn note_files<N: Write>(
     alloc: Global,
     names: &[&str],

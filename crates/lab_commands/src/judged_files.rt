@@ -1,4 +1,4 @@
-//! What there is to say of files that were read.
+//! The output for files that have been read.
 
 ghost use Rattle.std.specs.Prelude.{◌≡◌, ◌++◌, length, map, IfOk, OnOk};
 ghost use Rattle.std.specs.List.{zip};
@@ -30,7 +30,7 @@ fn put_unreadable(
     }
 }
 
-/// Appends what there is to say of one file: as lines behind one with its name, or as a line of JSON.
+/// Appends the output for one file: lines after a line with its name, or one line of JSON.
 fn put_part(
     alloc: Global,
     out: &mut Vec<u8>,
@@ -56,7 +56,7 @@ fn put_part(
     out.extend_from_slice(&said)
 }
 
-/// The exit status that a file calls for.
+/// Returns the exit status of one file.
 fn status_of(wanted: Wanted, is_read: bool, answer: &Result<Report, FileFault>) -> u8
     ensures { result ≡ part_status wanted.requirement is_read answer.now }
 {
@@ -81,7 +81,7 @@ fn faults(
     Ok(faults)
 }
 
-/// A line for each file whose report doesn't meet what is required. NoMemory where an allocation was refused.
+/// A line for each file whose report doesn't meet what is required.
 fn shortfalls(
     alloc: Global,
     names: &[&str],
@@ -98,8 +98,8 @@ fn shortfalls(
     Ok(lines)
 }
 
-/// What there is to say of files, the greatest exit status that one of them calls for, the faults that they are refused
-/// with, and whose reports don't meet what is required.
+/// The output for files, the greatest exit status of one of them, the faults of refused files, and the reports that
+/// don't meet the requirement.
 #[derive(Drop)]
 pub struct BatchAnswer {
     pub text: Vec<u8>,
@@ -108,9 +108,8 @@ pub struct BatchAnswer {
     pub(crate) shortfalls: Vec<u8>,
 }
 
-/// What there is to say of the files with these names, of which this was read. NoMemory where an allocation was refused.
-///
-/// `batch` writes this of what [`read_files`](crate::read_files) gives it, as many files at a time as it holds.
+/// Returns the output for files with these names and these contents. `batch` writes this for the result of
+/// `read_files`, for as many files at a time as it holds.
 pub fn batch_answer<T: Threads + Sync>(
     rt: &T,
     alloc: Global,

@@ -42,8 +42,8 @@ impl Teller for TellsReport {
     }
 }
 
-/// Reads a history file, and writes the report of a judgement of its history; or the file's first fault. It reads, writes
-/// and ends as [`tell_history`] does, with `Unmet` where the report doesn't meet what is required; `notes` is told why.
+/// Reads a history file, and writes the report on its history, or the first fault of the file. Reads, writes and ends
+/// as `tell_history` does, and with `Unmet` if the report doesn't meet the requirement; `notes` gets the reason.
 pub fn judge<R: Read, W: Write, N: Write>(
     alloc: Global,
     reader: &mut R,

@@ -1,9 +1,10 @@
 //! The subcommands of the program that play scripts and judge histories.
 //!
-//! [`serial`], [`run`], [`run_free`] and [`judge`] read from a reader, and [`batch`] reads files by their names. What is
-//! read is read before the first write, and one text is written whole. Where it was written the answer is an `Ending`, of
-//! a batch the greatest exit status met, and where it wasn't a `RunFault`. Of one input [`serial`], [`run`] and [`judge`]
-//! say one thing, by the contracts of [`serial_answer_unique`], [`run_answer_unique`] and [`judge_answer_unique`].
+//! [`serial`], [`run`], [`run_free`] and [`judge`] read from a reader, and [`batch`] reads files by their names. The
+//! input is read completely before the first write, and one text is written. If it was written, the result is an
+//! `Ending`, or the greatest exit status of a batch; otherwise it is a `RunFault`. [`serial`], [`run`] and [`judge`]
+//! have one output for each input, by the contracts of [`serial_answer_unique`], [`run_answer_unique`] and
+//! [`judge_answer_unique`]. Functions that allocate return `NoMemory` if an allocation fails.
 #![tactic(auto)]
 
 mod batching;

@@ -1,4 +1,4 @@
-//! The names of files in a list.
+//! The file names in a list.
 
 ghost use Rattle.std.specs.Prelude.{◌≡◌, ◌<◌, map, IfOk};
 ghost use Rattle.lab_commands.specs.ListedNames.{names_between, names_in};
@@ -20,8 +20,7 @@ fn parted<'a>(alloc: Global, list: &'a str, mark: char) -> Result<Vec<&'a str>, 
     Ok(names)
 }
 
-/// The names of files in a list: those that NULs part, or one a line; what is empty is no name. NoMemory where an allocation
-/// was refused.
+/// Returns the file names of a list, which are separated by NUL bytes if `by_nul`, else by newlines. Skips empty names.
 pub fn listed_names<'a>(
     alloc: Global,
     list: &'a str,

@@ -28,7 +28,7 @@ fn remove_row(alloc: Global, rows: &mut ByRow<Value>, row: RowName)
     *rows = ByRow::from_rising(entries);
 }
 
-/// Puts a row into a state, by which it is absent where there is none. The one refusal is want of memory, and leaves all as it was.
+/// Sets the state of a row; `None` removes it. On failure, nothing has changed.
 pub fn put_state(
     alloc: Global,
     rows: &mut ByRow<Value>,
@@ -61,7 +61,7 @@ fn put_each(
     Ok(())
 }
 
-/// Puts writes over rows. After NoMemory some of them may stand there.
+/// Puts writes over rows. On failure, some of them may have been applied.
 pub fn overwrite(alloc: Global, rows: &mut ByRow<Value>, writes: &Writes) -> Result<(), NoMemory>
     ensures { OnOk result (rows.new ≡ overwritten writes.now rows.old) }
 {

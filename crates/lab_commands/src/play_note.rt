@@ -1,4 +1,4 @@
-//! What is said on standard error beside the answer of a play.
+//! Writes hints on a play to standard error.
 
 use lab_hints::{limit_rule, note_rule};
 use lab_session::{CloseFault, PlayFault};
@@ -18,7 +18,7 @@ fn session_of(fault: &PlayFault) -> Option<Session> {
     }
 }
 
-/// The rule that a run which wasn't closed, or its session, didn't keep; None for want of memory.
+/// The rule that a run which wasn't closed, or its session, didn't keep; None if memory runs out.
 fn rule_of_close(fault: &CloseFault) -> Option<&'static str> {
     match fault {
         CloseFault::NoMemory => None,
@@ -29,7 +29,7 @@ fn rule_of_close(fault: &CloseFault) -> Option<&'static str> {
     }
 }
 
-/// The rule that a play which has no recording for this reason didn't keep; None for want of memory.
+/// The rule that a play which has no recording for this reason didn't keep; None if memory runs out.
 fn rule_of(fault: &PlayFault) -> Option<&'static str> {
     match fault {
         PlayFault::NoMemory => None,
@@ -40,8 +40,8 @@ fn rule_of(fault: &PlayFault) -> Option<&'static str> {
     }
 }
 
-/// Writes what there is to say of a play beside the answer: on its fault if it has one, else on the fault of its script or
-/// of its history's file, or that no transaction begins in it. Nothing for want of memory. The texts aren't promised.
+/// Writes a hint on a play after its output: on its fault if it has one, else on the fault of its script or of its
+/// history's file, or that no transaction begins in it. Writes nothing if memory runs out. The texts aren't promised.
 pub fn note_play<N: Write>(
     alloc: Global,
     input: &[u8],

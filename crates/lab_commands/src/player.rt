@@ -1,4 +1,4 @@
-//! What plays scripts.
+//! The interface of players of scripts.
 
 ghost use Rattle.std.specs.Prelude.{IfOk, IfErr};
 ghost use Rattle.lab_script.specs.Limits.{ScriptPrints};
@@ -12,7 +12,7 @@ use lab_script::Script;
 use lab_session::PlayFault;
 use std::alloc::Global;
 
-/// What plays scripts.
+/// A player of scripts.
 pub trait Player: Drop {
     /// What is asked of its type, as that what it is lent may be shared between threads.
     ghost Needs: { Type 0 };
@@ -23,7 +23,7 @@ pub trait Player: Drop {
     /// The faults that a play of a script is refused for, or that keep it from being told.
     ghost Refuses: { Self → Spelled → Fault → Type 0 };
 
-    /// A recording of a play of a script.
+    /// Plays a script, and returns the recording.
     fn play(&self, alloc: Global, script: &Script) -> Result<Recording, PlayFault>
         requires { Needs }
         ensures play { IfOk result (Plays self.now script.now) }

@@ -1,19 +1,19 @@
-//! How far a long run is, on a line that is written over.
+//! The progress of a long run, on a line that is overwritten.
 
 use itoa::Buffer;
 use std::io::Write;
 
-/// A line that says how many of how many files are done, where there is somebody to read it. What fails is let go.
+/// A line that shows how many files are done, if a person reads it. Ignores write errors.
 #[derive(Drop)]
 pub struct Progress<'p, P: Write> {
     /// Where the line is written.
     pub to: &'p mut P,
-    /// Whether somebody reads it; else nothing is written.
+    /// Whether a person reads it; otherwise nothing is written.
     pub is_shown: bool,
 }
 
 impl<'p, P: Write> Progress<'p, P> {
-    /// Says that so many of so many files are done.
+    /// Shows that `done` of `all` files are done.
     pub fn show(&mut self, done: usize, all: usize) {
         if self.is_shown {
             let _ = self.to.write_all(b"\r");
@@ -25,7 +25,7 @@ impl<'p, P: Write> Progress<'p, P> {
         }
     }
 
-    /// Takes the line away.
+    /// Removes the line.
     pub fn clear(&mut self) {
         if self.is_shown {
             let _ = self.to.write_all(b"\r\x1b[K");

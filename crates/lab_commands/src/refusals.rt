@@ -1,4 +1,4 @@
-//! What is said of an input that is no script, or whose play was refused.
+//! The output for an input that is no script, or whose play was refused.
 
 ghost use Rattle.std.specs.Prelude.{◌≡◌, IfOk};
 ghost use Rattle.serde_json.specs.View.{view};
@@ -74,7 +74,7 @@ fn play_refused_json(alloc: Global, fault: &PlayFault) -> Result<Json, NoMemory>
     json!(in alloc; {"refused": refused})
 }
 
-/// What is said of the fault of a script. NoMemory where an allocation was refused, and where the fault is that in JSON.
+/// Returns the output for the fault of a script. In JSON, fails if the fault is itself `NoMemory`.
 #[tactic(auto, using(crate::proofs::WrittenRefusals::script_fault_whole))]
 pub fn print_script_refusal(
     alloc: Global,
@@ -89,7 +89,7 @@ pub fn print_script_refusal(
     }
 }
 
-/// What is said of a play that was refused. NoMemory where an allocation was refused, and where the fault is that in JSON.
+/// Returns the output for a refused play. In JSON, fails if the fault is itself `NoMemory`.
 #[tactic(auto, using(crate::proofs::WrittenRefusals::play_fault_whole))]
 pub fn print_play_refusal(
     alloc: Global,

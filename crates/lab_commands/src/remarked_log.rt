@@ -61,7 +61,7 @@ fn put_remarked_log(
 }
 
 /// The log of a recording, with the committed rows behind each event that ends a transaction, as a remark. TooDeep and
-/// TooLong only where a statement of the log breaks that limit; NoMemory where an allocation was refused.
+/// TooLong only where a statement of the log breaks that limit.
 pub fn print_remarked_log(alloc: Global, recording: &Recording) -> Result<Vec<u8>, PrintFault>
     ensures text { IfOk result (λ text. text.items ≡ remarked_recording recording.now) }
     ensures too_deep { result ≡ Err PrintFault.TooDeep → SomeEvent IsDeep recording.now.log }

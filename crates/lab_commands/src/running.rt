@@ -1,4 +1,4 @@
-//! The subcommand `run`: a script played on an engine, and what its recording is judged to be.
+//! The subcommand `run`: plays a script on an engine, and judges the recording.
 
 ghost use Rattle.std.specs.Prelude.{◌≡◌, ◌⊎◌, List, ℕ, IfOk, IfErr, IfSome, OnErr};
 ghost use Rattle.std.specs.Io.KnownBytes.{Appends, Keeps};
@@ -102,13 +102,13 @@ impl<P: Player> Subcommand for TellsPlay<P> {
     ghost whole = { λ s. run_whole (P.Plays s.player) (P.Refuses s.player) s.shown s.wanted };
 }
 
-/// Reads a script, plays it by one thread on an engine of this level, and writes the log and then the report of a
-/// judgement of its recording; in JSON the report alone. It may be shown with the committed rows in the log, or as the
-/// history file of the recording and a newline instead. Where the input is no script, or its play is refused, or its history
-/// has no file, it tells that fault alone.
+/// Reads a script, plays it with one thread on an engine of this level, and writes the log and the report on its
+/// recording; in JSON, only the report. With `shown`, the log has the committed rows, or the output is the history file
+/// of the recording and a newline. If the input is no script, its play is refused, or its history has no file, writes
+/// only that fault.
 ///
-/// It reads, writes and ends as [`answer_input`] does, with `Unmet` where the report doesn't meet what is required; `notes`
-/// is told why. It is given a hint where the input or its play is refused, or no transaction begins in it.
+/// Reads, writes and ends as `answer_input` does, and with `Unmet` if the report doesn't meet the requirement; `notes`
+/// gets the reason. `notes` also gets a hint if the input or its play is refused, or no transaction begins in it.
 pub fn run<R: Read, W: Write, N: Write>(
     alloc: Global,
     reader: &mut R,
@@ -135,7 +135,7 @@ pub fn run<R: Read, W: Write, N: Write>(
     answer_input(alloc, scripted, reader, writer, notes)
 }
 
-/// As [`run`], by one thread for each session that has lines, in whichever order they come; it waits for its threads.
+/// Like `run`, but with one thread for each session that has lines, in any order of execution. Waits for its threads.
 pub fn run_free<T: Threads + Wait + Sync, R: Read, W: Write, N: Write>(
     rt: &T,
     alloc: Global,

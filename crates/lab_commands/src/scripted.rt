@@ -1,4 +1,4 @@
-//! Plays of scripts by one thread.
+//! Plays scripts with one thread.
 
 ghost use Rattle.std.specs.Prelude.{⊤};
 ghost use Rattle.lab_commands.specs.Playing.{IsScriptedPlay, IsScriptedRefusal};
@@ -11,7 +11,7 @@ use lab_script::Script;
 use lab_session::{PlayFault, play_script};
 use std::alloc::Global;
 
-/// Plays scripts by one thread, each on a fresh engine of this level.
+/// Plays scripts with one thread, each on a fresh engine of this level.
 #[derive(Drop)]
 pub struct Scripted {
     pub level: Level,

@@ -1,11 +1,11 @@
-//! What is written of a run.
+//! The output of a run.
 
-/// What is written of a run.
+/// What a run writes.
 #[derive(Clone, Copy, Debug, Drop, PartialEq, Eq)]
 pub enum Shown {
-    /// Its log, and the report of a judgement.
+    /// Its log and its report.
     Log,
-    /// The same, with the committed rows behind each event that ends a transaction.
+    /// Its log and its report, with the committed rows after each event that ends a transaction.
     Rows,
     /// Its history file.
     History,

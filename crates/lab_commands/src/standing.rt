@@ -11,15 +11,15 @@ use lab_history::{History, Op};
 use lab_table::{ByRow, NoMemory, PerSession, Table, TxnNo, Value};
 use std::alloc::Global;
 
-/// Where a log stands: the active transactions of sessions, and the committed rows.
+/// The state after a prefix of a log: the active transactions of the sessions, and the committed rows.
 #[derive(Drop)]
 pub struct Standing {
-    /// For each session the number of its active transaction, if any.
+    /// For each session, the number of its active transaction, if it has one.
     pub active: PerSession<Option<TxnNo>>,
     pub rows: ByRow<Value>,
 }
 
-/// The rows of a table. NoMemory where an allocation was refused.
+/// The rows of a table.
 fn by_row(alloc: Global, table: &Table) -> Result<ByRow<Value>, NoMemory>
     ensures { IfOk result (λ rows. rows ≡ table.now) }
 {
@@ -28,7 +28,7 @@ fn by_row(alloc: Global, table: &Table) -> Result<ByRow<Value>, NoMemory>
 }
 
 impl Standing {
-    /// Before the first event: the rows are the setup's. NoMemory where an allocation was refused.
+    /// Returns the state before the first event: the rows are the initial ones.
     pub fn first(alloc: Global, setup: &Table) -> Result<Standing, NoMemory>
         ensures { IfOk result (λ standing. standing ≡ standing_first setup.now) }
     {
@@ -38,7 +38,8 @@ impl Standing {
         })
     }
 
-    /// Goes on by one event of a log that this history is recorded of. After NoMemory it is of no use.
+    /// Applies one event of a log to the state; `history` is the log's recorded history. After a failure, the state
+    /// must not be used.
     pub fn take_in(
         &mut self,
         alloc: Global,
@@ -103,7 +104,7 @@ fn put_ops(alloc: Global, rows: &mut ByRow<Value>, ops: &[Op]) -> Result<(), NoM
     Ok(())
 }
 
-/// The number of the active transaction of a session after one of its events.
+/// Returns the number of the active transaction of a session after one of its events.
 pub fn number_after(outcome: &Outcome, by: Option<TxnNo>) -> Option<TxnNo>
     ensures { result ≡ number_after outcome.now by }
 {
@@ -113,7 +114,7 @@ pub fn number_after(outcome: &Outcome, by: Option<TxnNo>) -> Option<TxnNo>
     }
 }
 
-/// Whether an outcome ends the active transaction of its session, as a commit, an abort or a fatal refusal.
+/// Returns whether an outcome ends the active transaction of its session: a commit, an abort, or a fault that aborts.
 pub fn is_over(outcome: &Outcome) -> bool
     ensures { result ≡ is_over outcome.now }
 {

@@ -1,4 +1,4 @@
-//! The subcommand `serial`: a script's transactions, run one after another.
+//! The subcommand `serial`: runs the transactions of a script one after another.
 
 ghost use Rattle.std.specs.Prelude.{◌≡◌, ◌⊎◌, ⊤, List, ℕ, IfOk, IfErr, IfSome, OnErr};
 ghost use Rattle.std.specs.Io.KnownBytes.{Appends, Keeps};
@@ -57,11 +57,9 @@ impl Subcommand for TellsTranscript {
     ghost whole = { λ _. serial_whole };
 }
 
-/// Reads a script, and writes what it does where its transactions run one after another, each whole, in the
-/// order of their begins; or the line of the first fault where the input is no script.
-///
-/// It reads, writes and ends as [`answer_input`] does. `notes` is given a hint where the input is refused, or a session of
-/// it begins no transaction.
+/// Reads a script, runs its transactions one after another, each as a whole, in the order of their begins, and writes
+/// the transcript. If the input is no script, writes the line of its first fault. Reads, writes and ends as
+/// `answer_input` does. `notes` gets a hint if the input is refused or one of its sessions begins no transaction.
 pub fn serial<R: Read, W: Write, N: Write>(
     alloc: Global,
     reader: &mut R,

@@ -1,5 +1,5 @@
-//! What engines tell of one thing, side by side: once where they are alike, else once for each thing told. Each function appends;
-//! after NoMemory, part of what was to be appended may stand there.
+//! What engines tell of one thing, side by side: once where they are alike, else once for each thing told. The
+//! functions append; on failure, a part of the text may have been appended.
 
 ghost use Rattle.std.specs.Prelude.{◌≡◌, ◌-◌, ◌++◌, flat_map, option_map, OnOk};
 ghost use Rattle.lab_compare.specs.Alike.{first_alike, is_of, name_if, group_text, leads, led_text, groups_text, explained_text, explanations_text, all_alike, alike_text, differing_text, columns_behind};

@@ -29,7 +29,7 @@ pub struct Cursor {
     rows: ByRow<Value>,
 }
 
-/// Puts rows into these states, one after another. After NoMemory some of them may stand there.
+/// Puts rows into these states, one after another. On failure, some of them may have been applied.
 fn put_each(
     alloc: Global,
     rows: &mut ByRow<Value>,
@@ -69,7 +69,7 @@ impl Cursor {
         self.side == number && self.session == session
     }
 
-    /// Before the first write. NoMemory where an allocation was refused.
+    /// Before the first write.
     fn first(
         alloc: Global,
         number: usize,
@@ -86,7 +86,7 @@ impl Cursor {
         })
     }
 
-    /// Behind so many writes. NoMemory where an allocation was refused; then it is of no use.
+    /// Behind so many writes. After a failure, the result must not be used.
     fn go_to(&mut self, alloc: Global, commits: &Commits, count: usize) -> Result<(), NoMemory>
         requires stands { self.old.rows ≡ table_at commits.now self.old.taken }
         requires ahead { self.old.taken ≤ count }
@@ -185,7 +185,7 @@ impl<'s> Cursors<'s> {
         }
     }
 
-    /// The same, or one before the first write. NoMemory where an allocation was refused.
+    /// The same, or one before the first write.
     fn cursor_before(
         &mut self,
         alloc: Global,
@@ -204,8 +204,7 @@ impl<'s> Cursors<'s> {
         }
     }
 
-    /// A cursor of a session of the side at a place, behind so many writes. NoMemory where an allocation was
-    /// refused.
+    /// A cursor of a session of the side at a place, behind so many writes.
     fn cursor_at(
         &mut self,
         alloc: Global,
@@ -223,8 +222,7 @@ impl<'s> Cursors<'s> {
         Ok(cursor)
     }
 
-    /// The committed rows behind so many writes on the side at a place, where a number is given. NoMemory where
-    /// an allocation was refused.
+    /// The committed rows behind so many writes on the side at a place, where a number is given.
     fn rows_at(
         &mut self,
         alloc: Global,
@@ -247,7 +245,6 @@ impl<'s> Cursors<'s> {
     }
 
     /// The committed rows behind the line at a place of the script, which is a session's, on the side at another place.
-    /// NoMemory where an allocation was refused.
     fn rows_behind(
         &mut self,
         alloc: Global,
@@ -264,8 +261,7 @@ impl<'s> Cursors<'s> {
         self.rows_at(alloc, number, side, session, count)
     }
 
-    /// What each engine tells of the committed rows behind the line at a place, which is a session's. NoMemory where an
-    /// allocation was refused.
+    /// What each engine tells of the committed rows behind the line at a place, which is a session's.
     pub fn rows_told(
         &mut self,
         alloc: Global,

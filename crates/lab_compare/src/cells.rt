@@ -103,7 +103,7 @@ fn answer_place(session: Session, log: &[LogEvent]) -> usize
         .count()
 }
 
-/// What a session's next command comes to, which is answered at this place. NoMemory where an allocation was refused.
+/// What a session's next command comes to, which is answered at this place.
 fn cell_at(
     alloc: Global,
     session: Session,
@@ -139,8 +139,7 @@ fn note(log: &[LogEvent], places: &mut PerSession<usize>, session: Session, plac
     places.set(session, log.len().saturating_sub(behind));
 }
 
-/// What each of some lines comes to, where sessions have the events behind their places left. NoMemory where an allocation
-/// was refused.
+/// What each of some lines comes to, where sessions have the events behind their places left.
 fn cells_from(
     alloc: Global,
     log: &[LogEvent],
@@ -160,7 +159,7 @@ fn cells_from(
     Ok(cells)
 }
 
-/// What each line of a script comes to, by the log of its play. NoMemory where an allocation was refused.
+/// What each line of a script comes to, by the log of its play.
 pub fn cells_of(alloc: Global, log: &[LogEvent], lines: &[Line]) -> Result<Sequence<Cell>, NoMemory>
     ensures { IfOk result (λ cells. cells ≡ cells_of log.now lines.now) }
 {

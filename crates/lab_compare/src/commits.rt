@@ -80,8 +80,8 @@ fn put_installs(
     }
 }
 
-/// Appends what an event installs, and goes on to the transactions that are active after it. After NoMemory part of what was to be
-/// appended may stand there.
+/// Appends what an event installs, and goes on to the transactions that are active after it. On failure, a part of the
+/// text may have been appended.
 fn put_event(
     installs: &mut Vec<(RowName, Option<Value>)>,
     history: &History,
@@ -97,8 +97,8 @@ fn put_event(
     Ok(())
 }
 
-/// Appends what a log installs of which this history is recorded, and says how much that is behind each event; before the
-/// first no transaction is active. NoMemory where an allocation was refused.
+/// Appends what a log installs of which this history is recorded, and says how much that is behind each event; before
+/// the first no transaction is active.
 fn put_each(
     alloc: Global,
     installs: &mut Vec<(RowName, Option<Value>)>,
@@ -119,7 +119,7 @@ fn put_each(
     Ok(counts)
 }
 
-/// What the commits of a play install. NoMemory where an allocation was refused.
+/// What the commits of a play install.
 pub fn commits_of(alloc: Global, recording: &Recording) -> Result<Commits, NoMemory>
     ensures { IfOk result (λ commits. commits ≡ commits_of recording.now) }
 {

@@ -1,4 +1,4 @@
-//! The subcommand `compare`: a script on the engines side by side.
+//! The subcommand `compare`: plays a script on several engines.
 
 ghost use Rattle.std.specs.Prelude.{◌≡◌, ◌≢◌, ◌⊎◌, ⊤, List, ℕ, IfOk, IfErr, IfSome, OnErr};
 ghost use Rattle.std.specs.Io.KnownBytes.{Appends, Keeps};
@@ -77,12 +77,10 @@ impl<'l> Subcommand for TellsComparison<'l> {
     ghost whole = { λ s. compare_whole s.levels.now };
 }
 
-/// Reads a script, plays it by one thread on the engine of each of these levels, and writes what each of its lines was answered, the
-/// committed rows where they differ, the level that each history meets, and what `explain` says of its lowest phenomenon.
-/// Where the input is no script, or a play is refused, it tells that fault alone.
-///
-/// It reads, writes and ends as [`answer_input`] does. `notes` is given a hint where the input or its play is refused, or no
-/// transaction begins in it.
+/// Reads a script, plays it with one thread on the engine of each of these levels, and compares the plays: the outcome
+/// of each line, the committed rows if they differ, the level of each history, and what `explain` says about its lowest
+/// phenomenon. If the input is no script, or a play is refused, writes only that fault. Reads, writes and ends as
+/// `answer_input` does. `notes` gets a hint if the input or its play is refused, or no transaction begins in it.
 pub fn compare<R: Read, W: Write, N: Write>(
     alloc: Global,
     reader: &mut R,

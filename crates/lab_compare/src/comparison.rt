@@ -1,5 +1,4 @@
-//! The text of a comparison. Each function that takes bytes appends to them; after NoMemory, part of what was to be appended
-//! may stand there.
+//! The text of a comparison. Functions that take bytes append; on failure, a part of the text may have been appended.
 
 ghost use Rattle.std.specs.Prelude.{◌≡◌, ◌++◌, codes, map, IfOk, OnOk};
 ghost use Rattle.lab_compare.specs.Alike.{alike_text, differing_text};
@@ -211,7 +210,7 @@ fn put_back(alloc: Global, out: &mut Vec<u8>, sides: &[Side]) -> Result<(), NoMe
     put_explained_all(alloc, out, sides)
 }
 
-/// The comparison of what a script comes to on these sides. NoMemory where an allocation was refused.
+/// The comparison of what a script comes to on these sides.
 pub fn print_comparison(alloc: Global, script: &Script, sides: &[Side]) -> Result<Vec<u8>, NoMemory>
     ensures { IfOk result (λ text. text.items ≡ comparison_text script.now sides.now) }
 {

@@ -1,4 +1,4 @@
-//! The laws of comparisons. The functions have nothing to do.
+//! Theorems on comparisons, stated as contracts of empty functions.
 
 ghost use Rattle.std.specs.Prelude.{◌≡◌, ◌↔◌, IsTrue, ℕ, List};
 ghost use Rattle.lab_compare.specs.Alike.{TellSame, alike};
@@ -7,13 +7,13 @@ ghost use Rattle.lab_engine.specs.declared.event.Level.{Level};
 ghost use Rattle.lab_compare.specs.declared.telling.Telling.{Telling};
 ghost use Rattle.lab_streams.specs.declared.ending.Ending.{Ending};
 
-/// Of one input `compare` says one thing on the engines of the same levels, byte for byte: the comparison, or the line of the fault.
+/// `compare` has one output for each input and list of levels, byte for byte: the comparison, or the line of the fault.
 pub fn compare_answer_unique()
     ensures text { (levels : List Level) (input one other : List ℕ) (first again : Ending) → IsCompareAnswer levels input one first → IsCompareAnswer levels input other again → one ≡ other }
     ensures ending { (levels : List Level) (input one other : List ℕ) (first again : Ending) → IsCompareAnswer levels input one first → IsCompareAnswer levels input other again → first ≡ again }
 {}
 
-/// Engines stand together, once for all of them, where they told the same, and only there.
+/// A comparison groups engines exactly if they had the same outcomes.
 pub fn alike_is_same()
     ensures { (one other : Telling) → IsTrue (alike one other) ↔ TellSame one other }
 {}

@@ -1,11 +1,12 @@
-//! A script on the engines side by side.
+//! Comparison of the engines on one script.
 //!
-//! [`compare`] is the subcommand of the program: it reads a script, plays it on the engines of some levels, and writes what each of its
-//! lines was answered, once where all engines answer alike; the committed rows where they differ; the level that each
-//! history meets, and what `explain` says of its lowest phenomenon.
+//! [`compare`] is the subcommand of the program: it reads a script, plays it on the engines of given levels, and writes
+//! the outcome of each line, once if all engines agree; the committed rows if they differ; the level of each history;
+//! and what `explain` says about its lowest phenomenon.
 //!
-//! Which text it is, is a definition over the recordings and their reports (`comparison_text`). Of one input there is one
-//! text, by [`compare_answer_unique`]; engines stand together in it where they told the same, by [`alike_is_same`].
+//! `comparison_text` defines the text of recordings and their reports. Each input has one text, by
+//! [`compare_answer_unique`]. The text groups engines that had the same outcomes, by [`alike_is_same`]. Functions that
+//! allocate return `NoMemory` if an allocation fails.
 #![tactic(auto)]
 
 mod alike;

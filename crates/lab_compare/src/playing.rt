@@ -23,7 +23,7 @@ fn side(alloc: Global, level: Level, script: &Script) -> Result<Side, PlayFault>
     Ok(side_of(alloc, level, script.lines.as_slice(), &recording, &report)?)
 }
 
-/// Adds a side. NoMemory where an allocation was refused.
+/// Adds a side.
 fn add(sides: &mut Vec<Side>, side: Side) -> Result<(), NoMemory>
     ensures { OnOk result (sides.new.items ≡ sides.old.items ++ side ∷ []) }
 {

@@ -106,7 +106,7 @@ impl Side {
     }
 }
 
-/// What each engine tells of a topic. NoMemory where an allocation was refused.
+/// What each engine tells of a topic.
 pub fn topic_told(alloc: Global, of: Topic, sides: &[Side]) -> Result<Vec<Telling<'_>>, NoMemory>
     ensures { IfOk result (λ told. told.items ≡ map (topic_told of) sides.now) }
 {
@@ -117,7 +117,7 @@ pub fn topic_told(alloc: Global, of: Topic, sides: &[Side]) -> Result<Vec<Tellin
     Ok(told)
 }
 
-/// The committed rows in the end of a history. NoMemory where an allocation was refused.
+/// The committed rows in the end of a history.
 fn end_of(alloc: Global, history: &History) -> Result<Sequence<u8>, NoMemory>
     ensures { IfOk result (λ text. text ≡ end_text history.now) }
 {
@@ -137,7 +137,7 @@ fn mark(places: &Places) -> &'static str
     }
 }
 
-/// The level that a history meets, as the matrix has it. NoMemory where an allocation was refused.
+/// The level that a history meets, as the matrix has it.
 fn grade_of(alloc: Global, report: &Report) -> Result<Sequence<u8>, NoMemory>
     ensures { IfOk result (λ text. text ≡ cell_text report.now) }
 {
@@ -172,7 +172,7 @@ fn lowest(report: &Report) -> Option<Phenomenon>
     first_present(report, &Phenomenon::ALL)
 }
 
-/// What `explain` says of a phenomenon; empty where there is none. NoMemory where an allocation was refused.
+/// What `explain` says of a phenomenon; empty where there is none.
 fn explained(
     alloc: Global,
     history: &History,
@@ -187,7 +187,7 @@ fn explained(
     }
 }
 
-/// What there is to say of the recording of a play and of its report. NoMemory where an allocation was refused.
+/// What there is to say of the recording of a play and of its report.
 fn summary_of(
     alloc: Global,
     lines: &[Line],
@@ -205,8 +205,7 @@ fn summary_of(
     })
 }
 
-/// What the commits of a recording install, and what there is to say of it and of its report. NoMemory where an allocation was
-/// refused.
+/// What the commits of a recording install, and what there is to say of it and of its report.
 pub fn side_of(
     alloc: Global,
     level: Level,

@@ -47,7 +47,7 @@ pub enum Content<'t> {
 }
 
 impl<'t> Content<'t> {
-    /// Appends it as it is written. After NoMemory, part of it may stand there.
+    /// Appends it as it is written. On failure, a part of the text may have been appended.
     fn put(&self, out: &mut Vec<u8>) -> Result<(), NoMemory>
         ensures { OnOk result (out.new.items ≡ out.old.items ++ content_text self.now) }
     {
@@ -113,7 +113,7 @@ impl<'t> Telling<'t> {
         self.content.is_empty()
     }
 
-    /// Appends what is told. After NoMemory, part of it may stand there.
+    /// Appends what is told. On failure, a part of the text may have been appended.
     pub fn put_content(&self, out: &mut Vec<u8>) -> Result<(), NoMemory>
         ensures { OnOk result (out.new.items ≡ out.old.items ++ content_text self.now.content) }
     {

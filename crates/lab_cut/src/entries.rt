@@ -1,4 +1,4 @@
-//! Histories whose statements are recorded to have seen less.
+//! Removes entries of views from a history.
 
 ghost use Rattle.std.specs.Prelude.{◌≡◌, cond, ◌∷◌, [], ◌++◌, IfOk, OnOk, IfSome, length, drop};
 ghost use Rattle.std.specs.FinMap as map;
@@ -12,8 +12,8 @@ use lab_history::{History, Installed, Installers, Op, Ops, Parts, Txn, Txns, Ver
 use lab_table::{NoMemory, RowName, Table};
 use std::alloc::Global;
 
-/// A history without the entries of views that aren't kept. `kept` says of each, in the order of the file, whether it is;
-/// entries beyond it are. NoMemory where an allocation was refused, and None where what is left isn't a history.
+/// Returns the history without the view entries whose flag in `kept` is `false`. The flags are in the order of the
+/// file; entries beyond them stay. Returns `None` if the rest isn't a history.
 pub fn without_entries(
     alloc: Global,
     history: &History,
@@ -25,7 +25,7 @@ pub fn without_entries(
     made(alloc, left_parts(alloc, history, kept)?)
 }
 
-/// The parts of what is left. NoMemory where an allocation was refused.
+/// The parts of what is left.
 fn left_parts(alloc: Global, history: &History, kept: &[bool]) -> Result<Parts, NoMemory>
     ensures { IfOk result (λ parts. parts ≡ spec.seeing kept.now history.now) }
 {
@@ -64,7 +64,7 @@ fn installed_copy(alloc: Global, installed: &Installed) -> Result<Installed, NoM
     Ok(Installed::new(copy))
 }
 
-/// Appends an entry, if it is kept. NoMemory where an allocation was refused.
+/// Appends an entry, if it is kept.
 fn push_kept(
     left: &mut Vec<(RowName, VersionName)>,
     kept: bool,
@@ -79,7 +79,7 @@ fn push_kept(
     Ok(())
 }
 
-/// The entries that a mask keeps. NoMemory where an allocation was refused.
+/// The entries that a mask keeps.
 fn left_entries(
     alloc: Global,
     mask: &mut Mask,
@@ -95,7 +95,7 @@ fn left_entries(
     Ok(left)
 }
 
-/// The entries of a view that a mask keeps. NoMemory where an allocation was refused.
+/// The entries of a view that a mask keeps.
 fn left_view(alloc: Global, mask: &mut Mask, view: &View) -> Result<View, NoMemory>
     ensures left { IfOk result (λ left. left ≡ map.from_sorted (left_of mask.old (map.entries view.now))) }
     ensures rest { OnOk result (mask.new ≡ drop (length (map.entries view.now)) mask.old) }
@@ -104,7 +104,7 @@ fn left_view(alloc: Global, mask: &mut Mask, view: &View) -> Result<View, NoMemo
     Ok(View::new(left))
 }
 
-/// An operation that saw the entries which a mask keeps. NoMemory where an allocation was refused.
+/// An operation that saw the entries which a mask keeps.
 fn left_op(alloc: Global, mask: &mut Mask, op: &Op) -> Result<Op, NoMemory>
     ensures left { IfOk result (λ left. left ≡ spec.op_seeing mask.old op.now) }
     ensures rest { OnOk result (mask.new ≡ drop (length (map.entries op.now.view)) mask.old) }
@@ -117,7 +117,7 @@ fn left_op(alloc: Global, mask: &mut Mask, op: &Op) -> Result<Op, NoMemory>
     })
 }
 
-/// Operations that saw the entries which a mask keeps. NoMemory where an allocation was refused.
+/// Operations that saw the entries which a mask keeps.
 fn left_ops(alloc: Global, mask: &mut Mask, ops: &[Op]) -> Result<Vec<Op>, NoMemory>
     ensures left { IfOk result (λ left. left.items ≡ spec.ops_seeing mask.old ops.now) }
     ensures rest { OnOk result (mask.new ≡ spec.behind_views mask.old ops.now) }
@@ -129,7 +129,7 @@ fn left_ops(alloc: Global, mask: &mut Mask, ops: &[Op]) -> Result<Vec<Op>, NoMem
     Ok(left)
 }
 
-/// Transactions whose operations saw the entries which a mask keeps. NoMemory where an allocation was refused.
+/// Transactions whose operations saw the entries which a mask keeps.
 fn left_txns(alloc: Global, kept: &[bool], txns: &[Txn]) -> Result<Vec<Txn>, NoMemory>
     ensures { IfOk result (λ left. left.items ≡ spec.txns_seeing kept.now txns.now) }
 {

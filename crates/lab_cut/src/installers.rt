@@ -17,7 +17,7 @@ pub fn goes(history: &History, moves: &Moves, row: RowName, txn: TxnNo) -> bool
     moves.last_left(txn, row).is_none() && history.last_write(txn, row).is_some()
 }
 
-/// Those that stay. NoMemory where an allocation was refused.
+/// Those that stay.
 fn staying(
     alloc: Global,
     history: &History,
@@ -85,8 +85,7 @@ fn if_any(installers: Installers) -> Option<Installers>
     }
 }
 
-/// The rows of a list with their installers that stay, but for those that have none. NoMemory where an allocation was
-/// refused.
+/// The rows of a list with their installers that stay, but for those that have none.
 fn left_lists(
     alloc: Global,
     history: &History,
@@ -105,7 +104,7 @@ fn left_lists(
     Ok(left)
 }
 
-/// The installers of each row that stay. NoMemory where an allocation was refused.
+/// The installers of each row that stay.
 pub fn left_installed(
     alloc: Global,
     history: &History,

@@ -42,8 +42,8 @@ fn note_writes(
     Ok(())
 }
 
-/// Notes whether an operation of this number is kept, behind `last` others that are. The answer is how many are then kept.
-/// NoMemory where an allocation was refused.
+/// Notes whether an operation of this number is kept, behind `last` others that are. The answer is how many are then
+/// kept.
 fn note(
     numbers: &mut Vec<u32>,
     writes: &mut ByRow<u32>,
@@ -67,7 +67,7 @@ fn note(
 }
 
 impl Kept {
-    /// What a mask keeps of a transaction's operations. NoMemory where an allocation was refused.
+    /// What a mask keeps of a transaction's operations.
     fn of(alloc: Global, mask: &mut Mask, ops: &[Op]) -> Result<Kept, NoMemory>
         requires { length ops.now ≤ max_operations }
         ensures kept { IfOk result (λ kept. kept ≡ kept_of mask.old ops.now) }
@@ -96,7 +96,7 @@ impl Kept {
 }
 
 impl Moves {
-    /// What a mask of all operations keeps of each transaction. NoMemory where an allocation was refused.
+    /// What a mask of all operations keeps of each transaction.
     pub fn of(alloc: Global, kept: &[bool], txns: &[Txn]) -> Result<Moves, NoMemory>
         requires { length (operations txns.now) ≤ max_operations }
         ensures { IfOk result (λ moves. (n : ℕ) → kept_in moves n ≡ last_given None (all_kept kept.now txns.now) n) }

@@ -1,4 +1,4 @@
-//! Laws of parts. The functions have nothing to do: their contracts are the laws.
+//! Theorems on parts of histories, stated as contracts of empty functions.
 
 ghost use Rattle.lab_history.specs.History.{History as Whole};
 ghost use Rattle.lab_cut.specs.PartOf.{IsPartOf};
@@ -8,7 +8,7 @@ pub fn whole_is_a_part()
     ensures { (h : Whole) → IsPartOf h h }
 {}
 
-/// What is a part of a part is a part.
+/// A part of a part is a part.
 pub fn part_of_a_part_is_a_part()
     ensures { (small part h : Whole) → IsPartOf small part → IsPartOf part h → IsPartOf small h }
 {}

@@ -1,11 +1,12 @@
-//! Smaller histories, cut out of a history.
+//! Parts of histories.
 //!
-//! [`without_operations`] takes operations away, with the transactions that have none left; [`with_rows`] takes rows away;
-//! [`without_entries`] takes away what statements are recorded to have seen. Each answers a history that is a part of the
-//! other one: its transactions, statements and lists are some of the other's, in their order, and its tables begin and end
-//! with states that the other has.
+//! [`without_operations`] removes operations, and the transactions that have none left. [`with_rows`] removes rows.
+//! [`without_entries`] removes entries of views. Each returns a part of the given history: its transactions, statements
+//! and lists are some of the given ones, in their order, and its initial and final tables have states of the given
+//! history.
 //!
-//! Whether a part shows what the whole shows isn't looked at here.
+//! These functions don't check whether a part shows the same anomaly as the whole. Functions that allocate return
+//! `NoMemory` if an allocation fails.
 #![tactic(auto)]
 
 mod entries;

@@ -6,7 +6,7 @@ use lab_history::{FileFault, History, Parts};
 use lab_table::NoMemory;
 use std::alloc::{AllocError, Global};
 
-/// The history of these parts; None where they are none. NoMemory where an allocation was refused.
+/// The history of these parts; None where they are none.
 pub fn made(alloc: Global, parts: Parts) -> Result<Option<History>, NoMemory>
     ensures { IfOk result (λ made. IfSome made (λ history. history ≡ parts)) }
 {

@@ -35,7 +35,7 @@ fn renamed(moves: &Moves, version: VersionName) -> Option<VersionName>
     }
 }
 
-/// The entries of a view under their new names. NoMemory where an allocation was refused.
+/// The entries of a view under their new names.
 fn left_entries(
     alloc: Global,
     moves: &Moves,
@@ -52,7 +52,7 @@ fn left_entries(
     Ok(left)
 }
 
-/// What is left of a view. NoMemory where an allocation was refused.
+/// What is left of a view.
 fn left_view(alloc: Global, moves: &Moves, view: &View) -> Result<View, NoMemory>
     ensures { IfOk result (λ left. left ≡ cut.left_view (kept_in moves.now) view.now) }
 {
@@ -60,7 +60,7 @@ fn left_view(alloc: Global, moves: &Moves, view: &View) -> Result<View, NoMemory
     Ok(View::new(left))
 }
 
-/// An operation with what is left of its view. NoMemory where an allocation was refused.
+/// An operation with what is left of its view.
 fn left_op(alloc: Global, moves: &Moves, op: &Op) -> Result<Op, NoMemory>
     ensures { IfOk result (λ left. left ≡ cut.left_op (kept_in moves.now) op.now) }
 {
@@ -72,7 +72,7 @@ fn left_op(alloc: Global, moves: &Moves, op: &Op) -> Result<Op, NoMemory>
     })
 }
 
-/// Appends what is left of an operation, if it is kept. NoMemory where an allocation was refused.
+/// Appends what is left of an operation, if it is kept.
 fn push_kept(
     alloc: Global,
     moves: &Moves,
@@ -89,7 +89,7 @@ fn push_kept(
     Ok(())
 }
 
-/// The operations of a transaction that a mask keeps. NoMemory where an allocation was refused.
+/// The operations of a transaction that a mask keeps.
 fn left_ops(alloc: Global, moves: &Moves, mask: &mut Mask, ops: &[Op]) -> Result<Vec<Op>, NoMemory>
     ensures left { IfOk result (λ left. left.items ≡ map (cut.left_op (kept_in moves.now)) (left_of mask.old ops.now)) }
     ensures rest { OnOk result (mask.new ≡ drop (length ops.now) mask.old) }
@@ -113,8 +113,7 @@ fn if_any(txn: Txn) -> Option<Txn>
     }
 }
 
-/// The transactions with the operations that are kept, but for those that have none. NoMemory where an allocation was
-/// refused.
+/// The transactions with the operations that are kept, but for those that have none.
 pub fn left_txns(
     alloc: Global,
     moves: &Moves,

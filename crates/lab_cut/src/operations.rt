@@ -1,4 +1,4 @@
-//! Histories without some of their operations.
+//! Removes operations from a history.
 
 ghost use Rattle.std.specs.Prelude.{◌≡◌, map, IfOk, IfSome};
 ghost use Rattle.lab_cut.specs.PartOf.{IsPartOf};
@@ -14,13 +14,14 @@ use lab_history::{History, Parts, Txns};
 use lab_table::NoMemory;
 use std::alloc::Global;
 
-/// A history without the operations that aren't kept. `kept` says of each, in the order of the file, whether it is;
-/// operations beyond it are. NoMemory where an allocation was refused, and None where what is left isn't a history.
-///
-/// A transaction without an operation goes. Operations are counted anew, in views as well; what a view lists of an operation
-/// that goes is left out, and so the row was seen at its initial version. A transaction that wrote a row and doesn't any
-/// more is none of its installers. A row whose first installers go begins with the state that they left it in, and one whose
-/// last version goes ends in the state that the last installer left leaves it in.
+/// Returns the history without the operations whose flag in `kept` is `false`. The flags are in the order of the file;
+/// operations beyond them stay. Returns `None` if the rest isn't a history.
+/// - A transaction without operations is removed.
+/// - Operations are renumbered, in views as well. A view entry of a removed operation is removed, so the row was seen
+///   at its initial version.
+/// - A transaction that no longer writes a row is no longer its installer.
+/// - If the first installers of a row are removed, the row begins with the state that they left. If its last version is
+///   removed, the row ends with the state that the last remaining installer left.
 pub fn without_operations(
     alloc: Global,
     history: &History,
@@ -35,7 +36,7 @@ pub fn without_operations(
     made(alloc, left_parts(alloc, history, kept)?)
 }
 
-/// The parts of what is left. NoMemory where an allocation was refused.
+/// The parts of what is left.
 fn left_parts(alloc: Global, history: &History, kept: &[bool]) -> Result<Parts, NoMemory>
     ensures exact { IfOk result (λ parts. parts ≡ cut kept.now history.now) }
     ensures part { IfOk result (λ parts. IsPartOf parts history.now) }

@@ -1,4 +1,4 @@
-//! Histories of some of their rows.
+//! Removes rows from a history.
 
 ghost use Rattle.std.specs.Prelude.{◌≡◌, map, IfOk, IfSome};
 ghost use Rattle.std.specs.FinMap.{retain_keys};
@@ -13,8 +13,8 @@ use lab_history::{History, Installed, Installers, Op, Ops, Parts, Rows, Txn, Txn
 use lab_table::{ByRow, NoMemory, RowName, Table};
 use std::alloc::Global;
 
-/// A history of which each list names these rows alone. The statements are the same. NoMemory where an allocation was
-/// refused, and None where what is left isn't a history.
+/// Returns the history with only these rows in its lists, and the same statements. Returns `None` if the rest isn't a
+/// history.
 pub fn with_rows(
     alloc: Global,
     history: &History,
@@ -34,7 +34,7 @@ pub struct Chosen {
 }
 
 impl Chosen {
-    /// These rows. NoMemory where an allocation was refused.
+    /// These rows.
     fn of(alloc: Global, rows: &[RowName]) -> Result<Chosen, NoMemory>
         ensures { IfOk result (λ chosen. (row : Row) → has chosen row ≡ spec.is_among rows.now row) }
     {
@@ -53,7 +53,7 @@ impl Chosen {
         self.rows.get(row).is_some()
     }
 
-    /// The entries of these rows. NoMemory where an allocation was refused.
+    /// The entries of these rows.
     fn entries<X: Copy>(
         &self,
         alloc: Global,
@@ -98,7 +98,7 @@ impl Chosen {
         Ok(Writes::new(left))
     }
 
-    /// The installers of these rows, of a list. NoMemory where an allocation was refused.
+    /// The installers of these rows, of a list.
     fn lists(
         &self,
         alloc: Global,
@@ -157,7 +157,7 @@ impl Chosen {
         Ok(left)
     }
 
-    /// The parts of a history of these rows. NoMemory where an allocation was refused.
+    /// The parts of a history of these rows.
     fn parts(&self, alloc: Global, history: &History) -> Result<Parts, NoMemory>
         ensures { IfOk result (λ parts. parts ≡ spec.in_rows (has self.now) history.now) }
     {

@@ -1,4 +1,4 @@
-//! The tables before and behind the operations that are kept.
+//! The initial and final tables of a part.
 
 ghost use Rattle.std.specs.Prelude.{◌≡◌, [], ◌++◌, None, Some, MatchOption, IfOk, OnOk, option_map};
 ghost use Rattle.std.specs.FinMap as map;
@@ -37,7 +37,7 @@ fn base(history: &History, moves: &Moves, row: RowName, installers: &[TxnNo]) ->
     Some(state_by(history, row, txn, history.last_write(txn, row)))
 }
 
-/// Appends a row with its new state, if it has one. NoMemory where an allocation was refused.
+/// Appends a row with its new state, if it has one.
 #[tactic(auto, using(crate::proofs::Steps::new_states_push))]
 fn push_state(
     list: &mut Vec<(RowName, State)>,
@@ -53,7 +53,7 @@ fn push_state(
     Ok(())
 }
 
-/// The rows of a list whose first installers go, with those states. NoMemory where an allocation was refused.
+/// The rows of a list whose first installers go, with those states.
 fn bases_of(
     alloc: Global,
     history: &History,
@@ -70,7 +70,7 @@ fn bases_of(
     Ok(bases)
 }
 
-/// The rows whose first installers go, with those states. NoMemory where an allocation was refused.
+/// The rows whose first installers go, with those states.
 fn bases(alloc: Global, history: &History, moves: &Moves) -> Result<Writes, NoMemory>
     ensures { IfOk result (λ bases. bases ≡ cut.bases (kept_in moves.now) history.now) }
 {
@@ -111,7 +111,7 @@ fn state_in(table: &Table, row: RowName) -> State
     }
 }
 
-/// The rows of a list whose last versions go, with their new states in the end. NoMemory where an allocation was refused.
+/// The rows of a list whose last versions go, with their new states in the end.
 fn ends_of(
     alloc: Global,
     history: &History,
@@ -130,7 +130,7 @@ fn ends_of(
     Ok(ends)
 }
 
-/// The rows whose last versions go, with their new states in the end. NoMemory where an allocation was refused.
+/// The rows whose last versions go, with their new states in the end.
 fn new_ends(
     alloc: Global,
     history: &History,
@@ -170,7 +170,7 @@ fn new_value(states: &Writes, row: RowName, value: Value) -> Option<Value>
     }
 }
 
-/// The rows of a list with the new states of those that are present in both. NoMemory where an allocation was refused.
+/// The rows of a list with the new states of those that are present in both.
 fn kept_rows(
     alloc: Global,
     entries: &[(RowName, Value)],
@@ -199,7 +199,7 @@ fn put_present(rows: &mut ByRow<Value>, states: &[(RowName, State)]) -> Result<(
     Ok(())
 }
 
-/// A table with rows in new states. NoMemory where an allocation was refused.
+/// Returns a copy of `table` with these rows in new states.
 fn with_states(alloc: Global, table: &Table, states: &Writes) -> Result<Table, NoMemory>
     ensures { IfOk result (λ made. made ≡ overwritten states.now table.now) }
 {
@@ -209,14 +209,14 @@ fn with_states(alloc: Global, table: &Table, states: &Writes) -> Result<Table, N
     Ok(Table::from_rising(rows.take(alloc)))
 }
 
-/// The table before the operations that are kept. NoMemory where an allocation was refused.
+/// The table before the operations that are kept.
 pub fn left_initial(alloc: Global, history: &History, moves: &Moves) -> Result<Table, NoMemory>
     ensures { IfOk result (λ initial. initial ≡ cut.left_initial (kept_in moves.now) history.now) }
 {
     with_states(alloc, history.initial(), &bases(alloc, history, moves)?)
 }
 
-/// The table behind them, by the one before them. NoMemory where an allocation was refused.
+/// The table behind them, by the one before them.
 pub fn left_end(
     alloc: Global,
     history: &History,

@@ -35,12 +35,12 @@ where_is (fault.WritesDiffer n k row) = (n, k, row)
 where_is (fault.InstallOrder row) = (0, 0, row)
 where_is (fault.EndDiffers row) = (0, 0, row)
 
--- how many transactions of the file stand before the one of this number
+-- how many transactions of the file come before the one with this number
 abbrev pub place_among : List Txn → ℕ → ℕ
 place_among [] n = 0
 place_among (t ∷ ts) n = cond (t.no == n) 0 (suc (place_among ts n))
 
--- one place comes before another: its transaction stands earlier in the file, or in the same one its operation, or at the same one its row is less
+-- one position comes before another: its transaction is earlier in the file, or in the same one its operation, or at the same one its row is less
 abbrev pub ComesBefore : History → ℕ × ℕ × Row → ℕ × ℕ × Row → Type 0
 ComesBefore h (n, k, row) (m, j, other) = (place_among h.txns n < place_among h.txns m) ⊎ ((n ≡ m) × ((k < j) ⊎ ((k ≡ j) × (is_lt (row_cmp row other) ≡ true))))
 

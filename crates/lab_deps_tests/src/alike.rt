@@ -1,4 +1,4 @@
-//! Histories that are written out, with their edges.
+//! Histories that are written out in full, with their edges.
 
 ghost use Rattle.lab_deps.specs.Soundness.{IsSound};
 

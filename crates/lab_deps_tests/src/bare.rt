@@ -1,4 +1,4 @@
-//! An engine of which only the required calls are another's: the others are those that the trait has for any engine.
+//! An engine that forwards only the required calls to another engine. Its other calls are the trait's defaults.
 
 ghost use Rattle.std.specs.Prelude.{◌≡◌};
 

@@ -1,4 +1,4 @@
-//! What calls are made on that are refused memory.
+//! Inputs of the calls whose allocations fail.
 
 use lab_engine::{EngineFault, Recording, Sessions};
 use lab_history::{History, Op};

@@ -1,6 +1,6 @@
-//! Tests of the dependencies between transactions: the walk along the versions of each row, beside a body that compares
-//! each operation with each installer, and what is told of each two transactions beside both. And calls of the libraries
-//! up to the dependencies that are refused memory.
+//! Tests of the dependencies between transactions: the pass over the versions of each row, compared with an
+//! implementation that compares each operation with each installer; and the cells for each two transactions, compared
+//! with both. Also tests of calls of the libraries up to the dependencies whose allocations fail.
 #![tactic(auto)]
 
 #[cfg(test)]

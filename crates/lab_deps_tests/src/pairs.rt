@@ -1,4 +1,4 @@
-//! The edges of a sound history as they are defined: at each row each operation is compared with each installer.
+//! The edges of a sound history by their definition: at each row, each operation is compared with each installer.
 
 use lab_deps::{Edge, Kind};
 use lab_history::{History, Op, Outcome, State, VersionName};

@@ -1,4 +1,4 @@
-//! Histories of recordings: scripts over two tables made by a rule, each played on the four engines.
+//! Recorded histories: generated scripts over two tables, each played on the four engines.
 
 ghost use Rattle.std.specs.Prelude.{◌≡◌, []};
 

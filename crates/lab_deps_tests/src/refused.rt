@@ -1,5 +1,5 @@
-//! Calls of the libraries with each of their allocations refused in turn: they answer want of memory and nothing else,
-//! and what they would change is as it was; or, where they could do without, they answer as ever.
+//! Calls of the libraries with each of their allocations failing in turn. They return `NoMemory` and nothing else, and
+//! what they would change is unchanged; or, if they can do without the allocation, they return the usual result.
 
 use crate::inputs::{Inputs, given};
 use crate::refused_calls::{Call, is_right};

@@ -1,5 +1,5 @@
-//! Calls of the libraries up to the dependencies, with an allocation refused: each says whether it answers what it is
-//! to answer.
+//! Calls of the libraries up to the dependencies, with a failing allocation. Each says whether it returns the expected
+//! result.
 
 ghost use Rattle.std.specs.Prelude.{◌≡◌, IfOk};
 

@@ -1,5 +1,4 @@
-//! Calls on the dependencies of a history, with an allocation refused: each says whether it answers what it is to
-//! answer.
+//! Calls on the dependencies of a history, with a failing allocation. Each says whether it returns the expected result.
 
 ghost use Rattle.lab_deps.specs.Soundness.{IsSound};
 

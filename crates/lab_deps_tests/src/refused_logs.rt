@@ -1,5 +1,5 @@
-//! The calls that an engine need not have of its own, on one that has none of them, and the logs that engines are given
-//! up for, with each allocation refused in turn.
+//! The default calls of the trait of engines, on an engine that overrides none of them, and the logs that engines are
+//! consumed for, with each allocation failing in turn.
 
 use crate::bare::Bare;
 use crate::refused_steps::{Play, TWO_UPDATES, WAITING, has_told, is_refused, turns_before};

@@ -1,4 +1,4 @@
-//! Statements that are made with an allocation refused: read, copied, or with their condition copied.
+//! Statements that are parsed or copied with a failing allocation, also within their condition.
 
 use lab_refusal_tests::{refuse, was_refused};
 use lab_statement::{ScriptFault, parse_statement, print_statement};

@@ -1,5 +1,5 @@
-//! Engines whose steps and retries have each of their allocations refused in turn: log and sessions are as before, and
-//! the same call with memory answers as if nothing had been.
+//! Steps and retries of engines with each of their allocations failing in turn. Log and sessions are unchanged, and the
+//! same call, when repeated with memory, returns the usual result.
 
 ghost use Rattle.std.specs.Prelude.{◌<◌, length};
 ghost use Rattle.lab_engine.specs.Limits.{max_events};

@@ -1,4 +1,4 @@
-//! What is told of each two transactions without a list, beside the list of the edges.
+//! The cells for each two transactions, compared with the list of the edges.
 
 ghost use Rattle.lab_deps.specs.Soundness.{IsSound};
 

@@ -1,4 +1,4 @@
-//! Cycles, and the most particular phenomenon that each is.
+//! Cycles, and the most specific phenomenon of each.
 
 ghost use Rattle.std.specs.Prelude.{◌≡◌};
 ghost use Rattle.lab_drawing.specs.Cycles.{by_counts, walk_phenomenon, cycle_of};
@@ -27,7 +27,7 @@ fn by_counts(antis: usize, items: usize, others: usize) -> Phenomenon
     }
 }
 
-/// The most particular phenomenon that a cycle is.
+/// Returns the most specific phenomenon that a cycle is an instance of.
 pub fn walk_phenomenon(walk: &[Edge]) -> Phenomenon
     ensures { result ≡ walk_phenomenon walk.now }
 {
@@ -52,7 +52,7 @@ pub fn walk_phenomenon(walk: &[Edge]) -> Phenomenon
     by_counts(antis, items, others)
 }
 
-/// The cycle that is found of a phenomenon; no dependencies where none is.
+/// Returns the cycle of a finding; empty if it has none.
 pub fn cycle_of(finding: &Finding) -> &[Edge]
     ensures { result.now ≡ cycle_of finding.now }
 {

@@ -1,4 +1,4 @@
-//! Drawings.
+//! The type of drawings.
 
 ghost use Rattle.std.specs.Prelude.{◌≡◌};
 ghost use Rattle.lab_drawing.specs.Ties.{is_dashed};
@@ -19,11 +19,11 @@ pub struct Spot {
 pub enum Tie {
     /// A dependency of this kind.
     Dependency(Kind),
-    /// The second sees what the first wrote.
+    /// The second operation sees what the first one wrote.
     Version,
 }
 
-/// Whether an arrow is dashed: that of an anti-dependency is.
+/// Returns whether an arrow is dashed: it is if it is an anti-dependency.
 pub fn is_dashed(tie: Tie) -> bool
     ensures { result ≡ is_dashed tie }
 {
@@ -34,7 +34,7 @@ pub fn is_dashed(tie: Tie) -> bool
     }
 }
 
-/// An arrow from one operation to another, because of a row.
+/// An arrow between two operations, for a row.
 #[derive(Clone, Copy, Debug, PartialEq, Eq)]
 pub struct Arrow {
     pub from: Spot,
@@ -43,27 +43,27 @@ pub struct Arrow {
     pub row: RowName,
 }
 
-/// A drawing of some of a history's transactions.
+/// A drawing of some transactions of a history.
 #[derive(Drop)]
 pub struct Drawing {
     /// The transactions, from left to right.
     pub columns: Vec<TxnNo>,
     /// The arrows between their operations.
     pub arrows: Vec<Arrow>,
-    /// The operation that a fault is at, or the last write of a row by the transaction that is out of place among its
+    /// The operation at which a fault is, or the last write of a row by the transaction that is misplaced among its
     /// installers.
     pub marked: Option<Spot>,
-    /// What is drawn: the line of the report.
+    /// The line of the report that is drawn.
     pub about: Vec<u8>,
-    /// The version that a fault is about, or who is out of place among a row's installers.
+    /// The version that a fault concerns, or the transaction that is misplaced among a row's installers.
     pub note: Vec<u8>,
     /// The title, in words.
     pub title: Vec<u8>,
-    /// The dependencies of a yes, which all lead forward; they are drawn thin.
+    /// The dependencies of a yes, which all lead forward. They are drawn thin.
     pub forward: Vec<Arrow>,
-    /// The transactions whose columns are thin: those who wrote versions that a cycle saw, and aren't of it.
+    /// The transactions whose columns are thin: they wrote versions that the cycle saw, but aren't in it.
     pub thin: Vec<TxnNo>,
-    /// The rows whose first and last values stand below the columns.
+    /// The rows whose first and last values are below the columns.
     pub rows: Vec<RowName>,
 }
 

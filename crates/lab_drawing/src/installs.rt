@@ -1,4 +1,4 @@
-//! Who is out of place among a row's installers.
+//! Misplaced installers of a row.
 
 ghost use Rattle.std.specs.Prelude.{◌≡◌, ◌++◌, OnOk};
 ghost use Rattle.lab_history.specs.Version.{outcome_of, installers, is_at};
@@ -9,25 +9,25 @@ use crate::text::put_number;
 use lab_history::{History, Outcome};
 use lab_table::{NoMemory, RowName, TxnNo};
 
-/// How a transaction is out of place.
+/// How a transaction is misplaced.
 #[derive(Clone, Copy, Debug, PartialEq, Eq)]
 pub enum Why {
-    /// It committed a write of the row, and isn't among the installers.
+    /// It committed a write of the row, but isn't an installer.
     Missing,
-    /// It is an installer, and committed no write of the row.
+    /// It is an installer, but committed no write of the row.
     Unwritten,
-    /// It is an installer at more than one place.
+    /// It is an installer more than once.
     Repeated,
 }
 
-/// A transaction that is out of place among a row's installers.
+/// A transaction that is misplaced among a row's installers.
 #[derive(Clone, Copy, Debug, PartialEq, Eq)]
 pub struct Misplaced {
     pub txn: TxnNo,
     pub why: Why,
 }
 
-/// The transactions that installed a row, in order.
+/// Returns the transactions that installed a row, in order.
 pub fn installers_of(history: &History, row: RowName) -> &[TxnNo]
     ensures { result.now ≡ installers history.now row }
 {
@@ -37,9 +37,9 @@ pub fn installers_of(history: &History, row: RowName) -> &[TxnNo]
     }
 }
 
-/// Who is out of place among a row's installers: the first transaction of the file that committed a write of the row and
-/// isn't among them; where there is none, the first of them that committed no write of the row, or that stands at an
-/// earlier place too.
+/// Returns the transaction that is misplaced among a row's installers: the first transaction of the file that committed
+/// a write of the row but isn't an installer. If there is none, the first installer that committed no write of the row,
+/// or occurs earlier too.
 pub fn misplaced_of(history: &History, row: RowName) -> Option<Misplaced>
     ensures { result ≡ misplaced_of history.now row }
 {
@@ -140,7 +140,7 @@ fn why_text(why: Why) -> &'static str
     }
 }
 
-/// Appends which transaction is out of place, and how.
+/// Appends which transaction is misplaced, and how.
 pub fn put_misplaced(out: &mut Vec<u8>, found: Misplaced) -> Result<(), NoMemory>
     ensures { OnOk result (out.new.items ≡ out.old.items ++ misplaced_text found) }
 {

@@ -1,11 +1,12 @@
-//! Drawings of judgements.
+//! Drawings of judgements, before they become text.
 //!
-//! [`draw`] makes a [`Drawing`] of a history and a report on it: a column for each transaction that a verdict or a
-//! finding names, an arrow between two operations for each dependency of its walk, or the version that a fault names.
-//! Which drawing is made is a definition over history and report (`drawing_of`).
+//! [`draw`] makes a [`Drawing`] of a history and a report on it. It has a column for each transaction that a verdict or
+//! a finding names, and an arrow between two operations for each dependency of the cycle, or the version that a fault
+//! names. `drawing_of` defines the drawing of a history and a report.
 //!
-//! Here too is what explanations and pages say as drawings do: the arrow of a dependency ([`arrow_of`]), the names of
-//! phenomena and cycles ([`put_full_name`]), and who is out of place among a row's installers ([`misplaced_of`]).
+//! Explanations and pages use these functions too: the arrow of a dependency ([`arrow_of`]), the names of phenomena and
+//! cycles ([`put_full_name`]), and misplaced installers ([`misplaced_of`]). Functions that allocate return `NoMemory`
+//! if an allocation fails.
 #![tactic(auto)]
 
 mod cycles;

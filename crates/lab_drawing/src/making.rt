@@ -1,4 +1,4 @@
-//! Which operations make a dependency.
+//! The operations that make a dependency.
 
 ghost use Rattle.std.specs.Prelude.{◌≡◌, ◌≤◌, length};
 ghost use Rattle.lab_history.specs.Limits.{max_operations};
@@ -100,7 +100,7 @@ fn to_op(history: &History, edge: &Edge) -> Option<u32>
     }
 }
 
-/// The arrow of a dependency, between the operations that make it.
+/// Returns the arrow of a dependency, between the operations that make it, or `None` if there are none.
 pub fn arrow_of(history: &History, edge: &Edge) -> Option<Arrow>
     ensures { result ≡ arrow_of history.now edge.now }
 {

@@ -1,4 +1,4 @@
-//! Nicknames of cycles: which ones a cycle has, by the form of its dependencies.
+//! Nicknames of cycles, by the form of their dependencies.
 
 ghost use Rattle.std.specs.Prelude.{◌≡◌, ◌++◌, filter, OnOk};
 ghost use Rattle.lab_table.specs.Row.{row_test};
@@ -13,19 +13,19 @@ use lab_history::{History, Op, Writes};
 use lab_reports::Phenomenon;
 use lab_table::{NoMemory, RowName, TxnNo};
 
-/// What cycles of one form are called, whichever phenomenon they are found for. A cycle may have several forms.
+/// A name for cycles of one form, whichever phenomenon they show. A cycle may have several forms.
 #[derive(Clone, Copy, Debug, PartialEq, Eq)]
 pub enum Nickname {
-    /// Just two dependencies at one row, a write after a write and an item anti-dependency (Berenson et al., A Critique of
-    /// ANSI SQL Isolation Levels, 1995).
+    /// Exactly two dependencies, at one row: a write after a write and an item anti-dependency (Berenson et al., A
+    /// Critique of ANSI SQL Isolation Levels, 1995).
     LostUpdate,
-    /// A G-single whose reader, from whom its anti-dependency leads, wrote none of the rows of its dependencies (Berenson
-    /// et al. 1995).
+    /// A G-single in which the source of the anti-dependency wrote none of the rows of the dependencies (Berenson et
+    /// al. 1995).
     ReadSkew,
-    /// Just two item anti-dependencies, at two rows (Berenson et al. 1995).
+    /// Exactly two item anti-dependencies, at two rows (Berenson et al. 1995).
     WriteSkew,
-    /// A G2-item of which one transaction wrote no row (Fekete, O'Neil and O'Neil, A Read-Only Transaction Anomaly Under
-    /// Snapshot Isolation, 2004).
+    /// A G2-item in which one transaction wrote no row (Fekete, O'Neil and O'Neil, A Read-Only Transaction Anomaly
+    /// Under Snapshot Isolation, 2004).
     ReadOnlyAnomaly,
     /// A cycle with a predicate anti-dependency (Eswaran et al., The Notions of Consistency and Predicate Locks in a
     /// Database System, 1976; Adya, Weak Consistency, 1999).
@@ -42,7 +42,7 @@ impl Nickname {
         Nickname::Phantom,
     ];
 
-    /// The nickname, in words.
+    /// Returns the nickname, in words.
     pub fn name(self) -> &'static str
         ensures { result.now ≡ nickname_name self }
     {
@@ -243,8 +243,8 @@ fn put_those_of(
     out.extend_from_slice(end)
 }
 
-/// Appends the nicknames of a cycle in parentheses, each whose form it has; nothing where it has none. After NoMemory, part
-/// of what was to be appended may stand there.
+/// Appends the nicknames of a cycle in parentheses, each whose form it has; nothing where it has none. On failure, a
+/// part of the text may have been appended.
 pub fn put_nicknames(out: &mut Vec<u8>, history: &History, walk: &[Edge]) -> Result<(), NoMemory>
     ensures { OnOk result (out.new.items ≡ out.old.items ++ in_parentheses (nicknames_of history.now walk.now)) }
 {

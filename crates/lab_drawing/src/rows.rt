@@ -1,4 +1,4 @@
-//! The rows of a cycle, and whether a row is among some.
+//! The rows of a cycle, and membership in a list of rows.
 
 ghost use Rattle.std.specs.Prelude.{◌≡◌, IfOk};
 ghost use Rattle.lab_drawing.specs.Rows.{is_of, rows_of, is_named};
@@ -20,7 +20,7 @@ fn is_of(walk: &[Edge], row: RowName) -> bool
     false
 }
 
-/// The rows that the dependencies of a cycle name, by rising row. NoMemory where an allocation was refused.
+/// The rows that the dependencies of a cycle name, by rising row.
 pub fn rows_of(alloc: Global, history: &History, walk: &[Edge]) -> Result<Vec<RowName>, NoMemory>
     ensures { IfOk result (λ rows. rows.items ≡ rows_of history.now walk.now) }
 {
@@ -33,7 +33,7 @@ pub fn rows_of(alloc: Global, history: &History, walk: &[Edge]) -> Result<Vec<Ro
     Ok(rows)
 }
 
-/// Whether a row is among these.
+/// Returns whether `named` has `row`.
 pub fn is_named(named: &[RowName], row: RowName) -> bool
     ensures { result ≡ is_named named.now row }
 {

@@ -1,4 +1,4 @@
-//! Making a drawing.
+//! Makes drawings.
 
 ghost use Rattle.std.specs.Prelude.{◌≡◌, [], map, flat_map, IfOk};
 ghost use Rattle.lab_drawing.specs.Making.{arrows_of, listed};
@@ -16,8 +16,7 @@ use lab_reports::Phenomenon;
 use lab_table::{NoMemory, TxnNo};
 use std::alloc::Global;
 
-/// The drawing of a serial verdict, or of what a report finds of a phenomenon. NoMemory where an allocation was
-/// refused.
+/// Returns the drawing of the serial verdict, or of the finding about a phenomenon.
 pub fn draw(
     alloc: Global,
     history: &History,
@@ -99,7 +98,7 @@ fn of_finding(
     }
 }
 
-/// The drawing of a walk. NoMemory where an allocation was refused.
+/// The drawing of a walk.
 fn of_walk(
     alloc: Global,
     history: &History,
@@ -113,7 +112,7 @@ fn of_walk(
     walk_with(alloc, history, about, columns, arrows, walk)
 }
 
-/// The transactions of a walk. NoMemory where an allocation was refused.
+/// The transactions of a walk.
 fn walk_columns(alloc: Global, walk: &[Edge]) -> Result<Vec<TxnNo>, NoMemory>
     ensures { IfOk result (λ columns. columns.items ≡ with_columns [] (map (λ e. e.from) walk.now)) }
 {
@@ -124,8 +123,7 @@ fn walk_columns(alloc: Global, walk: &[Edge]) -> Result<Vec<TxnNo>, NoMemory>
     Ok(columns)
 }
 
-/// The drawing of a walk with these columns and arrows, with thin columns and the rows whose values are told. NoMemory
-/// where an allocation was refused.
+/// The drawing of a walk with these columns and arrows, with thin columns and the rows whose values are told.
 fn walk_with(
     alloc: Global,
     history: &History,
@@ -167,8 +165,7 @@ fn seen_writer(history: &History, arrow: &Arrow) -> Option<TxnNo>
     }
 }
 
-/// Those who wrote the versions that the arrows of a walk pass by and have no column, each once. NoMemory where an
-/// allocation was refused.
+/// Those who wrote the versions that the arrows of a walk pass by and have no column, each once.
 fn others(
     alloc: Global,
     history: &History,

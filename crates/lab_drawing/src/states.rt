@@ -19,7 +19,7 @@ fn ops_in(history: &History, txn: TxnNo) -> &[Op]
     }
 }
 
-/// The operations of a transaction; none where there is no such transaction.
+/// Returns the operations of a transaction; none if there is no such transaction.
 pub fn ops_of(history: &History, txn: TxnNo) -> &[Op]
     ensures ops { result.now ≡ ops_of history.now txn }
     ensures few { length result.now ≤ max_operations }
@@ -38,7 +38,7 @@ fn installed_state(history: &History, row: RowName, place: usize) -> Option<Valu
     state_of(history, row, VersionName::Of { txn, op })
 }
 
-/// The state of a row's version at a place, counted from 0.
+/// Returns the state of the version of a row at position `place`, counted from 0.
 pub fn state_at(history: &History, row: RowName, place: usize) -> Option<Value>
     ensures { result ≡ state_at history.now row place }
 {

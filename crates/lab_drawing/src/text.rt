@@ -1,5 +1,5 @@
-//! Numbers, states and other texts that stand in a drawing's words, and in what is written of it. Each function that takes
-//! bytes appends to them; after NoMemory, part of what was to be appended may stand there.
+//! Numbers, states and other short texts of drawings. Functions that take bytes append; on failure, a part of the text
+//! may have been appended.
 
 ghost use Rattle.std.specs.Prelude.{◌≡◌, ◌++◌, OnOk};
 ghost use Rattle.std.specs.Fmt.{decimal};
@@ -17,7 +17,7 @@ pub fn put_number(out: &mut Vec<u8>, number: u64) -> Result<(), NoMemory>
     out.extend_from_slice(Buffer::new().format(number).as_bytes())
 }
 
-/// Appends a row's state; None is absent.
+/// Appends the state of a row; `None` is absent.
 pub fn put_state(out: &mut Vec<u8>, state: Option<Value>) -> Result<(), NoMemory>
     ensures { OnOk result (out.new.items ≡ out.old.items ++ state_text state) }
 {
@@ -27,7 +27,7 @@ pub fn put_state(out: &mut Vec<u8>, state: Option<Value>) -> Result<(), NoMemory
     }
 }
 
-/// How a transaction ended.
+/// Returns how a transaction ended.
 pub fn outcome_name(history: &History, txn: TxnNo) -> &'static str
     ensures { result.now ≡ outcome_name (outcome_of history.now txn) }
 {
@@ -40,7 +40,7 @@ pub fn outcome_name(history: &History, txn: TxnNo) -> &'static str
     }
 }
 
-/// Appends a text in which no byte is markup.
+/// Appends a text, with markup escaped.
 pub fn put_escaped(out: &mut Vec<u8>, text: &[u8]) -> Result<(), NoMemory>
     ensures { OnOk result (out.new.items ≡ out.old.items ++ escaped text.now) }
 {

@@ -1,4 +1,4 @@
-//! The titles of drawings, in words. Each function appends; after NoMemory, part of what was to be appended may stand there.
+//! The titles of drawings, in words. The functions append; on failure, a part of the text may have been appended.
 
 ghost use Rattle.std.specs.Prelude.{◌≡◌, ◌++◌, flat_map, OnOk};
 ghost use Rattle.lab_drawing.specs.Cycles.{walk_phenomenon};
@@ -34,8 +34,8 @@ fn put_words_behind(
     }
 }
 
-/// Appends a phenomenon that is present by this cycle, or by no cycle where there are no dependencies: its code, and behind
-/// it, in parentheses, the name that it has in textbooks or the cycle's nicknames.
+/// Appends the full name of a phenomenon that is present by this cycle (or by no cycle, if it is empty): its code, and
+/// in parentheses its textbook name or the nicknames of the cycle.
 pub fn put_full_name(
     out: &mut Vec<u8>,
     history: &History,
@@ -142,7 +142,7 @@ fn put_cycle_name(out: &mut Vec<u8>, history: &History, walk: &[Edge]) -> Result
     put_full_name(out, history, walk_phenomenon(walk), walk)
 }
 
-/// Appends the title of a serial verdict on a history.
+/// Appends the title of a serial verdict.
 pub fn put_serial_title(
     out: &mut Vec<u8>,
     history: &History,
@@ -175,7 +175,7 @@ fn finding_word(finding: &Finding) -> &'static str
     }
 }
 
-/// Appends the title of what is found of a phenomenon in a history.
+/// Appends the title of a finding about a phenomenon.
 pub fn put_finding_title(
     out: &mut Vec<u8>,
     history: &History,

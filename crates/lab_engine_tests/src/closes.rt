@@ -1,4 +1,4 @@
-//! Runs that end with seats as they are and with spoiled ones, beside a plainer body.
+//! Ends of runs with correct and with spoiled seats, compared with a plain implementation.
 
 use crate::handed::{Handed, Spoil, handed_over};
 use crate::listings::LISTINGS;

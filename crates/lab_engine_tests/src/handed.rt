@@ -1,4 +1,4 @@
-//! What is handed in at the end of a run, as it is and spoiled.
+//! The seats that are returned at the end of a run, correct and spoiled.
 
 ghost use Rattle.std.specs.Prelude.{◌<◌, length};
 

@@ -1,4 +1,5 @@
-//! Tests of the ends of runs, beside a plainer body, and of benches that are refused memory, at each level.
+//! Tests of the ends of runs, compared with a plain implementation, and of benches whose allocations fail, at each
+//! level.
 #![tactic(auto)]
 
 #[cfg(test)]

@@ -1,4 +1,4 @@
-//! The ten listings of anomalies, after Kleppmann's Hermitage, and one over two tables.
+//! Ten scripts with anomalies, after Kleppmann's Hermitage, and one over two tables.
 
 pub const G0: &[u8] = b"setup (1, 10), (2, 20);
 begin; -- T1

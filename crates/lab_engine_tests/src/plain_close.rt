@@ -1,4 +1,4 @@
-//! A plain body of a run's end, which walks the log anew for each seat.
+//! A plain implementation of the end of a run, which reads the log again for each seat.
 
 use lab_engine::{LogEvent, Outcome};
 use lab_session::{Call, CloseFault, Seat};

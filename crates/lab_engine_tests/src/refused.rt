@@ -1,6 +1,6 @@
-//! Benches whose calls have each of their allocations refused in turn, through whole scripts on each engine: they answer
-//! want of memory and nothing else, log and sessions are as before, and the script then plays as if nothing had been. A
-//! commit, also one that conflicts, and an abort ask for no memory at all.
+//! Benches on each engine that play whole scripts, with each allocation of each call failing in turn. A call returns
+//! `NoMemory` and nothing else, log and sessions are unchanged, and the script then plays as without the failure. A
+//! commit, even a conflicting one, and an abort allocate nothing.
 
 ghost use Rattle.std.specs.Prelude.{◌≡◌, []};
 

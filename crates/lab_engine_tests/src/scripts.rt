@@ -1,4 +1,4 @@
-//! Scripts that benches run with each allocation refused in turn.
+//! The scripts that benches run with each allocation failing in turn.
 
 use crate::listings::{G1B, G1C};
 

@@ -71,7 +71,7 @@ fn put_fault_row(
     }
 }
 
-/// The rows in question, as they first come. NoMemory where an allocation was refused.
+/// The rows in question, as they first come.
 pub fn rows_of(
     alloc: Global,
     report: &Report,

@@ -1,5 +1,5 @@
-//! The cells of an operation: what it saw, listed and wrote. Each function that takes bytes appends to them; after NoMemory,
-//! part of what was to be appended may stand there.
+//! The cells of an operation: what it saw, listed and wrote. Functions that take bytes append; on failure, a part of
+//! the text may have been appended.
 
 ghost use Rattle.std.specs.Prelude.{◌≡◌, ◌++◌, flat_map, OnOk};
 ghost use Rattle.lab_evidence.specs.Cells.{entry_open, entry_text, asked_entry, first_entries, later_entries, count_text, more_text, in_all, entries_text, cell_text, seen_cell, listed_cell, written_cell};

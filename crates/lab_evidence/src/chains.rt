@@ -1,5 +1,5 @@
-//! The versions of a row, in the order in which they were installed. Each function that takes bytes appends to them; after
-//! NoMemory, part of what was to be appended may stand there.
+//! The versions of a row, in the order of their installation. Functions that take bytes append; on failure, a part of
+//! the text may have been appended.
 
 ghost use Rattle.std.specs.Prelude.{◌≡◌, ◌++◌, ◌≤◌, length, OnOk};
 ghost use Rattle.lab_history.specs.Version.{installers, last_write, ops_of};
@@ -186,7 +186,7 @@ fn put_chain_from(
     put_back(out, (count - start).saturating_sub(MAX_VERSIONS))
 }
 
-/// Appends the versions of a row, those at two places bold.
+/// Appends the versions of a row, with those at positions `first` and `second` in bold.
 pub fn put_chain(
     out: &mut Vec<u8>,
     history: &History,

@@ -25,7 +25,7 @@ pub struct Entry {
     pub told: Told,
 }
 
-/// The versions that an operation saw. NoMemory where an allocation was refused.
+/// The versions that an operation saw.
 pub fn seen_entries(alloc: Global, view: &View) -> Result<Vec<Entry>, NoMemory>
     ensures { IfOk result (λ entries. entries.items ≡ map seen_entry (finite.entries view.now)) }
 {
@@ -38,7 +38,7 @@ pub fn seen_entries(alloc: Global, view: &View) -> Result<Vec<Entry>, NoMemory>
         .collect(alloc)
 }
 
-/// The rows that it listed. NoMemory where an allocation was refused.
+/// The rows that it listed.
 pub fn listed_entries(alloc: Global, rows: &Rows) -> Result<Vec<Entry>, NoMemory>
     ensures { IfOk result (λ entries. entries.items ≡ map listed_entry (finite.entries rows.now)) }
 {
@@ -51,7 +51,7 @@ pub fn listed_entries(alloc: Global, rows: &Rows) -> Result<Vec<Entry>, NoMemory
         .collect(alloc)
 }
 
-/// Rows in the states in which an operation left them. NoMemory where an allocation was refused.
+/// Rows in the states in which an operation left them.
 fn left_entries(alloc: Global, states: &[(RowName, State)]) -> Result<Vec<Entry>, NoMemory>
     ensures { IfOk result (λ entries. entries.items ≡ map left_entry states.now) }
 {
@@ -64,7 +64,7 @@ fn left_entries(alloc: Global, states: &[(RowName, State)]) -> Result<Vec<Entry>
         .collect(alloc)
 }
 
-/// The rows that it wrote. NoMemory where an allocation was refused.
+/// The rows that it wrote.
 #[tactic(auto, using(crate::proofs::LeftEntries::left_are_written))]
 pub fn written_entries(alloc: Global, writes: &Writes) -> Result<Vec<Entry>, NoMemory>
     ensures { IfOk result (λ entries. entries.items ≡ map written_entry (finite.entries writes.now)) }

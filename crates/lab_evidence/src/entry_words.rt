@@ -1,5 +1,5 @@
-//! What an entry of a cell tells of its row. Each function that takes bytes appends to them; after NoMemory, part of what was
-//! to be appended may stand there.
+//! What an entry of a cell tells of its row. Functions that take bytes append; on failure, a part of the text may have
+//! been appended.
 
 ghost use Rattle.std.specs.Prelude.{◌≡◌, ◌++◌, option_map, OnOk};
 ghost use Rattle.lab_history.specs.VersionName.{state_value};

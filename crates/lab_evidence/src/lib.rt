@@ -1,10 +1,11 @@
-//! What a page shows of a history: its transactions and its rows.
+//! The part of a page about the history: its transactions and its rows.
 //!
-//! [`scope_of`] says what is shown: which transactions, what is in question, by the step of the verdict that is about it,
-//! and the rows of that. [`put_transactions`] and [`put_rows`] write them, with markup: `T2.1` names a statement wherever
-//! it stands, and links to its line where that is in the page; the versions of a row stand in their order.
+//! [`scope_of`] decides what the page shows: the transactions, the operations in question with the step of the verdict
+//! that is about them, and their rows. [`put_transactions`] and [`put_rows`] write them as HTML. `T2.1` names a
+//! statement everywhere, and links to its line if the page has it. The versions of a row are in their order.
 //!
-//! Each text is a definition in `specs/`, and a function here appends it. Every text of a file stands escaped.
+//! `specs/` defines each text, and a function here appends it. Every text of a file is escaped. Functions that allocate
+//! return `NoMemory` if an allocation fails.
 #![tactic(auto)]
 
 mod asked_rows;

@@ -1,5 +1,4 @@
-//! The line of an operation. Each function that takes bytes appends to them; after NoMemory, part of what was to be appended
-//! may stand there.
+//! The line of an operation. Functions that take bytes append; on failure, a part of the text may have been appended.
 
 ghost use Rattle.std.specs.Prelude.{◌≡◌, ◌++◌, OnOk};
 ghost use Rattle.lab_evidence.specs.Transactions.{line_open, line_name, statement_cell, saw_column, listed_column, wrote_column, columns_text, line_text};

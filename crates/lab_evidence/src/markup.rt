@@ -1,5 +1,5 @@
-//! Words of a page that are links, or have markup round them. Each function that takes bytes appends to them; after
-//! NoMemory, part of what was to be appended may stand there.
+//! Words of a page that are links or have markup. Functions that take bytes append; on failure, a part of the text may
+//! have been appended.
 
 ghost use Rattle.std.specs.Prelude.{◌≡◌, ◌++◌, OnOk};
 ghost use Rattle.lab_evidence.specs.Markup.{op_name, op_anchor, op_link, op_text, row_text, bold_open, bold_close};
@@ -45,7 +45,7 @@ fn put_op_link(out: &mut Vec<u8>, txn: TxnNo, op: u32) -> Result<(), NoMemory>
     out.extend_from_slice(b"</a>")
 }
 
-/// Appends an operation: a link where its line is in the page.
+/// Appends an operation, as a link if the page has its line.
 pub fn put_op(
     out: &mut Vec<u8>,
     history: &History,

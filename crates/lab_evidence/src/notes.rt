@@ -1,5 +1,5 @@
-//! What is asked of an operation, in its line. Each function that takes bytes appends to them; after NoMemory, part of what
-//! was to be appended may stand there.
+//! What is asked of an operation, in its line. Functions that take bytes append; on failure, a part of the text may
+//! have been appended.
 
 ghost use Rattle.std.specs.Prelude.{◌≡◌, ◌++◌, flat_map, IfOk, OnOk};
 ghost use Rattle.lab_evidence.specs.Transactions.{step_class, mark_text, step_name, did_text, step_link, note_text, asked_note, row_at, rows_at};
@@ -138,7 +138,7 @@ fn put_row_at(
     }
 }
 
-/// The rows that are in question at an operation. NoMemory where an allocation was refused.
+/// The rows that are in question at an operation.
 pub fn rows_at(
     alloc: Global,
     asked: &[Question],

@@ -1,4 +1,4 @@
-//! What is in question: an operation and a row, by the step of the verdict that is about them.
+//! The operations and rows in question, with the step of the verdict that is about them.
 
 ghost use Rattle.std.specs.Prelude.{◌≡◌, ◌≤◌, ◌++◌, length, IfOk, OnOk};
 ghost use Rattle.lab_evidence.specs.Questions.{serial_cycle, told_cycle, shown_steps, first_did, second_did, of_edge, of_steps, of_place, of_parts, of_serial, of_found, of_fault, questions_of};
@@ -18,10 +18,10 @@ pub enum Did {
     Wrote,
 }
 
-/// An operation in question, and the row.
+/// An operation in question, and its row.
 #[derive(Clone, Copy, Debug, PartialEq, Eq)]
 pub struct Question {
-    /// The number of the step that is about them, counted from 1; 0 where it is the verdict.
+    /// The number of the step that is about them, counted from 1; 0 for the verdict itself.
     pub step: u32,
     /// The operation.
     pub spot: Spot,
@@ -44,7 +44,7 @@ fn serial_cycle(serial: &Serial) -> &[Edge]
     }
 }
 
-/// The cycle that is told; empty where it is none.
+/// Returns the cycle that the page explains; empty if there is none.
 pub fn told_cycle(report: &Report, asked: Option<Phenomenon>) -> &[Edge]
     ensures { result.now ≡ told_cycle report.now asked }
 {
@@ -54,7 +54,7 @@ pub fn told_cycle(report: &Report, asked: Option<Phenomenon>) -> &[Edge]
     }
 }
 
-/// The steps of it that are shown.
+/// Returns the steps of a cycle that the page shows: at most 20.
 pub fn shown_steps(walk: &[Edge]) -> &[Edge]
     ensures value { result.now ≡ shown_steps walk.now }
     ensures few { length result.now ≤ 20 }
@@ -62,7 +62,7 @@ pub fn shown_steps(walk: &[Edge]) -> &[Edge]
     &walk[..walk.len().min(MAX_STEPS)]
 }
 
-/// What the operation that a dependency leads from did with the row.
+/// Returns what the operation at the source of a dependency did with the row.
 pub fn first_did(kind: Kind) -> Did
     ensures { result ≡ first_did kind }
 {
@@ -72,7 +72,7 @@ pub fn first_did(kind: Kind) -> Did
     }
 }
 
-/// What the one that it leads to did.
+/// Returns what the operation at the target of a dependency did with the row.
 pub fn second_did(kind: Kind) -> Did
     ensures { result ≡ second_did kind }
 {
@@ -182,7 +182,7 @@ fn put_of_fault(
     }
 }
 
-/// All questions. NoMemory where an allocation was refused.
+/// All questions.
 pub fn questions_of(
     alloc: Global,
     history: &History,

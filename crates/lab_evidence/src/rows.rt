@@ -1,5 +1,4 @@
-//! The rows of a page. Each function that takes bytes appends to them; after NoMemory, part of what was to be appended may
-//! stand there.
+//! The rows of a page. Functions that take bytes append; on failure, a part of the text may have been appended.
 
 ghost use Rattle.std.specs.Prelude.{◌≡◌, ◌++◌, ◌≤◌, is_some, flat_map, IfOk, OnOk};
 ghost use Rattle.std.specs.FinMap as finite;
@@ -68,7 +67,7 @@ fn put_later_rows(
     Ok(())
 }
 
-/// The rows that aren't in question. NoMemory where an allocation was refused.
+/// The rows that aren't in question.
 fn other_rows(alloc: Global, history: &History, rows: &[RowName]) -> Result<Vec<RowName>, NoMemory>
     ensures { IfOk result (λ others. others.items ≡ other_rows history.now rows.now) }
 {
@@ -236,7 +235,7 @@ fn put_rows_with(
     out.extend_from_slice(rows_close())
 }
 
-/// Appends the whole part.
+/// Appends the section on rows.
 pub fn put_rows(
     alloc: Global,
     out: &mut Vec<u8>,

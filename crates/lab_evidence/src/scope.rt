@@ -1,4 +1,4 @@
-//! What a page shows of a history.
+//! The part of a history that a page shows.
 
 ghost use Rattle.std.specs.Prelude.{◌≡◌, ◌++◌, is_some, IfOk, OnOk};
 ghost use Rattle.lab_history.specs.Version.{ops_of, op_at};
@@ -15,12 +15,12 @@ use lab_table::{NoMemory, RowName, TxnNo};
 use std::alloc::Global;
 use std::marker::Model;
 
-/// What a page shows.
+/// The part of a history that a page shows.
 #[derive(Drop)]
 pub struct Scope {
     /// The transactions.
     pub txns: Vec<TxnNo>,
-    /// What is in question.
+    /// The operations in question.
     pub asked: Vec<Question>,
     /// The rows in question.
     pub rows: Vec<RowName>,
@@ -87,7 +87,7 @@ fn named_txns(columns: &[TxnNo]) -> &[TxnNo]
     &columns[..columns.len().min(MAX_TXNS)]
 }
 
-/// The transactions that are shown. NoMemory where an allocation was refused.
+/// The transactions that are shown.
 fn shown_txns(alloc: Global, named: &[TxnNo], txns: &[Txn]) -> Result<Vec<TxnNo>, NoMemory>
     ensures { IfOk result (λ shown. shown.items ≡ shown_txns named.now txns.now) }
 {
@@ -96,7 +96,7 @@ fn shown_txns(alloc: Global, named: &[TxnNo], txns: &[Txn]) -> Result<Vec<TxnNo>
     Ok(shown)
 }
 
-/// What a page with this drawing shows where these are in question. NoMemory where an allocation was refused.
+/// What a page with this drawing shows where these are in question.
 fn scope_with(
     alloc: Global,
     history: &History,
@@ -111,7 +111,7 @@ fn scope_with(
     Ok(Scope { txns, asked, rows })
 }
 
-/// What the page of a report shows. NoMemory where an allocation was refused.
+/// Returns the part of a history that the page of a report shows.
 pub fn scope_of(
     alloc: Global,
     history: &History,

@@ -1,5 +1,4 @@
-//! The transactions of a page. Each function that takes bytes appends to them; after NoMemory, part of what was to be
-//! appended may stand there.
+//! The transactions of a page. Functions that take bytes append; on failure, a part of the text may have been appended.
 
 ghost use Rattle.std.specs.Prelude.{◌≡◌, ◌++◌, ◌≤◌, length, flat_map, OnOk};
 ghost use Rattle.lab_history.specs.Limits.{max_operations};
@@ -169,7 +168,7 @@ fn transactions_open() -> &'static [u8]
     b"<section aria-labelledby=\"transactions\">\n<h2 id=\"transactions\">The transactions</h2>\n<table class=\"s\">\n<caption>"
 }
 
-/// Appends the whole part.
+/// Appends the section on transactions.
 #[tactic(auto, unfolding(crate::specs::Transactions::transactions_text))]
 pub fn put_transactions(
     alloc: Global,

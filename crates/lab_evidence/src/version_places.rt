@@ -1,4 +1,4 @@
-//! Places of versions among those of a row.
+//! Positions of versions among those of a row.
 
 ghost use Rattle.std.specs.Prelude.{◌≡◌};
 ghost use Rattle.lab_history.specs.Version.{ops_of, op_at};
@@ -31,7 +31,7 @@ fn seen_place(history: &History, row: RowName, txn: TxnNo, op: u32) -> Option<us
     }
 }
 
-/// The place of the version of a question.
+/// Returns the position of the version in question.
 pub fn asked_place(history: &History, row: RowName, spot: Spot, did: Did) -> Option<usize>
     ensures { result ≡ asked_place history.now row spot did }
 {

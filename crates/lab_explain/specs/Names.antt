@@ -1,4 +1,5 @@
--- The names of phenomena and levels in sentences.
+-- What a phenomenon of reads says is wrong with the version that was seen; and the line on a level, with what the next
+-- level forbids.
 --
 -- Origin: names: Adya, Liskov and O'Neil, "Generalized Isolation Level Definitions" (2000).
 use Rattle.std.specs.Prelude.{ℕ, List, codes}

@@ -1,5 +1,5 @@
-//! What is said of a finding beside a serial verdict. Each function that takes bytes appends to them; after NoMemory, part of
-//! what was to be appended may stand there.
+//! What is said of a finding beside a serial verdict. Functions that take bytes append; on failure, a part of the text
+//! may have been appended.
 
 ghost use Rattle.std.specs.Prelude.{◌≡◌, ◌++◌, [], ◌∷◌, OnOk};
 ghost use Rattle.lab_explain.specs.Findings.{beside, by_walk, pointer, cut_walk, cut_beside, few_beside, finding_lines};

@@ -1,5 +1,5 @@
-//! What is told of an operation and of a row's version, as parts of a sentence. Each function that takes bytes appends to
-//! them; after NoMemory, part of what was to be appended may stand there.
+//! Operations and versions, as parts of a sentence. Functions that take bytes append; on failure, a part of the text
+//! may have been appended.
 
 ghost use Rattle.std.specs.Prelude.{◌≡◌, ◌++◌, OnOk};
 ghost use Rattle.std.specs.Option.{option_copied};
@@ -23,7 +23,7 @@ fn op_in(ops: &[Op], number: u32) -> Option<&Op>
     ops.get(number.checked_sub(1)? as usize)
 }
 
-/// The operation of a transaction with this number, if there is one.
+/// Returns operation number `op` of a transaction, or `None` if there is none.
 pub fn op_of(history: &History, txn: TxnNo, op: u32) -> Option<&Op>
     ensures { option_copied result ≡ op_at (ops_of history.now txn) op }
 {

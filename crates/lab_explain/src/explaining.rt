@@ -1,4 +1,4 @@
-//! The subcommand `explain`: from the bytes of a history file to sentences.
+//! The subcommand `explain`: reads a history file and writes sentences.
 
 ghost use Rattle.std.specs.Prelude.{◌≡◌, ◌⊎◌, List, ℕ, IfOk, IfErr, IfSome, OnErr};
 ghost use Rattle.std.specs.Io.KnownBytes.{Appends, Keeps};
@@ -17,7 +17,6 @@ use std::alloc::{AllocError, Global};
 use std::io::{Read, Write};
 
 /// The explanation of a judgement of a history; a fault that may come of newer rows is noted where its cause is told.
-/// NoMemory where an allocation was refused.
 fn explained(
     alloc: Global,
     history: &History,
@@ -58,9 +57,9 @@ impl Teller for TellsExplanation {
     }
 }
 
-/// Reads a history file, and writes in sentences what a judgement of its history says: all of it, or what is found of a
-/// phenomenon. Or the line of the file's first fault. It reads, writes and ends as [`tell_history`] does. `notes` is given a
-/// hint also where a fault has another cause besides the one that is told.
+/// Reads a history file, and explains the judgement of its history in sentences: all of it, or the finding about a
+/// phenomenon. If the file is refused, writes the line of its first fault. Reads, writes and ends as `tell_history`
+/// does. A hint is also written to `notes` if a fault can have a cause other than the explained one.
 pub fn explain<R: Read, W: Write, N: Write>(
     alloc: Global,
     reader: &mut R,

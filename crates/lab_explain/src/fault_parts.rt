@@ -1,5 +1,5 @@
-//! Parts of a fault's sentences: what an operation listed and wrote of a row, and what it was due to. Each function that
-//! takes bytes appends to them; after NoMemory, part of what was to be appended may stand there.
+//! Parts of a fault's sentences: what an operation listed and wrote of a row, and what it was due to. Functions that
+//! take bytes append; on failure, a part of the text may have been appended.
 
 ghost use Rattle.std.specs.Prelude.{◌≡◌, ◌++◌, OnOk, option_map};
 ghost use Rattle.lab_history.specs.Version.{ops_of, op_at, viewed_state, last_write};

@@ -1,5 +1,4 @@
-//! The lines of a fault. Each function that takes bytes appends to them; after NoMemory, part of what was to be appended may
-//! stand there.
+//! The lines of a fault. Functions that take bytes append; on failure, a part of the text may have been appended.
 
 ghost use Rattle.std.specs.Prelude.{◌≡◌, ◌++◌, IfOk, OnOk};
 ghost use Rattle.lab_explain.specs.Faults.{fault_sentences};

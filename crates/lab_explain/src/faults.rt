@@ -1,5 +1,4 @@
-//! The sentences of a fault. Each function that takes bytes appends to them; after NoMemory, part of what was to be appended
-//! may stand there.
+//! The sentences of a fault. Functions that take bytes append; on failure, a part of the text may have been appended.
 
 ghost use Rattle.std.specs.Prelude.{◌≡◌, ◌++◌, OnOk};
 ghost use Rattle.lab_deps.specs.declared.fault.FaultParts.TheVariants as parts;

@@ -1,5 +1,5 @@
-//! The sentences of what is found of a phenomenon. Each function that takes bytes appends to them; after NoMemory, part of
-//! what was to be appended may stand there.
+//! The sentences of what is found of a phenomenon. Functions that take bytes append; on failure, a part of the text may
+//! have been appended.
 
 ghost use Rattle.std.specs.Prelude.{◌≡◌, ◌++◌, IfOk, OnOk};
 ghost use Rattle.lab_explain.specs.Findings.{head_of, other_walk, walk_beside, seen_flaw, found_beside, said_alone, alone_sentences};
@@ -150,7 +150,7 @@ fn put_found_alone(
     put_walk_steps(alloc, out, history, cycle_of(finding))
 }
 
-/// What stands of those lines in so many. NoMemory where an allocation was refused.
+/// What stands of those lines in so many.
 #[tactic(auto, unfolding(crate::specs::Findings::alone_sentences))]
 fn alone_front(
     alloc: Global,

@@ -1,4 +1,4 @@
-//! Laws of explanations. The functions have nothing to do: their contracts are the laws.
+//! Theorems on explanations, stated as contracts of empty functions.
 
 ghost use Rattle.std.specs.Prelude.{◌≡◌, ◌≤◌, ℕ, Some, None, Option, List, Contains};
 ghost use Rattle.lab_history.specs.History.{History as Held};
@@ -21,33 +21,35 @@ ghost use Rattle.lab_explain.specs.Places.{IsLastBefore, last_before};
 ghost use Rattle.lab_explain.specs.PrintedParts.{AreParts, IsPartAlone, StandsIn, IsCutOther};
 ghost use Rattle.lab_explain.specs.Steps.{edge_step, edge_text};
 
-/// Each dependency of a walk that a judgement names has its sentence, by the operations that make it: the last write of who
-/// installs, and the first operation of who reads that makes the dependency. A walk's lines are those of its dependencies,
-/// in order, by definition (`walk_steps`).
+/// Each dependency of a cycle that a judgement names has its sentence, by the operations that make it: the last write
+/// of the installer, and the first operation of the reader that makes the dependency. By definition (`walk_steps`), the
+/// lines of a cycle are those of its dependencies, in order.
 pub fn each_dependency_has_its_sentence()
     ensures { (h : Held) (report : Report) (asked : Option Phenomenon) (walk : List Dependency) → IsExactJudgement h report → NamesWalk report asked walk
         → (e : Dependency) → Contains walk e → (a : Drawn) × (edge_step h e ≡ step (edge_text h e a)) × IsArrowOf h e a }
 {}
 
-/// The fault that is explained in place of an order is true of the history.
+/// The fault that is explained instead of an order is true of the history.
 pub fn a_fault_that_is_explained_stands()
     ensures { (h : Held) (report : Report) (f : Fault) → IsExactJudgement h report → report.serial ≡ NoFault f → Stands h f }
 {}
 
-/// Who is told to have committed last before a transaction's start did so: nobody committed between.
+/// The transaction that an explanation names as the last to commit before another one's start is that: no commit lies
+/// between.
 pub fn the_last_commit_before_a_start_is_told()
     ensures { (place : ℕ) (spans : List Span) → IsLastBefore place spans (last_before place None spans) }
 {}
 
-/// An explanation is its parts, and a part that has more lines than it may is cut between its sentences: the first ones stand,
-/// each whole, as many as fit, and behind them a line says how many lines are left out. Of a sentence that has more lines than
-/// all that may stand its first lines do.
+/// An explanation consists of its parts. A part with too many lines is cut between sentences: it keeps as many of the
+/// first sentences as fit, and a last line says how many lines are left out. A sentence that is longer than the part
+/// keeps its first lines.
 pub fn a_part_is_cut_between_sentences()
     ensures whole { (h : Held) (report : Report) → AreParts h report (explanation_of h report None) }
     ensures alone { (h : Held) (report : Report) (p : Phenomenon) → IsPartAlone h report p (explanation_of h report (Some p)) }
 {}
 
-/// Where what is said of a cycle beside the serial verdict's is cut, how to have it explained stands.
+/// If the text about another cycle than the serial verdict's is cut, the explanation says how to have that cycle
+/// explained.
 pub fn how_to_have_a_cycle_explained_stands()
     ensures { (h : Held) (report : Report) (p : Phenomenon) (walk : List Dependency) → IsCutOther h report p walk → StandsIn (pointer p) (explanation_of h report None) }
 {}
@@ -57,7 +59,7 @@ pub fn explanation_is_short()
     ensures { (h : Held) (report : Report) (asked : Option Phenomenon) → lines (explanation_of h report asked) ≤ 100 }
 {}
 
-/// Of one input `explain` says one thing, byte for byte: two explanations of one file are equal.
+/// `explain` has one output for each input, byte for byte: two explanations of one file are equal.
 pub fn explain_answer_unique()
     ensures text { (input one other : List ℕ) (asked : Option Phenomenon) (first again : Ending) → IsExplainAnswer input asked one first → IsExplainAnswer input asked other again → one ≡ other }
     ensures ending { (input one other : List ℕ) (asked : Option Phenomenon) (first again : Ending) → IsExplainAnswer input asked one first → IsExplainAnswer input asked other again → first ≡ again }

@@ -1,12 +1,12 @@
 //! Judgements in sentences.
 //!
-//! [`explain`] is the subcommand of the program: it reads a history file, and writes in sentences what a judgement of its
-//! history says: the serial verdict with a sentence for each dependency of its walk, or what is recorded and what is due
-//! where a fault is; the snapshot verdict; the phenomena; the level. It tells of each dependency which operations make it,
-//! as the arrows of the picture do, and of the row which version was seen, and its value.
+//! [`explain`] is the subcommand of the program: it reads a history file, and explains the judgement of its history in
+//! sentences. The text has the serial verdict with a sentence for each dependency of its cycle, or the recorded and the
+//! expected state of a fault; the snapshot verdict; the phenomena; and the level. The sentence of a dependency names
+//! the operations that make it, as the picture's arrows do, and the version of the row that was seen, with its value.
 //!
-//! Which text it is, is a definition over history and report (`explanation_of`); [`explanation`] makes it. A text has
-//! at most 100 lines.
+//! `explanation_of` defines the text of a history and a report, and [`explanation`] makes it. A text has at most 100
+//! lines. Functions that allocate return `NoMemory` if an allocation fails.
 #![tactic(auto)]
 
 mod beside;

@@ -1,5 +1,5 @@
-//! The layout of sentences in lines. Each function that takes bytes appends to them; after NoMemory, part of what was to be
-//! appended may stand there.
+//! The layout of sentences in lines. Functions that take bytes append; on failure, a part of the text may have been
+//! appended.
 
 ghost use Rattle.std.specs.Prelude.{◌≡◌, ◌++◌, ◌≤◌, [], ◌∷◌, length, OnOk};
 ghost use Rattle.std.specs.Fmt.{decimal};

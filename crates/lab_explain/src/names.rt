@@ -1,4 +1,4 @@
-//! What is said of phenomena of what is seen, and of levels.
+//! Phenomena of reads, and levels, in sentences.
 
 ghost use Rattle.std.specs.Prelude.{◌≡◌};
 ghost use Rattle.lab_explain.specs.Names.{flaw_of, level_line};
@@ -21,7 +21,7 @@ pub fn flaw_of(phenomenon: Phenomenon) -> &'static str
     }
 }
 
-/// The line of a level, and of what the next one forbids.
+/// Returns the line of a level, and of what the next level forbids.
 pub fn level_line(level: Grade) -> &'static str
     ensures { result.now ≡ level_line level }
 {

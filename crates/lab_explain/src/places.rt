@@ -1,5 +1,5 @@
-//! The sentences of a snapshot verdict. Each function that takes bytes appends to them; after NoMemory, part of what was to be
-//! appended may stand there.
+//! The sentences of a snapshot verdict. Functions that take bytes append; on failure, a part of the text may have been
+//! appended.
 
 ghost use Rattle.std.specs.Prelude.{◌≡◌, ◌++◌, None, option_map, flat_map, OnOk};
 ghost use Rattle.lab_judge.specs.Runs.{span_of, spans_of};

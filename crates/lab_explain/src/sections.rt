@@ -33,7 +33,7 @@ pub fn put_order_sentence(out: &mut Vec<u8>, order: &[TxnNo]) -> Result<(), NoMe
     out.extend_from_slice(b".")
 }
 
-/// The lines of a serial verdict. NoMemory where an allocation was refused.
+/// The lines of a serial verdict.
 fn serial_lines(alloc: Global, history: &History, serial: &Serial) -> Result<Vec<u8>, NoMemory>
     ensures { IfOk result (λ text. text.items ≡ joined (serial_sentences history.now serial.now)) }
 {
@@ -56,7 +56,7 @@ fn serial_lines(alloc: Global, history: &History, serial: &Serial) -> Result<Vec
     Ok(out)
 }
 
-/// The first sentence of a serial verdict in lines. NoMemory where an allocation was refused.
+/// The first sentence of a serial verdict in lines.
 fn first_sentence(alloc: Global, serial: &Serial) -> Result<Vec<u8>, NoMemory>
     ensures { IfOk result (λ text. text.items ≡ paragraph (serial_sentence serial.now)) }
 {
@@ -67,7 +67,7 @@ fn first_sentence(alloc: Global, serial: &Serial) -> Result<Vec<u8>, NoMemory>
     Ok(out)
 }
 
-/// What stands of a serial verdict in so many lines. NoMemory where an allocation was refused.
+/// What stands of a serial verdict in so many lines.
 fn serial_front(
     alloc: Global,
     most: usize,
@@ -144,7 +144,7 @@ fn verdict_lines(told: Option<Phenomenon>) -> usize
     }
 }
 
-/// The whole explanation of a report. NoMemory where an allocation was refused.
+/// The whole explanation of a report.
 #[tactic(auto, unfolding(crate::specs::Explanation::whole_text))]
 fn whole_text(alloc: Global, history: &History, report: &Report) -> Result<Vec<u8>, NoMemory>
     ensures { IfOk result (λ text. text.items ≡ whole_text history.now report.now) }
@@ -168,7 +168,7 @@ fn whole_text(alloc: Global, history: &History, report: &Report) -> Result<Vec<u
     Ok(out)
 }
 
-/// The explanation of what is found of a phenomenon. NoMemory where an allocation was refused.
+/// The explanation of what is found of a phenomenon.
 #[tactic(auto, unfolding(crate::specs::Explanation::one_text))]
 fn one_text(
     alloc: Global,
@@ -185,8 +185,8 @@ fn one_text(
     Ok(out)
 }
 
-/// The explanation of a report on a history: of its serial verdict, its snapshot verdict, its phenomena and its level; or of
-/// what it finds of one phenomenon. It has at most 100 lines. NoMemory where an allocation was refused.
+/// Returns the explanation of a report on a history: of its serial verdict, its snapshot verdict, its phenomena and its
+/// level; or of its finding about one phenomenon. It has at most 100 lines.
 pub fn explanation(
     alloc: Global,
     history: &History,

@@ -1,5 +1,5 @@
-//! The sentences of an explanation, before they are laid out in lines: for who shows them otherwise. Each function that takes
-//! bytes appends to them; after NoMemory, part of what was to be appended may stand there.
+//! The sentences of an explanation, before they are broken into lines, for other forms of output. Functions that take
+//! bytes append; on failure, a part of the text may have been appended.
 
 ghost use Rattle.std.specs.Prelude.{◌≡◌, ◌++◌, OnOk};
 ghost use Rattle.lab_explain.specs.Faults.{recorded_text, due_text};
@@ -32,7 +32,7 @@ pub fn put_serial_sentence(out: &mut Vec<u8>, serial: &Serial) -> Result<(), NoM
     }
 }
 
-/// Appends the sentence of a dependency; nothing where no operations make it.
+/// Appends the sentence of a dependency; nothing if no operations make it.
 pub fn put_edge_sentence(out: &mut Vec<u8>, history: &History, edge: &Edge) -> Result<(), NoMemory>
     ensures { OnOk result (out.new.items ≡ out.old.items ++ edge_sentence history.now edge.now) }
 {
@@ -42,7 +42,7 @@ pub fn put_edge_sentence(out: &mut Vec<u8>, history: &History, edge: &Edge) -> R
     }
 }
 
-/// Appends what is recorded where a fault is.
+/// Appends what is recorded at the position of a fault.
 pub fn put_recorded_sentence(
     out: &mut Vec<u8>,
     history: &History,
@@ -53,7 +53,7 @@ pub fn put_recorded_sentence(
     put_recorded_text(out, history, fault)
 }
 
-/// Appends what is due there.
+/// Appends what is expected at the position of a fault.
 pub fn put_due_sentence(
     out: &mut Vec<u8>,
     history: &History,
@@ -64,7 +64,7 @@ pub fn put_due_sentence(
     put_due_text(out, history, *fault)
 }
 
-/// Appends how a recorder most often comes to it.
+/// Appends the most common mistake of a recorder that causes a fault.
 pub fn put_mistake_sentence(out: &mut Vec<u8>, fault: &LocalFault) -> Result<(), NoMemory>
     ensures { OnOk result (out.new.items ≡ out.old.items ++ mistake_text fault.now) }
 {
@@ -78,7 +78,7 @@ pub fn put_places_sentence(out: &mut Vec<u8>, snapshot: &Places) -> Result<(), N
     put_sentence(out, snapshot)
 }
 
-/// Appends the sentence of what is found of a phenomenon, beside the serial verdict.
+/// Appends the sentence of the finding about a phenomenon, beside the serial verdict.
 #[tactic(auto, unfolding(crate::specs::Sentences::finding_sentence))]
 pub fn put_finding_sentence(
     alloc: Global,
@@ -95,7 +95,7 @@ pub fn put_finding_sentence(
     put_found_beside(alloc, out, history, phenomenon, &walk, finding)
 }
 
-/// Appends the first sentence of what is found of a phenomenon that is explained by itself.
+/// Appends the first sentence of a finding about a phenomenon that is explained alone.
 #[tactic(auto, unfolding(crate::specs::Sentences::found_sentence))]
 pub fn put_found_sentence(
     out: &mut Vec<u8>,

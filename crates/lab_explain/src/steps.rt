@@ -1,5 +1,5 @@
-//! The sentences of a walk's dependencies. Each function that takes bytes appends to them; after NoMemory, part of what was
-//! to be appended may stand there.
+//! The sentences of a walk's dependencies. Functions that take bytes append; on failure, a part of the text may have
+//! been appended.
 
 ghost use Rattle.std.specs.Prelude.{◌≡◌, ◌++◌, OnOk};
 ghost use Rattle.lab_explain.specs.Lines.{standing};

@@ -21,7 +21,7 @@ const OF_CYCLES: [Phenomenon; 5] = [
     Phenomenon::G2,
 ];
 
-/// A walk as the report prints it. NoMemory where an allocation was refused.
+/// A walk as the report prints it.
 pub fn walk_text(alloc: Global, walk: &[Edge]) -> Result<Vec<u8>, NoMemory>
     ensures { IfOk result (λ text. text.items ≡ walk_text walk.now) }
 {
@@ -30,8 +30,7 @@ pub fn walk_text(alloc: Global, walk: &[Edge]) -> Result<Vec<u8>, NoMemory>
     Ok(text)
 }
 
-/// The walk of a serial verdict as the report prints it; empty where it has none. NoMemory where an allocation was
-/// refused.
+/// The walk of a serial verdict as the report prints it; empty where it has none.
 pub fn serial_walk(alloc: Global, serial: &Serial) -> Result<Vec<u8>, NoMemory>
     ensures { IfOk result (λ text. text.items ≡ serial_walk serial.now) }
 {
@@ -70,8 +69,7 @@ fn first_present(report: &Report, among: &[Phenomenon]) -> Option<Phenomenon>
     None
 }
 
-/// Whether a phenomenon's cycle is that of the serial verdict, which is printed so. NoMemory where an allocation was
-/// refused.
+/// Whether a phenomenon's cycle is that of the serial verdict, which is printed so.
 #[tactic(auto, unfolding(crate::specs::Told::is_verdicts))]
 fn is_verdicts(
     alloc: Global,
@@ -86,8 +84,8 @@ fn is_verdicts(
     Ok(is_same(&walk, of_serial))
 }
 
-/// The phenomenon whose cycle is told beside the serial verdict, whose walk is printed so: the first that is present by a
-/// cycle, where that is another than the verdict's. NoMemory where an allocation was refused.
+/// The phenomenon whose cycle is told beside the serial verdict, whose walk is printed so: the first that is present by
+/// a cycle, where that is another than the verdict's.
 #[tactic(auto, unfolding(crate::specs::Told::told_of))]
 pub fn told_of(
     alloc: Global,

@@ -124,9 +124,8 @@ fn put_read(
     }
 }
 
-/// One line on a file that `read_history` refused with this fault: what was found at the value at fault, and what is wanted
-/// there. Nothing for want of memory.
-/// NoMemory where an allocation was refused.
+/// One line on a file that `read_history` refused with this fault: what was found at the value at fault, and what is
+/// wanted there. Nothing if memory runs out.
 pub fn file_hint(alloc: Global, bytes: &[u8], fault: &FileFault) -> Result<Vec<u8>, NoMemory> {
     let mut out = Vec::new(alloc);
     match fault {

@@ -65,7 +65,7 @@ fn bytes_to(bytes: &[u8], line: usize, column: usize) -> usize {
     before
 }
 
-/// Whether no float holds a number of JSON. NoMemory where an allocation was refused.
+/// Whether no float holds a number of JSON.
 fn is_too_large(alloc: Global, number: &str) -> Result<bool, NoMemory> {
     let is_short = number.len() <= HELD_DIGITS;
     if is_short && !number.bytes().any(|byte| matches!(byte, b'e' | b'E')) {

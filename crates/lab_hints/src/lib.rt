@@ -1,16 +1,16 @@
-//! Hints: what may be said to people of an input that was refused.
+//! Hints for people whose input was refused.
 //!
-//! [`note_script`] shows the faulty line of a script, what was found where and what may stand there, or tells which
-//! sessions begin no transaction; [`note_file`] what was found at the place of a history file that is wrong, and what is
-//! wanted there; [`note_rule`] which rule a play didn't keep. [`note_named_file`] says the same of one of many files, behind its
-//! name, and [`note_unopened`] and [`note_unread`] why there is none. [`note_newer_rows`] tells a cause of a record's fault,
-//! and [`note_words`] what to type in place of words that a subcommand refuses. They are called once the answer is written,
-//! read the input again, and look themselves for the rest: in a script along a table of the grammar's forms, in a file in the
-//! value that it has or in its tokens.
+//! [`note_script`] shows the faulty line of a script, the token there and what may be there instead, or names the
+//! sessions that begin no transaction. [`note_file`] shows the wrong value of a history file and what is expected
+//! there. [`note_rule`] names the rule that a play broke. [`note_named_file`] does the same for one of many files,
+//! after its name; [`note_unopened`] and [`note_unread`] report why a file can't be used. [`note_newer_rows`] names a
+//! possible cause of a fault in a recorded history, and [`note_words`] suggests arguments instead of refused ones. Call
+//! them after the output is written. They read the input again, and find the details themselves: in a script with a
+//! table of the grammar's forms, in a file in its value or its tokens.
 //!
-//! The texts aren't promised: no contract speaks of them, and they may change from version to version. A hint that finds
-//! less than the fault tells says what the fault's kind says by itself. Each call returns. Want of memory, and a write that
-//! fails, are let go. What is shown of an input is printed ASCII, and short.
+//! The texts aren't promised: no contract mentions them, and they may change between versions. A hint that finds less
+//! than the fault says describes the kind of fault. Each call returns. If memory runs out or a write fails, the hint is
+//! dropped. Excerpts of an input are short, and in printable ASCII.
 #![tactic(auto)]
 
 mod byte;

@@ -1,4 +1,4 @@
-//! How much of something a history may have, and how much a file has.
+//! The limits of histories and of their files.
 
 use crate::rows::{Names, count_entries, count_operations, items_at};
 use crate::text::{Part, put};
@@ -20,7 +20,7 @@ fn put_count(out: &mut Vec<u8>, count: usize, limit: &str) -> Result<(), NoMemor
     )
 }
 
-/// What a history may have at most.
+/// Returns the limit of a history in words.
 pub fn limit_rule(which: Limit) -> &'static str {
     match which {
         Limit::Bytes => "a history file has at most 8,388,608 bytes",

@@ -1,4 +1,4 @@
-//! Writing hints behind an answer.
+//! Writes hints after the output.
 
 use crate::file::file_hint;
 use crate::play::{long_file_hint, rule_hint};
@@ -33,8 +33,8 @@ fn hint_of_script(alloc: Global, input: &[u8]) -> Result<Vec<u8>, NoMemory> {
     }
 }
 
-/// Writes what there is to say of a script beside its transcript: on its fault where it was refused, or that a session
-/// begins no transaction.
+/// Writes hints on a script beside its transcript: on its fault if it was refused, or that a session begins no
+/// transaction.
 pub fn note_script<N: Write>(alloc: Global, input: &[u8], is_refused: bool, notes: &mut N) {
     if is_refused {
         put_hint(notes, hint_of_script(alloc, input));
@@ -54,8 +54,8 @@ fn hint_of_refused_play(alloc: Global, input: &[u8]) -> Result<Vec<u8>, NoMemory
     }
 }
 
-/// Writes what there is to say beside the answer of a play that keeps the rules: on the fault of its script or of its
-/// history's file, or that no transaction begins in it.
+/// Writes hints on a play that keeps the rules: on the fault of its script or of its history's file, or that no
+/// transaction begins in it.
 pub fn note_play<N: Write>(alloc: Global, input: &[u8], is_refused: bool, notes: &mut N) {
     if is_refused {
         put_hint(notes, hint_of_refused_play(alloc, input));
@@ -64,12 +64,12 @@ pub fn note_play<N: Write>(alloc: Global, input: &[u8], is_refused: bool, notes:
     }
 }
 
-/// Writes which rule a play, or a session of it, didn't keep.
+/// Writes which rule a play, or one of its sessions, broke.
 pub fn note_rule<N: Write>(alloc: Global, session: Option<Session>, rule: &str, notes: &mut N) {
     put_hint(notes, rule_hint(alloc, session, rule));
 }
 
-/// Writes a hint on the fault that a history file was refused with. Writes nothing if it wasn't refused.
+/// Writes a hint on the fault of a history file. Writes nothing if the file wasn't refused.
 pub fn note_file<N: Write>(alloc: Global, input: &[u8], fault: Option<FileFault>, notes: &mut N) {
     if let Some(fault) = fault {
         put_hint(notes, file_hint(alloc, input, &fault));
@@ -96,7 +96,7 @@ fn hint_of_named_file(
     named(alloc, name, &file_hint(alloc, bytes, fault)?)
 }
 
-/// Writes a history file's name and a hint on the fault that it was refused with.
+/// Writes the name of a history file, and a hint on its fault.
 pub fn note_named_file<N: Write>(
     alloc: Global,
     name: &str,
@@ -112,12 +112,12 @@ fn hint_of_unopened(alloc: Global, name: &str, error: &Error) -> Result<Vec<u8>,
     named(alloc, name, why.as_bytes())
 }
 
-/// Writes behind a file's name why it can't be opened.
+/// Writes the name of a file, and why it can't be opened.
 pub fn note_unopened<N: Write>(alloc: Global, name: &str, error: &Error, notes: &mut N) {
     put_hint(notes, hint_of_unopened(alloc, name, error));
 }
 
-/// Writes behind a file's name that it can't be read.
+/// Writes the name of a file, and that it can't be read.
 pub fn note_unread<N: Write>(alloc: Global, name: &str, notes: &mut N) {
     put_hint(notes, named(alloc, name, b"a read failed\n"));
 }
@@ -127,7 +127,8 @@ const NEWER_ROWS: &[u8] =
     b"or a view is of its transaction's snapshot, and the update or the delete behind it read newer \
 rows, as at repeatable read of MariaDB and MySQL\n";
 
-/// Writes that a fault of a record may come of an update or a delete that read newer rows than its transaction's snapshot.
+/// Writes that the fault of a recorded history can be due to an update or a delete that read newer rows than its
+/// transaction's snapshot.
 pub fn note_newer_rows<N: Write>(notes: &mut N) {
     let _ = notes.write_all(NEWER_ROWS);
     let _ = notes.flush();

@@ -6,7 +6,7 @@ use lab_history::Limit;
 use lab_table::{NoMemory, Session};
 use std::alloc::Global;
 
-/// One line on a history whose file would be too long. NoMemory where an allocation was refused.
+/// One line on a history whose file would be too long.
 pub fn long_file_hint(alloc: Global) -> Result<Vec<u8>, NoMemory> {
     text_of(
         alloc,
@@ -15,7 +15,6 @@ pub fn long_file_hint(alloc: Global) -> Result<Vec<u8>, NoMemory> {
 }
 
 /// One line on a play that has no recording: the rule that it, or this session, didn't keep.
-/// NoMemory where an allocation was refused.
 pub fn rule_hint(alloc: Global, session: Option<Session>, rule: &str) -> Result<Vec<u8>, NoMemory> {
     match session {
         None => text_of(alloc, &[Part::Say(rule), Part::Say("\n")]),

@@ -50,7 +50,7 @@ pub struct Names {
 }
 
 impl Names {
-    /// Those of a file. NoMemory where an allocation was refused.
+    /// Those of a file.
     pub fn of(alloc: Global, json: &Json) -> Result<Names, NoMemory> {
         let mut names = Names {
             rows: Vec::new(alloc),

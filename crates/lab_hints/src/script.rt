@@ -73,9 +73,8 @@ fn line_hint(
     Ok(out)
 }
 
-/// Two lines on a script that `parse_script` refused with this fault: the faulty line, and what was found where and what
-/// may stand there. One line for a text without a setup, and nothing for want of memory.
-/// NoMemory where an allocation was refused.
+/// Two lines on a script that `parse_script` refused with this fault: the faulty line, and what was found where and
+/// what may stand there. One line for a text without a setup, and nothing if memory runs out.
 pub fn script_hint(alloc: Global, text: &[u8], fault: &ScriptFault) -> Result<Vec<u8>, NoMemory> {
     match fault {
         ScriptFault::NoMemory => Ok(Vec::new(alloc)),

@@ -91,7 +91,6 @@ fn put_left_out(out: &mut Vec<u8>, lines: &[Line]) -> Result<(), NoMemory> {
 }
 
 /// One line on a script that was played, if no transaction begins in it.
-/// NoMemory where an allocation was refused.
 pub fn silent_play_hint(alloc: Global, input: &[u8]) -> Result<Vec<u8>, NoMemory> {
     if input.lines().any(|line| begins(line)) {
         return Ok(Vec::new(alloc));
@@ -103,7 +102,6 @@ pub fn silent_play_hint(alloc: Global, input: &[u8]) -> Result<Vec<u8>, NoMemory
 }
 
 /// One line on a script whose transactions were run one after another, if none begins in it, or a session begins none.
-/// NoMemory where an allocation was refused.
 pub fn left_out_hint(alloc: Global, input: &[u8]) -> Result<Vec<u8>, NoMemory> {
     let mut text = Vec::new(alloc);
     if !may_leave_out(input) {

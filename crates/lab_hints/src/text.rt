@@ -22,14 +22,14 @@ pub enum Part<'a> {
     Shown(&'a [u8]),
 }
 
-/// The text that parts make; NoMemory where an allocation was refused.
+/// The text that parts make.
 pub fn text_of(alloc: Global, parts: &[Part<'_>]) -> Result<Vec<u8>, NoMemory> {
     let mut text = Vec::new(alloc);
     put(&mut text, parts)?;
     Ok(text)
 }
 
-/// Appends parts. NoMemory where an allocation was refused, and then some of them may stand there.
+/// Appends parts. On failure, a part of the text may have been appended.
 pub fn put(out: &mut Vec<u8>, parts: &[Part<'_>]) -> Result<(), NoMemory> {
     for part in parts {
         put_part(out, *part)?;

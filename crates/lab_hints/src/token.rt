@@ -89,7 +89,7 @@ fn more_bytes(first: u8, after: &[u8]) -> usize
     }
 }
 
-/// The tokens of a line's code; NoMemory where an allocation was refused.
+/// The tokens of a line's code.
 pub fn tokens_of<'a>(alloc: Global, code: &'a [u8]) -> Result<Vec<Token<'a>>, NoMemory> {
     let mut tokens = Vec::new(alloc);
     let mut rest = code;

@@ -138,7 +138,6 @@ impl Walk {
     }
 
     /// Reads a line's code from a place on, and answers where that stopped; None where all of it was read.
-    /// NoMemory where an allocation was refused.
     pub fn read<'a>(
         &mut self,
         alloc: Global,

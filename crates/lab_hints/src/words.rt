@@ -1,4 +1,4 @@
-//! What to type in place of words that a subcommand refuses.
+//! Suggestions instead of arguments that a subcommand refuses.
 
 use crate::quoted::{is_typed, put_quoted};
 use lab_table::NoMemory;
@@ -8,7 +8,7 @@ use std::io::Write;
 /// The most bytes of a line that is to be typed.
 const MAX_LINE: usize = 1_000;
 
-/// What the options of subcommands may name.
+/// The names that options of subcommands accept.
 #[derive(Clone, Copy)]
 pub struct Choices<'a> {
     pub engines: &'a [&'a str],
@@ -180,7 +180,7 @@ fn reads_input(subcommand: &str) -> bool {
         || takes_phenomenon(subcommand)
 }
 
-/// What the words behind a subcommand come to. NoMemory where an allocation was refused.
+/// What the words behind a subcommand come to.
 fn meaning_of<'a>(
     alloc: Global,
     subcommand: &str,
@@ -305,8 +305,8 @@ fn words_hint(alloc: Global, given: &[String], choices: Choices<'_>) -> Result<V
     Ok(out)
 }
 
-/// Writes what to type in place of the words that the program was given, its name first, where a subcommand that reads
-/// standard input refuses them. What fails is let go.
+/// Writes what to type instead of the arguments `given`, the program's name first, if a subcommand that reads standard
+/// input refuses them. Ignores failures.
 pub fn note_words<N: Write>(alloc: Global, given: &[String], choices: Choices<'_>, notes: &mut N) {
     if let Ok(text) = words_hint(alloc, given, choices) {
         let _ = notes.write_all(text.as_slice());

@@ -39,7 +39,7 @@ abbrev pub ops_checked : ℕ → ℕ → ℕ → List Op → Result ⊤ FileFaul
 ops_checked txn by index [] = Ok tt
 ops_checked txn by index (op ∷ ops) = op_checked txn by index op >>= λ _. ops_checked txn by (index + 1) ops
 
--- a transaction behind others
+-- a transaction after others
 abbrev pub txn_checked : List Txn → ℕ → Txn → Result ⊤ FileFault
 txn_checked before index t =
     refused_if (list_any (λ m. m.no == t.no) before) (fault.RepeatedTxn t.no) >>= λ _.

@@ -1,4 +1,4 @@
-//! Histories from their parts.
+//! Builds histories from their parts, and checks limits and rules.
 
 ghost use Rattle.std.specs.Prelude.{◌≡◌, ◌≢◌, ◌⊎◌, ◌<◌, ◌≤◌, [], length, Ok, Err, IfOk, IfErr};
 ghost use Rattle.lab_history.specs.HistoryRules.{Keeps};
@@ -24,8 +24,8 @@ use std::alloc::Global;
 use std::collections::BTreeSet;
 
 impl History {
-    /// The history of these parts, or their first fault in the order of a file's walk, with the parts.
-    /// NoMemory, where an allocation was refused, may come in place of any other answer.
+    /// Returns the history of these parts. Fails with the first fault, in the order in which a file is checked, and
+    /// returns the parts with it. `NoMemory` can take the place of any other result.
     pub fn from_parts(alloc: Global, parts: Parts) -> Result<History, (Parts, FileFault)>
         ensures found { IfOk result (λ history. (history ≡ parts) × (checked parts ≡ Ok tt)) }
         ensures back { IfErr result (λ refused. refused.0 ≡ parts) }
@@ -45,9 +45,9 @@ impl History {
         }
     }
 
-    /// The history of these parts, or the first of the limits on tables, rows and entries that they break. All else that
-    /// a history keeps has to be known of them, as it is of what is read of a file. NoMemory, where an allocation was
-    /// refused, may come in place of any other answer.
+    /// Returns the history of these parts, or the first limit on tables, rows or entries that they exceed. The caller
+    /// must know the other rules of a history to hold, as the reader of files does. `NoMemory` can take the place of
+    /// any other result.
     pub fn within_limits(alloc: Global, parts: Parts) -> Result<History, FileFault>
         requires { within_limits parts ≡ Ok tt → Keeps parts }
         ensures { Gives (λ history. history) result (limited parts) }

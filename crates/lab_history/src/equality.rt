@@ -1,4 +1,4 @@
-//! Whether what operations saw, listed and wrote is the same.
+//! Equality of views, listed rows and writes.
 
 ghost use Rattle.std.specs.Prelude.{◌≡◌, ◌↔◌, IsTrue};
 ghost use Rattle.std.specs.Bool.{Decides};
@@ -9,7 +9,7 @@ use lab_table::RowName;
 impl View {
     ghost use Rattle.std.specs.Prelude.{◌≡◌, ◌↔◌, IsTrue};
 
-    /// Whether the other view has the same rows at the same versions.
+    /// Returns whether both views list the same rows at the same versions.
     pub fn equals(&self, other: &View) -> bool
         ensures { IsTrue result ↔ (self.now ≡ other.now) }
     {
@@ -20,7 +20,7 @@ impl View {
 impl Rows {
     ghost use Rattle.std.specs.Prelude.{◌≡◌, ◌↔◌, IsTrue};
 
-    /// Whether the other list has the same rows with the same values.
+    /// Returns whether both lists have the same rows with the same values.
     pub fn equals(&self, other: &Rows) -> bool
         ensures { IsTrue result ↔ (self.now ≡ other.now) }
     {
@@ -31,7 +31,7 @@ impl Rows {
 impl Writes {
     ghost use Rattle.std.specs.Prelude.{◌≡◌, ◌↔◌, IsTrue};
 
-    /// Whether the other list has the same rows with the same new states.
+    /// Returns whether both lists have the same rows with the same new states.
     pub fn equals(&self, other: &Writes) -> bool
         ensures { IsTrue result ↔ (self.now ≡ other.now) }
     {

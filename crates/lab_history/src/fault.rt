@@ -1,11 +1,11 @@
-//! Why there is no history.
+//! Why a file or parts are no history.
 
 use crate::path::Path;
 use lab_table::TxnNo;
 use std::alloc::{AllocError, AllocFailed};
 use thiserror::Error;
 
-/// What a history or its file has too many of.
+/// The limits of histories and of their files.
 #[derive(Clone, Copy, Debug, PartialEq, Eq)]
 pub enum Limit {
     /// A file has at most 8,388,608 bytes.
@@ -28,7 +28,7 @@ impl Limit {
     ghost use Rattle.std.specs.Prelude.{◌≡◌};
     ghost use Rattle.lab_history.specs.LimitName.{limit_name};
 
-    /// What there is too much of, as a printed fault has it.
+    /// Returns the name of the limit, as printed faults spell it.
     pub fn name(self) -> &'static str
         ensures { result.now ≡ limit_name self }
     {
@@ -47,28 +47,29 @@ impl Limit {
 /// Why a file or parts are no history.
 #[derive(Clone, Copy, Debug, PartialEq, Eq, Error)]
 pub enum FileFault {
-    /// An allocation was refused.
+    /// An allocation failed.
     #[error("no memory")]
     NoMemory,
     /// The bytes are no JSON text.
     #[error("the file is no JSON text")]
     NotJson,
-    /// The innermost value that isn't of the format; where a key is missing or too many, their object.
+    /// A value isn't of the format: the innermost one, or the object if a key is missing or extra.
     #[error("a value is not of the format")]
     WrongFormat { path: Path },
-    /// The file's version is another than 1 and 2.
+    /// The file's version is neither 1 nor 2.
     #[error("version {number} of the format is not known")]
     WrongVersion { number: u64 },
     /// An earlier transaction has the same number.
     #[error("a transaction's number comes twice")]
     RepeatedTxn { no: TxnNo },
-    /// The statement of an operation, counted from 1 within its transaction, isn't read, or doesn't print.
+    /// The statement of an operation can't be parsed or printed. Operations are counted from 1 within their
+    /// transaction.
     #[error("a statement is not read")]
     BadStatement { txn: TxnNo, op: u32 },
-    /// A list's rows don't rise strictly.
+    /// The rows of a list don't ascend strictly.
     #[error("the rows of a list do not rise")]
     Unsorted { path: Path },
-    /// There is too much of something.
+    /// A limit is exceeded.
     #[error("there is too much of something")]
     OverLimit { which: Limit },
 }

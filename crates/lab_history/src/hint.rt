@@ -1,10 +1,9 @@
-//! Where look-ups that follow each other are likely to find what they look for.
+//! Hints for consecutive look-ups.
 
-/// Where a look-up found its entry, and how far that was from the entry of an earlier one.
-///
-/// Most look-ups ask for what stands right behind the last answer, as the same transaction's next row does, or as far
-/// from it as that did from the one before, as the next transaction's same row does. A hint is handed from each look-up
-/// to the next, and each leaves in it what it found. What it says is only tried: it changes no answer.
+/// The position of the last look-up's result, and its distance from the one before. Most look-ups ask for the next
+/// position, such as the next row of the same transaction, or for the same distance again, such as the same row of the
+/// next transaction. Pass one hint to consecutive look-ups; each updates it. A hint changes no result, only the time
+/// that a look-up takes.
 #[derive(Clone, Copy, Debug)]
 pub struct Hint {
     place: usize,
@@ -12,7 +11,7 @@ pub struct Hint {
 }
 
 impl Hint {
-    /// The hint for the first of the look-ups.
+    /// Returns the hint for the first look-up.
     pub fn new() -> Hint {
         Hint {
             place: 0,

@@ -1,4 +1,4 @@
-//! Histories.
+//! The type of histories.
 
 ghost use Rattle.std.specs.Prelude.{◌≡◌, IfOk, IfErr};
 ghost use Rattle.lab_history.specs.Index.{IsIndexOf};
@@ -11,11 +11,14 @@ use lab_table::Table;
 use std::alloc::Global;
 use std::marker::Model;
 
-/// What transactions did to a table: the table before, the transactions, who installed each row, and the table after.
-///
-/// A history keeps its limits: at most 1,000 transactions, 10,000 operations, 1,000 different ids over all lists and
-/// 200,000 entries of views, rows and writes together; different transaction numbers; statements that print; views
-/// that list versions by operations from 1 to 10,000; and no empty list of installers.
+/// What transactions did to a table: the table before, the transactions, the installers of each row, and the table
+/// after. A history keeps these limits and rules:
+/// - at most 1,000 transactions, 10,000 operations, 1,000 different ids in all lists, and 200,000 entries of views,
+///   rows and writes together
+/// - different transaction numbers
+/// - statements that can be printed
+/// - views that list versions by operations from 1 to 10,000
+/// - no empty list of installers
 #[derive(Drop)]
 pub struct History {
     parts: Parts,
@@ -50,7 +53,7 @@ impl History {
         }
     }
 
-    /// Its parts.
+    /// Returns the parts of the history.
     pub fn parts(&self) -> &Parts
         ensures value { result.now ≡ self.now }
         ensures keeps { Keeps self.now }
@@ -65,14 +68,15 @@ impl History {
         &self.index
     }
 
-    /// The table before the first transaction.
+    /// Returns the table before the first transaction.
     pub fn initial(&self) -> &Table
         ensures { result.now ≡ self.now.initial }
     {
         &self.parts.initial
     }
 
-    /// The transactions, in the order of the file. No two have one number, and there are no more operations than the limit.
+    /// Returns the transactions, in the order of the file. Their numbers differ, and they have at most 10,000
+    /// operations together.
     pub fn txns(&self) -> &Txns
         ensures value { result.now ≡ self.now.txns }
         ensures keeps { Keeps self.now }
@@ -80,14 +84,14 @@ impl History {
         &self.parts.txns
     }
 
-    /// The transactions that installed each row.
+    /// Returns the transactions that installed each row.
     pub fn installed(&self) -> &Installed
         ensures { result.now ≡ self.now.installed }
     {
         &self.parts.installed
     }
 
-    /// The table in the end.
+    /// Returns the final table.
     pub fn end_table(&self) -> &Table
         ensures { result.now ≡ self.now.end_table }
     {

@@ -26,7 +26,7 @@ pub struct Index {
 }
 
 impl Index {
-    /// The index of these parts; NoMemory where an allocation was refused.
+    /// The index of these parts.
     pub fn of(alloc: Global, parts: &Parts) -> Result<Index, NoMemory>
         requires { Keeps parts.now }
         ensures { IfOk result (λ index. IsIndexOf index parts.now) }

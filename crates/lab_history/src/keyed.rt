@@ -31,7 +31,7 @@ impl<K: Ord + Copy, V: Copy> Model for Keyed<K, V> {
 }
 
 impl<K: Ord + Copy, V: Copy> Keyed<K, V> {
-    /// The values of these entries by their keys; NoMemory where an allocation was refused.
+    /// The values of these entries by their keys.
     pub fn new(entries: Vec<(K, V)>) -> Result<Keyed<K, V>, NoMemory>
         ensures { IfOk result (λ keyed. (key : K) → value_at K.cmp keyed key ≡ value_at K.cmp entries.items key) }
     {

@@ -1,20 +1,21 @@
 //! Histories: what transactions saw and wrote, and in which order their writes were installed.
 //!
-//! A [`History`] has a table to begin with, transactions with their operations, the order in which the versions of each
-//! row were installed, and the table in the end. It is made from its [`Parts`] by `History::from_parts`, and keeps the
-//! limits and the rules of its file; whether it is sound, or serializable, isn't looked at here. Files are read and
-//! written by `lab_history_file`.
+//! A [`History`] has an initial table, transactions with their operations, the order in which the versions of each row
+//! were installed, and a final table. `History::from_parts` builds it from its [`Parts`] and checks the limits and
+//! rules of the file format. It doesn't check whether the history is sound or serializable. `lab_history_file` reads
+//! and writes files.
 //!
-//! A version of a row is named by the operation that wrote it ([`VersionName`]). `History::version_state` answers what
-//! a version is, `last_write` a transaction's last operation that wrote a row, and `installer_place` the place of a
-//! transaction among those that installed a row; each is found by halving. `last_write_near` and `installer_place_near`
-//! answer the same, and are told by a [`Hint`] where to look first.
+//! A version of a row is named by the operation that wrote it ([`VersionName`]). `History::version_state` returns the
+//! state of a version, `last_write` a transaction's last operation that wrote a row, and `installer_place` the position
+//! of a transaction among the installers of a row. These use binary search. `last_write_near` and
+//! `installer_place_near` return the same, and try the position of a [`Hint`] first.
 //!
-//! Parts that are refused name their first fault, a [`FileFault`], whose [`Path`] leads to the value of their file that
-//! is wrong. Want of memory may come in place of any other answer, and leaves parts as they were.
+//! `History::from_parts` fails with the first fault of the parts, a [`FileFault`], whose [`Path`] leads to the wrong
+//! value of the file. Functions that allocate fail with `NoMemory` if an allocation fails; this can take the place of
+//! any other result.
 //!
-//! The reader of files goes by [`follows`], and makes its history by `History::within_limits`, which looks at nothing that
-//! the reader has looked at.
+//! The reader of files checks the order of rows with [`follows`], and builds its history with `History::within_limits`,
+//! which doesn't check again what the reader has checked.
 #![tactic(auto)]
 
 mod checking;

@@ -1,5 +1,4 @@
-//! Look-ups in a history: transactions by their numbers, versions, last writes and installers. They take no memory,
-//! and find what they look for by halving.
+//! Look-ups of transactions, versions, last writes and installers. They use binary search, and allocate nothing.
 
 ghost use Rattle.std.specs.Prelude.{◌≡◌, option_map};
 ghost use Rattle.std.specs.Option.{option_copied};
@@ -15,7 +14,7 @@ use crate::txn_row::TxnRow;
 use lab_table::{RowName, TxnNo};
 
 impl History {
-    /// The transaction with this number, if there is one.
+    /// Returns the transaction with this number, or `None` if there is none.
     pub fn txn(&self, number: TxnNo) -> Option<&Txn>
         ensures { option_copied result ≡ find_txn self.now.txns number }
     {
@@ -23,8 +22,8 @@ impl History {
         self.txns().as_slice().get(place)
     }
 
-    /// What a version of a row is, or None where there is no such version. The initial version of a row that the
-    /// initial table lacks is absent.
+    /// Returns the state of a version of a row, or `None` if there is no such version. The initial version of a row
+    /// that the initial table lacks is absent.
     pub fn version_state(&self, row: RowName, version: VersionName) -> Option<State>
         ensures { option_map state_value result ≡ version_state self.now row version }
     {
@@ -34,22 +33,23 @@ impl History {
         }
     }
 
-    /// The number of a transaction's last operation that writes a row, or None where none does.
+    /// Returns the number of the transaction's last operation that writes the row, or `None` if none does.
     pub fn last_write(&self, txn: TxnNo, row: RowName) -> Option<u32>
         ensures { result ≡ last_write (ops_of self.now txn) row }
     {
         self.index().last_writes.get(TxnRow { txn, row })
     }
 
-    /// The place of a transaction among the installers of a row, counted from 1, or None where it isn't among them.
+    /// Returns the position of a transaction among the installers of a row, counted from 1, or `None` if it isn't one
+    /// of them.
     pub fn installer_place(&self, row: RowName, txn: TxnNo) -> Option<usize>
         ensures { result ≡ place_in (installers self.now row) txn }
     {
         self.index().places.get(TxnRow { txn, row })
     }
 
-    /// What `last_write` answers. It is found without halving where look-ups come in runs, of rising rows of one
-    /// transaction or of one row of transactions that follow each other, each with the hint that the one before left.
+    /// Returns the same as `last_write`. It needs no binary search if consecutive look-ups go through ascending rows of
+    /// one transaction, or through one row of consecutive transactions, and pass on the hint.
     #[inline(always)]
     pub fn last_write_near(&self, txn: TxnNo, row: RowName, hint: &mut Hint) -> Option<u32>
         ensures { result ≡ last_write (ops_of self.now txn) row }
@@ -57,8 +57,8 @@ impl History {
         self.index().last_writes.get_near(TxnRow { txn, row }, hint)
     }
 
-    /// What `installer_place` answers. It is found without halving where look-ups come in runs, of rising rows of one
-    /// transaction or of one row of transactions that follow each other, each with the hint that the one before left.
+    /// Returns the same as `installer_place`. It needs no binary search if consecutive look-ups go through ascending
+    /// rows of one transaction, or through one row of consecutive transactions, and pass on the hint.
     #[inline(always)]
     pub fn installer_place_near(&self, row: RowName, txn: TxnNo, hint: &mut Hint) -> Option<usize>
         ensures { result ≡ place_in (installers self.now row) txn }

@@ -1,4 +1,4 @@
-//! Operations, with what they saw and wrote.
+//! Operations, with the versions they saw and the rows they listed and wrote.
 
 ghost use Rattle.std.specs.Prelude.{◌≡◌, ◌↔◌, T, IsOk, IfOk, IfErr, option_map};
 ghost use Rattle.std.specs.FinMap as map;
@@ -10,7 +10,7 @@ use lab_table::{ByRow, NoMemory, RowName, Sequence, Statement, TxnNo, Value, val
 use std::alloc::Global;
 use std::marker::Model;
 
-/// Which version of a row: the one of the initial table, or what an operation of a transaction wrote.
+/// The name of a version of a row: the initial version, or the version that an operation of a transaction wrote.
 /// Operations are counted from 1 within their transaction.
 #[derive(Clone, Copy, Debug, PartialEq, Eq)]
 pub enum VersionName {
@@ -18,14 +18,15 @@ pub enum VersionName {
     Of { txn: TxnNo, op: u32 },
 }
 
-/// What a version of a row is: no row, or a value.
+/// The state of a version of a row: absent, or a value.
 #[derive(Clone, Copy, Debug, PartialEq, Eq)]
 pub enum State {
     Absent,
     Present(Value),
 }
 
-/// The versions that an operation saw, by rising row. A row that isn't listed was seen at its initial version.
+/// The versions that an operation saw, in ascending order of rows. A row that isn't listed was seen at its initial
+/// version.
 #[derive(Drop)]
 pub struct View {
     by_row: ByRow<VersionName>,
@@ -44,7 +45,7 @@ impl Model for View {
     ghost view = { λ v. v.by_row };
 }
 
-/// Rows with their values, by rising row.
+/// Rows with their values, in ascending order of rows.
 #[derive(Drop)]
 pub struct Rows {
     by_row: ByRow<Value>,
@@ -63,7 +64,7 @@ impl Model for Rows {
     ghost view = { λ r. r.by_row };
 }
 
-/// The rows that an operation wrote with their new states, by rising row.
+/// The rows that an operation wrote with their new states, in ascending order of rows.
 #[derive(Drop)]
 pub struct Writes {
     entries: Vec<(RowName, State)>,
@@ -86,7 +87,7 @@ impl Model for Writes {
     ghost invariant = { λ w. T (map.is_sorted row_cmp (new_states w.entries.items)) };
 }
 
-/// A statement that ran, with what it saw, listed and wrote.
+/// A statement that ran, with the versions it saw and the rows it listed and wrote.
 #[derive(Drop)]
 pub struct Op {
     pub statement: Statement,
@@ -99,7 +100,7 @@ pub struct Op {
 pub type Ops = Sequence<Op>;
 
 impl View {
-    /// The view that lists these versions, whose rows rise strictly.
+    /// Returns the view with these entries, whose rows must ascend strictly.
     pub fn new(entries: Vec<(RowName, VersionName)>) -> View
         requires { T (map.is_sorted row_cmp entries.items) }
         ensures { result ≡ map.from_sorted entries.items }
@@ -109,7 +110,8 @@ impl View {
         }
     }
 
-    /// The view that lists these versions, or the entries back where their rows don't rise strictly. It takes no memory.
+    /// Returns the view with these entries. If their rows don't ascend strictly, fails and returns the entries.
+    /// Allocates nothing.
     pub fn from_entries(
         entries: Vec<(RowName, VersionName)>,
     ) -> Result<View, Vec<(RowName, VersionName)>>
@@ -124,21 +126,21 @@ impl View {
         }
     }
 
-    /// The entries, by rising row.
+    /// Returns the entries, in ascending order of rows.
     pub fn entries(&self) -> &[(RowName, VersionName)]
         ensures { result.now ≡ map.entries self.now }
     {
         self.by_row.entries()
     }
 
-    /// The version that is listed for a row, if one is.
+    /// Returns the version that the view lists for `row`, or `None` if it lists none.
     pub fn get(&self, row: RowName) -> Option<VersionName>
         ensures { result ≡ map.get self.now row }
     {
         self.by_row.get(row)
     }
 
-    /// A copy; NoMemory where an allocation was refused.
+    /// Returns a copy.
     pub fn copy(&self, alloc: Global) -> Result<View, NoMemory>
         ensures { IfOk result (λ copy. copy ≡ self.now) }
     {
@@ -149,7 +151,7 @@ impl View {
 }
 
 impl Rows {
-    /// The rows of these entries, which rise strictly.
+    /// Returns the list with these entries, whose rows must ascend strictly.
     pub fn new(entries: Vec<(RowName, Value)>) -> Rows
         requires { T (map.is_sorted row_cmp entries.items) }
         ensures { result ≡ map.from_sorted entries.items }
@@ -159,7 +161,8 @@ impl Rows {
         }
     }
 
-    /// The rows of these entries, or the entries back where their rows don't rise strictly. It takes no memory.
+    /// Returns the list with these entries. If their rows don't ascend strictly, fails and returns the entries.
+    /// Allocates nothing.
     pub fn from_entries(entries: Vec<(RowName, Value)>) -> Result<Rows, Vec<(RowName, Value)>>
         ensures found { IfOk result (λ made. made ≡ map.from_sorted entries.items) }
         ensures only { IsOk result ↔ T (map.is_sorted row_cmp entries.items) }
@@ -172,21 +175,21 @@ impl Rows {
         }
     }
 
-    /// The entries, by rising row.
+    /// Returns the entries, in ascending order of rows.
     pub fn entries(&self) -> &[(RowName, Value)]
         ensures { result.now ≡ map.entries self.now }
     {
         self.by_row.entries()
     }
 
-    /// A row's value, if the row is listed.
+    /// Returns the value of `row`, or `None` if the row isn't listed.
     pub fn get(&self, row: RowName) -> Option<Value>
         ensures { result ≡ map.get self.now row }
     {
         self.by_row.get(row)
     }
 
-    /// A copy; NoMemory where an allocation was refused.
+    /// Returns a copy.
     pub fn copy(&self, alloc: Global) -> Result<Rows, NoMemory>
         ensures { IfOk result (λ copy. copy ≡ self.now) }
     {
@@ -197,7 +200,7 @@ impl Rows {
 }
 
 impl Writes {
-    /// The writes of these new states, whose rows rise strictly.
+    /// Returns the writes with these entries, whose rows must ascend strictly.
     pub fn new(entries: Vec<(RowName, State)>) -> Writes
         requires { T (map.is_sorted row_cmp (new_states entries.items)) }
         ensures { result ≡ map.from_sorted (new_states entries.items) }
@@ -205,7 +208,8 @@ impl Writes {
         Writes { entries }
     }
 
-    /// The writes of these new states, or the entries back where their rows don't rise strictly. It takes no memory.
+    /// Returns the writes with these entries. If their rows don't ascend strictly, fails and returns the entries.
+    /// Allocates nothing.
     #[tactic(auto, using(crate::proofs::NewStates::new_states_sorted))]
     pub fn from_entries(entries: Vec<(RowName, State)>) -> Result<Writes, Vec<(RowName, State)>>
         ensures found { IfOk result (λ made. made ≡ map.from_sorted (new_states entries.items)) }
@@ -219,21 +223,21 @@ impl Writes {
         }
     }
 
-    /// The entries, by rising row.
+    /// Returns the entries, in ascending order of rows.
     pub fn entries(&self) -> &[(RowName, State)]
         ensures { new_states result.now ≡ map.entries self.now }
     {
         &self.entries
     }
 
-    /// What is written to a row, if it is written.
+    /// Returns the new state of `row`, or `None` if the row isn't written.
     pub fn get(&self, row: RowName) -> Option<State>
         ensures { option_map state_value result ≡ map.get self.now row }
     {
         value_of(&self.entries, row).copied()
     }
 
-    /// A copy; NoMemory where an allocation was refused.
+    /// Returns a copy.
     pub fn copy(&self, alloc: Global) -> Result<Writes, NoMemory>
         ensures { IfOk result (λ copy. copy ≡ self.now) }
     {
@@ -244,7 +248,7 @@ impl Writes {
 }
 
 impl Op {
-    /// A copy; NoMemory where an allocation was refused.
+    /// Returns a copy.
     pub fn copy(&self, alloc: Global) -> Result<Op, NoMemory>
         ensures { IfOk result (λ copy. copy ≡ self.now) }
     {

@@ -1,4 +1,4 @@
-//! Entries whose rows rise strictly.
+//! Lists whose rows ascend strictly.
 
 ghost use Rattle.std.specs.Prelude.{◌≡◌};
 ghost use Rattle.std.specs.FinMap as map;
@@ -7,7 +7,7 @@ ghost use Rattle.lab_history.specs.RowOrder as rows;
 
 use lab_table::RowName;
 
-/// Whether a row comes after the one before it, if there is one.
+/// Returns whether `row` comes after the row `before`. Without a row before, the result is `true`.
 // Not inlined, so that rows are compared where they stand: else their names are taken apart byte by byte.
 #[inline(never)]
 pub fn follows(before: &Option<RowName>, row: &RowName) -> bool

@@ -12,6 +12,6 @@ pub struct Parts {
     pub txns: Txns,
     /// The transactions that installed each row that was written, in order.
     pub installed: Installed,
-    /// The table in the end.
+    /// The final table.
     pub end_table: Table,
 }

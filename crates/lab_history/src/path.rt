@@ -1,14 +1,14 @@
-//! Places in a history file.
+//! Positions in a history file.
 
-/// A list of a history file whose members begin with a row.
-/// Transactions and their operations are counted from 0, in the order of the file.
+/// A list of a history file whose members begin with a row. Transactions and their operations are counted from 0, in
+/// the order of the file.
 #[derive(Clone, Copy, Debug, PartialEq, Eq)]
 pub enum ListPlace {
     /// The rows of the initial table.
     Initial,
-    /// The rows of the table in the end.
+    /// The rows of the final table.
     End,
-    /// The rows with the transactions that installed them.
+    /// The rows with their installers.
     Installed,
     /// The versions that an operation saw.
     View { txn: usize, op: usize },
@@ -18,7 +18,7 @@ pub enum ListPlace {
     Writes { txn: usize, op: usize },
 }
 
-/// The place of a value in a history file. Members are counted from 0.
+/// The position of a value in a history file. Members are counted from 0.
 #[derive(Clone, Copy, Debug, PartialEq, Eq)]
 pub enum Path {
     /// The whole value.
@@ -40,7 +40,8 @@ pub enum Path {
         index: usize,
         part: usize,
     },
-    /// One of the installers of a row: the member of `installed`, which part of it lists them, and the place there.
+    /// One of the installers of a row: the member of `installed`, the part that lists them, and the position in that
+    /// list.
     Installer {
         index: usize,
         part: usize,
@@ -56,7 +57,7 @@ pub enum Path {
     Number {
         txn: usize,
     },
-    /// How a transaction ended.
+    /// The outcome of a transaction.
     Outcome {
         txn: usize,
     },

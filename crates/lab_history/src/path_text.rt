@@ -1,4 +1,4 @@
-//! Places in a history file, spelled as JSON pointers. After NoMemory, part of a text may stand there.
+//! JSON pointers of positions in a history file. If memory runs out, a part of the text may have been appended.
 
 ghost use Rattle.std.specs.Prelude.{◌≡◌, ◌++◌, IfOk, OnOk};
 ghost use Rattle.lab_history.specs.PathText.{index_text, txn_text, op_text, list_text, path_text};
@@ -12,8 +12,7 @@ use std::alloc::Global;
 const MAX_BYTES: usize = 64;
 
 impl Path {
-    /// The place as a JSON pointer, as `/transactions/0/ops/2/view/1`; the root is `/`.
-    /// NoMemory where an allocation was refused.
+    /// Returns the position as a JSON pointer, such as `/transactions/0/ops/2/view/1`. The root is `/`.
     pub fn print(&self, alloc: Global) -> Result<Vec<u8>, NoMemory>
         ensures { IfOk result (λ text. text.items ≡ path_text self.now) }
     {

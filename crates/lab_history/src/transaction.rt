@@ -1,4 +1,4 @@
-//! Transactions, and who installed which rows.
+//! Transactions, and the installers of rows.
 
 ghost use Rattle.std.specs.Prelude.{◌≡◌, ◌↔◌, T, IsOk, IfOk, IfErr};
 ghost use Rattle.std.specs.Option.{option_copied};
@@ -24,7 +24,7 @@ pub struct Txn {
     pub no: TxnNo,
     /// How it ended.
     pub outcome: Outcome,
-    /// What it ran, in order.
+    /// Its operations, in order.
     pub ops: Ops,
 }
 
@@ -34,7 +34,7 @@ pub type Txns = Sequence<Txn>;
 /// The transactions that installed a row, in order.
 pub type Installers = Sequence<TxnNo>;
 
-/// The transactions that installed each row, by rising row.
+/// The transactions that installed each row, in ascending order of rows.
 #[derive(Drop)]
 pub struct Installed {
     entries: Vec<(RowName, Installers)>,
@@ -56,7 +56,7 @@ impl Model for Installed {
 }
 
 impl Installed {
-    /// The installers of these rows, which rise strictly.
+    /// Returns the installers of these rows, which must ascend strictly.
     pub fn new(entries: Vec<(RowName, Installers)>) -> Installed
         requires { T (map.is_sorted row_cmp entries.items) }
         ensures { result ≡ map.from_sorted entries.items }
@@ -64,7 +64,8 @@ impl Installed {
         Installed { entries }
     }
 
-    /// The installers of these rows, or the entries back where their rows don't rise strictly. It takes no memory.
+    /// Returns the installers of these rows. If the rows don't ascend strictly, fails and returns the entries.
+    /// Allocates nothing.
     pub fn from_entries(
         entries: Vec<(RowName, Installers)>,
     ) -> Result<Installed, Vec<(RowName, Installers)>>
@@ -79,14 +80,14 @@ impl Installed {
         }
     }
 
-    /// The entries, by rising row.
+    /// Returns the entries, in ascending order of rows.
     pub fn entries(&self) -> &[(RowName, Installers)]
         ensures { result.now ≡ map.entries self.now }
     {
         &self.entries
     }
 
-    /// The installers of a row, if it has any.
+    /// Returns the installers of `row`, or `None` if it has none.
     pub fn get(&self, row: RowName) -> Option<&Installers>
         ensures { option_copied result ≡ map.get self.now row }
     {

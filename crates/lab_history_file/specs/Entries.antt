@@ -49,7 +49,7 @@ written_in d = option_map state_value (state_in d)
 
 -- ---- lists
 
--- the items of a list, the first of which has this place behind those before: each is read with those before it
+-- the items of a list, the first of which has this index after those before: each is read with those before it
 abbrev pub items_from : {X : Type 0} → (List X → ℕ → Data → Result X FileFault) → List X → ℕ → Items → Result (List X) FileFault
 items_from read before index no_items = Ok before
 items_from read before index (item d ds) = read before index d >>= λ x. items_from read (before ++ x ∷ []) (index + 1) ds
@@ -62,7 +62,7 @@ last_row [] = None
 last_row (e ∷ []) = Some e.0
 last_row (e ∷ f ∷ es) = last_row (f ∷ es)
 
--- an entry behind others: it is read, and then its row looked at
+-- an entry after others: it is read, and then its row is checked
 abbrev pub placed_in : {X : Type 0} → (ℕ → Data → Result (Row × X) FileFault) → ListPlace → List (Row × X) → ℕ → Data → Result (Row × X) FileFault
 placed_in read place before index d = read index d >>= λ entry. if follows (last_row before) entry.0 then Ok entry else Err (fault.Unsorted (path.List place))
 
@@ -70,7 +70,7 @@ placed_in read place before index d = read index d >>= λ entry. if follows (las
 abbrev pub entries_in : {X : Type 0} → (ℕ → Data → Result (Row × X) FileFault) → ListPlace → Data → Result (List (Row × X)) FileFault
 entries_in read place d = required (path.List place) (as_array d) >>= items_from (placed_in read place) [] 0
 
--- [key, ..]: the row of a member with so many parts behind its key, and what they are read as
+-- [key, ..]: the row of a member with so many parts after its key, and what they are read as
 abbrev pub entry_in : {X : Type 0} → ℕ → (FileVersion → ListPlace → ℕ → Items → Result X FileFault) → FileVersion → ListPlace → ℕ → Data → Result (Row × X) FileFault
 entry_in n read version place index d =
     member_in n version place index (as_array d) >>= λ split.
@@ -88,7 +88,7 @@ version_name_in version place index behind =
     required (path.Part place index (key_parts version + 1)) (option_and_then op_in_number (get_item 1 behind)) >>= λ op.
     Ok (Of txn op)
 
--- an installer of a row behind others; they are a part of a member
+-- an installer of a row after others; they are a part of a member
 abbrev pub installer_in : ℕ → ℕ → List ℕ → ℕ → Data → Result ℕ FileFault
 installer_in index part before at d = required (path.Installer index part at) (txn_in_number d)
 
@@ -98,7 +98,7 @@ installers_of index part None = Err (fault.WrongFormat (path.Part list.Installed
 installers_of index part (Some no_items) = Err (fault.WrongFormat (path.Part list.Installed index part))
 installers_of index part (Some (item d ds)) = items_from (installer_in index part) [] 0 (item d ds)
 
--- the same of the part behind a member's key
+-- the same of the part after a member's key
 abbrev pub installers_in : FileVersion → ListPlace → ℕ → Items → Result (List ℕ) FileFault
 installers_in version place index behind = installers_of index (key_parts version) (option_and_then as_array (get_item 0 behind))
 

@@ -45,7 +45,7 @@ abbrev pub IsKey : FileVersion → Row → List Data → Type 0
 IsKey One row key = (id : Data) × (key ≡ id ∷ []) × (row.table ≡ test_name) × (id_in id ≡ Some row.id)
 IsKey Two row key = (id : Data) × (key ≡ string row.table ∷ id ∷ []) × (is_table_name row.table ≡ true) × (id_in id ≡ Some row.id)
 
--- [key, ..]: the key of a row, and behind it these values
+-- [key, ..]: the key of a row, followed by these values
 abbrev pub BeginsWith : FileVersion → Row → List Data → Data → Type 0
 BeginsWith version row behind d = (key : List Data) × IsKey version row key × (d ≡ array (items_of (key ++ behind)))
 
@@ -93,7 +93,7 @@ IsTransaction version d txn = (number ops : Data)
     × (d ≡ object (member (codes "no") number (member (codes "ops") ops (member (codes "outcome") (string (outcome_text txn.outcome)) no_members))))
     × (txn_in_number number ≡ Some txn.no) × IsListOf (IsOperation version) ops txn.ops
 
--- the parts of the history stand in the value, which says this version
+-- the parts of the history are in the value, which names this version
 pub record HoldsIn (version : FileVersion) (d : Data) (h : History) : Type 0 where
   pub number : Data
   pub initial : Data

@@ -75,7 +75,7 @@ op_in version txn by index d =
     writes_in version (list.Writes txn index) (at_key (codes "writes") d) >>= λ writes.
     Ok (record { statement = statement; view = finite.from_sorted view; rows = finite.from_sorted rows; writes = finite.from_sorted (new_states writes) })
 
--- the same behind others
+-- the same after others
 abbrev pub op_behind : FileVersion → ℕ → ℕ → List Op → ℕ → Data → Result Op FileFault
 op_behind version txn by before index d = op_in version txn by index d
 
@@ -83,7 +83,7 @@ op_behind version txn by before index d = op_in version txn by index d
 abbrev pub outcome_named : List ℕ → Option Outcome
 outcome_named text = if bytes_eq text (codes "committed") then Some Committed else if bytes_eq text (codes "aborted") then Some Aborted else None
 
--- a transaction behind others
+-- a transaction after others
 abbrev pub txn_in : FileVersion → List Txn → ℕ → Data → Result Txn FileFault
 txn_in version before index d =
     keyed (path.Transaction index) txn_keys d >>= λ _.

@@ -101,7 +101,7 @@ full_in place index table id =
     required (path.Part place index 1) (id_in id) >>= λ n.
     Ok (numbered name n)
 
--- the row of a member's key, and the parts behind it
+-- the row of a member's key, and the parts after it
 abbrev pub split_key : FileVersion → ListPlace → ℕ → Items → Result (Row × Items) FileFault
 split_key One place index no_items = Err (fault.WrongFormat (path.Member place index))
 split_key One place index (item id behind) = plain_in place index id >>= λ row. Ok (row, behind)
@@ -109,6 +109,6 @@ split_key Two place index no_items = Err (fault.WrongFormat (path.Member place i
 split_key Two place index (item table no_items) = Err (fault.WrongFormat (path.Member place index))
 split_key Two place index (item table (item id behind)) = full_in place index table id >>= λ row. Ok (row, behind)
 
--- the same of a member that has so many parts behind its key
+-- the same of a member that has so many parts after its key
 abbrev pub member_in : ℕ → FileVersion → ListPlace → ℕ → Option Items → Result (Row × Items) FileFault
 member_in n version place index parts = required (path.Member place index) (sized (key_parts version + n) parts) >>= split_key version place index

@@ -1,4 +1,4 @@
-//! Why a file is no history, as a line. After NoMemory, part of what was to be appended may stand there.
+//! Prints why a file isn't a history. On failure, a part of the text may have been appended.
 
 ghost use Rattle.std.specs.Prelude.{◌≡◌, IfOk};
 ghost use Rattle.lab_judge.specs.FileFaultText.{file_fault_text};
@@ -8,8 +8,8 @@ use lab_history::FileFault;
 use lab_table::NoMemory;
 use std::alloc::Global;
 
-/// The line that tells a fault, as `file: BadStatement T1 op 1` and a newline; nothing for want of memory.
-/// NoMemory where an allocation was refused.
+/// Returns the line that reports a fault, such as `file: BadStatement T1 op 1` and a newline. For `NoMemory` the text
+/// is empty.
 pub fn print_file_fault(alloc: Global, fault: &FileFault) -> Result<Vec<u8>, NoMemory>
     ensures { IfOk result (λ text. text.items ≡ file_fault_text fault.now) }
 {

@@ -55,7 +55,7 @@ pub(crate) fn find_none() -> Findings
 }
 
 /// What is found in any sound history that has these committed transactions and dependencies, of which this is the
-/// graph. NoMemory where an allocation was refused.
+/// graph.
 pub(crate) fn find_walks(
     alloc: Global,
     net: &Dependencies<'_>,
@@ -88,8 +88,7 @@ pub(crate) fn find_walks(
     })
 }
 
-/// What is found in a history that isn't sound, where this fault was answered. NoMemory where an allocation was
-/// refused.
+/// What is found in a history that isn't sound, where this fault was answered.
 ///
 /// Where it is a read of what was never committed, no fault of another kind stands: G0, G1a and G1b are judged.
 pub(crate) fn find_at_fault(
@@ -109,7 +108,7 @@ pub(crate) fn find_at_fault(
 }
 
 /// What is found in a history whose rows are installed by their committed writers and in which somebody reads what was
-/// never committed. NoMemory where an allocation was refused.
+/// never committed.
 fn find_at_read(alloc: Global, history: &History) -> Result<Findings, NoMemory>
     requires installed { (row : Row) → ¬ Stands history.now (fault.InstallOrder row) }
     requires read { ¬ (MeetsPl2 history.now) }
@@ -134,7 +133,7 @@ fn find_at_read(alloc: Global, history: &History) -> Result<Findings, NoMemory>
     })
 }
 
-/// The cycle of write-dependencies, by the rows' lists of installers alone. NoMemory where an allocation was refused.
+/// The cycle of write-dependencies, by the rows' lists of installers alone.
 fn find_listed_circle(alloc: Global, history: &History) -> Result<Finding, NoMemory>
     requires { (row : Row) → ¬ Stands history.now (fault.InstallOrder row) }
     ensures { IfOk result (FindsOne (IsClosedOf history.now is_write) (IsBackWalk history.now is_write)) }

@@ -9,8 +9,7 @@ use lab_deps::{Dependencies, Kinds};
 use lab_order::{Graph, NoMemory};
 use std::alloc::Global;
 
-/// The graph of the nodes with an arrow for each two of which one depends on the other in an allowed way. NoMemory where
-/// an allocation was refused.
+/// The graph of the nodes with an arrow for each two of which one depends on the other in an allowed way.
 pub(crate) fn graph_of(
     alloc: Global,
     net: &Dependencies<'_>,

@@ -47,8 +47,7 @@ impl Joining {
     }
 }
 
-/// Adds an arrow for each two transactions of which one depends on the other in one of these ways. NoMemory where an
-/// allocation was refused.
+/// Adds an arrow for each two transactions of which one depends on the other in one of these ways.
 pub(crate) fn add_arrows(
     alloc: Global,
     graph: &mut Graph,
@@ -64,7 +63,7 @@ pub(crate) fn add_arrows(
     Ok(())
 }
 
-/// Adds the arrows of what depends on the transaction of a node. NoMemory where an allocation was refused.
+/// Adds the arrows of what depends on the transaction of a node.
 fn add_arrows_from(
     alloc: Global,
     graph: &mut Graph,
@@ -85,8 +84,8 @@ fn add_arrows_from(
     Ok(())
 }
 
-/// The same of what is at the places from one on and before another. Where nothing is found to depend there, it is passed
-/// over at once. NoMemory where an allocation was refused.
+/// The same of what is at the places from one on and before another. Where nothing is found to depend there, it is
+/// passed over at once.
 fn add_arrows_between(
     alloc: Global,
     graph: &mut Graph,
@@ -129,7 +128,7 @@ pub(crate) fn add_arrows_among(
     Ok(())
 }
 
-/// Adds the arrows of those on which the transaction of a node depends. NoMemory where an allocation was refused.
+/// Adds the arrows of those on which the transaction of a node depends.
 fn add_arrows_to(
     alloc: Global,
     graph: &mut Graph,
@@ -150,8 +149,7 @@ fn add_arrows_to(
     Ok(())
 }
 
-/// Adds the arrow of two transactions, if the second depends on the first in one of these ways. NoMemory where an
-/// allocation was refused.
+/// Adds the arrow of two transactions, if the second depends on the first in one of these ways.
 #[inline(always)]
 fn add_arrow(
     alloc: Global,

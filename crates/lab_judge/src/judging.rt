@@ -36,13 +36,12 @@ use std::alloc::Global;
 
 /// Judges a history: whether it is serializable, whether it is a snapshot run, which phenomena it has, and which level
 /// it meets.
-///
-/// A serial yes carries an order in which the committed transactions, run whole one after another, list, write and leave
-/// what is recorded. A snapshot yes carries places of starts and commits at which each of them sees the committed state
-/// of its start and its own writes, and overlapping ones write different rows. A no carries the first fault of the history,
-/// by the order of [`check_local`], or, where it is sound, dependencies or arrows that lead back to where they begin; it
-/// comes nowhere else. NoMemory where an
-/// allocation was refused.
+/// - A serial yes has an order. The committed transactions, run one after another in this order, list, write and leave
+///   what the history records.
+/// - A snapshot yes has a start and a commit timestamp for each committed transaction. With these, each sees the
+///   committed state at its start and its own writes, and transactions that overlap write different rows.
+/// - A no has the first fault of the history, in the order of `check_local`. For a sound history, it has a cycle of
+///   dependencies, or of starts and commits. Without such a fault or cycle, the verdict is yes.
 pub fn judge(alloc: Global, history: &History) -> Result<Report, NoMemory>
     ensures exact { IfOk result (IsExactJudgement history.now) }
     ensures serial { IfOk result (λ report. IsSerialVerdict history.now report.serial) }
@@ -64,7 +63,7 @@ pub fn judge(alloc: Global, history: &History) -> Result<Report, NoMemory>
     }
 }
 
-/// Judges the history of a file's bytes; refused as [`read_history`] refuses it.
+/// Judges the history of a file. Fails as `read_history` does.
 pub fn judge_bytes(alloc: Global, bytes: &[u8]) -> Result<Report, FileFault>
     ensures judged { IfOk result (IsFileJudgement bytes.now) }
     ensures yes { (h : Spells) → HoldsHistory bytes.now h → IfOk result (λ report. IsYes report.serial ↔ (IsSound h × NoWalk (IsClosedWalk h))) }
@@ -79,8 +78,8 @@ pub fn judge_bytes(alloc: Global, bytes: &[u8]) -> Result<Report, FileFault>
     }
 }
 
-/// Judges the history of a recording, which has what its level promises: at locking and optimistic it is serializable, at
-/// committed it has no G0, G1a, G1b and G1c, at snapshot it is a snapshot run. NoMemory where an allocation was refused.
+/// Judges the history of a recording. Such a history has what its level promises: at locking and optimistic it is
+/// serializable; at committed it has no G0, G1a, G1b or G1c; at snapshot it is a snapshot run.
 pub fn judge_recording(alloc: Global, recording: &Recording) -> Result<Report, NoMemory>
     ensures exact { IfOk result (IsExactJudgement recording.now.history) }
     ensures serial { IfOk result (λ report. IsSerialVerdict recording.now.history report.serial) }
@@ -93,7 +92,7 @@ pub fn judge_recording(alloc: Global, recording: &Recording) -> Result<Report, N
     judge(alloc, recording.history())
 }
 
-/// The judgement of a sound history. NoMemory where an allocation was refused.
+/// The judgement of a sound history.
 fn judge_sound(alloc: Global, history: &History, sound: &Sound) -> Result<Report, NoMemory>
     requires { IsSound history.now }
     ensures { IfOk result (IsExactJudgement history.now) }
@@ -111,8 +110,7 @@ fn judge_sound(alloc: Global, history: &History, sound: &Sound) -> Result<Report
     })
 }
 
-/// What is found in a sound history with this serial verdict: nothing where it is a yes. NoMemory where an allocation
-/// was refused.
+/// What is found in a sound history with this serial verdict: nothing where it is a yes.
 fn find_beside(
     alloc: Global,
     net: &Dependencies<'_>,
@@ -128,8 +126,7 @@ fn find_beside(
     }
 }
 
-/// The judgement of a history that isn't sound, where this fault was answered. NoMemory where an allocation was
-/// refused.
+/// The judgement of a history that isn't sound, where this fault was answered.
 fn judge_unsound(alloc: Global, history: &History, fault: &LocalFault) -> Result<Report, NoMemory>
     requires answer { IsAnswer history.now fault.now }
     requires first { IsFirst history.now fault.now }

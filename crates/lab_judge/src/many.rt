@@ -1,4 +1,4 @@
-//! The judgements of many files, by several threads.
+//! Judges many files with several threads.
 
 ghost use Rattle.std.specs.Prelude.{IfOk};
 ghost use Rattle.std.specs.List.{AllZip};
@@ -12,7 +12,7 @@ use rayon::prelude::*;
 use std::alloc::{AllocError, Global};
 use std::thread::Threads;
 
-/// The judgement of one file, with want of memory apart.
+/// Judges one file, and returns `NoMemory` separately from other faults.
 fn judged(alloc: Global, bytes: &[u8]) -> Result<Result<Report, FileFault>, NoMemory>
     ensures { IfOk result (IsFileAnswer bytes.now) }
 {
@@ -23,10 +23,9 @@ fn judged(alloc: Global, bytes: &[u8]) -> Result<Result<Report, FileFault>, NoMe
     }
 }
 
-/// Judges the history of each of these files' bytes: as many answers as files, in the order of the files, each a
-/// judgement or a true refusal of its file, whatever the number of workers. NoMemory where an allocation was refused.
-///
-/// It starts threads, as many as there are processors, and waits for them.
+/// Judges the history of each file. Returns one result for each file, in the order of the files: a judgement, or a
+/// fault that is true of the file. The results don't depend on the number of threads. Starts as many threads as there
+/// are processors, and waits for them.
 pub fn judge_all<R: Threads + Sync>(
     rt: &R,
     alloc: Global,

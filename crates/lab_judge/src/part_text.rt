@@ -1,5 +1,5 @@
-//! The parts of a report as texts, each with the space before it. Each function appends; after NoMemory, part of what
-//! was to be appended may stand there.
+//! The parts of a report as texts, each with the space before it. The functions append; on failure, a part of the text
+//! may have been appended.
 
 ghost use Rattle.std.specs.Prelude.{◌≡◌, ◌++◌, codes, flat_map, OnOk};
 ghost use Rattle.std.specs.Fmt.{decimal};
@@ -51,7 +51,7 @@ fn put_fault_kind(out: &mut Vec<u8>, code: &str, name: &str) -> Result<(), NoMem
     out.extend_from_slice(name.as_bytes())
 }
 
-/// Appends what is wrong with a history, without a space before it.
+/// Appends the fault of a history, without a space before it.
 pub fn put_fault(out: &mut Vec<u8>, fault: LocalFault) -> Result<(), NoMemory>
     ensures { OnOk result (out.new.items ≡ out.old.items ++ fault_text fault) }
 {
@@ -67,7 +67,7 @@ pub fn put_fault(out: &mut Vec<u8>, fault: LocalFault) -> Result<(), NoMemory>
     }
 }
 
-/// A kind of dependency as it is printed: `ww`, `wr`, `wr-p`, `rw` or `rw-p`.
+/// Returns the printed name of a kind of dependency: `ww`, `wr`, `wr-p`, `rw` or `rw-p`.
 pub fn kind_name(kind: Kind) -> &'static str
     ensures { result.now ≡ kind_name kind }
 {
@@ -91,7 +91,7 @@ fn put_step(out: &mut Vec<u8>, edge: Edge) -> Result<(), NoMemory>
     put_txn(out, edge.to)
 }
 
-/// Appends transactions in their order.
+/// Appends transactions, in their order.
 pub fn put_order(out: &mut Vec<u8>, order: &[TxnNo]) -> Result<(), NoMemory>
     ensures { OnOk result (out.new.items ≡ out.old.items ++ flat_map txn_text order.now) }
 {
@@ -110,7 +110,7 @@ fn put_steps(out: &mut Vec<u8>, walk: &[Edge]) -> Result<(), NoMemory>
     Ok(())
 }
 
-/// Appends a walk.
+/// Appends a cycle of dependencies.
 pub fn put_walk(out: &mut Vec<u8>, walk: &[Edge]) -> Result<(), NoMemory>
     ensures { OnOk result (out.new.items ≡ out.old.items ++ walk_text walk.now) }
 {
@@ -165,7 +165,7 @@ fn put_points(out: &mut Vec<u8>, points: &[Point]) -> Result<(), NoMemory>
     Ok(())
 }
 
-/// Appends a cycle of starts and commits: each with the space before it, and the first of them again.
+/// Appends a cycle of starts and commits, each with a space before it, and the first of them again at the end.
 pub fn put_circle(out: &mut Vec<u8>, circle: &[Point]) -> Result<(), NoMemory>
     ensures { OnOk result (out.new.items ≡ out.old.items ++ circle_text circle.now) }
 {

@@ -15,8 +15,7 @@ use lab_deps::{Dependencies, Kinds};
 use lab_order::{Graph, NoMemory};
 use std::alloc::Global;
 
-/// The graph of the starts and commits of these transactions, by the graph of all dependencies. NoMemory where an
-/// allocation was refused.
+/// The graph of the starts and commits of these transactions, by the graph of all dependencies.
 pub(crate) fn place_graph(
     alloc: Global,
     net: &Dependencies<'_>,
@@ -33,8 +32,7 @@ pub(crate) fn place_graph(
     Ok(graph)
 }
 
-/// The graph with an arrow from the start to the commit of each of so many transactions, and no other. NoMemory where an
-/// allocation was refused.
+/// The graph with an arrow from the start to the commit of each of so many transactions, and no other.
 fn spans_graph(alloc: Global, count: u32) -> Result<Graph, NoMemory>
     requires { count ≤ 1000001 }
     ensures size { IfOk result (λ graph. nodes_of graph ≡ 2 * count) }

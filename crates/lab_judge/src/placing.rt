@@ -20,8 +20,7 @@ use std::alloc::Global;
 
 /// The snapshot verdict on a sound history with these committed transactions, these dependencies and the graph of them
 /// all: by rising number, the places of their starts and commits in the least order along which every arrow points
-/// forward, or the cycle of arrows on the way back from the lowest that no order can place. NoMemory where an allocation
-/// was refused.
+/// forward, or the cycle of arrows on the way back from the lowest that no order can place.
 pub(crate) fn snapshot_verdict(
     alloc: Global,
     net: &Dependencies<'_>,
@@ -44,8 +43,7 @@ pub(crate) fn snapshot_verdict(
     }
 }
 
-/// The place of each node in this order of the nodes below a number, counted from 0. NoMemory where an allocation was
-/// refused.
+/// The place of each node in this order of the nodes below a number, counted from 0.
 fn places_in(alloc: Global, count: u32, order: &[u32]) -> Result<Vec<u32>, NoMemory>
     requires within { All (λ node. node < count) order.now }
     requires once { (node : ℕ) → count_by (λ n. n == node) order.now ≤ 1 }
@@ -60,8 +58,7 @@ fn places_in(alloc: Global, count: u32, order: &[u32]) -> Result<Vec<u32>, NoMem
     Ok(places)
 }
 
-/// The transactions by rising number, with the places that their starts and commits have. NoMemory where an allocation
-/// was refused.
+/// The transactions by rising number, with the places that their starts and commits have.
 fn spans_in(
     alloc: Global,
     net: &Dependencies<'_>,
@@ -87,7 +84,7 @@ fn number_at(net: &Dependencies<'_>, node: u32) -> TxnNo
     net.number(node)
 }
 
-/// The starts and commits at these nodes, in the same order. NoMemory where an allocation was refused.
+/// The starts and commits at these nodes, in the same order.
 fn points_of(alloc: Global, net: &Dependencies<'_>, circle: &[u32]) -> Result<Vec<Point>, NoMemory>
     requires { All (λ node. node < 2 * length net.now.numbers) circle.now }
     ensures { IfOk result (λ points. points.items ≡ map (point_at net.now.numbers) circle.now) }

@@ -1,4 +1,4 @@
-//! A report as a text. Each function appends; after NoMemory, part of what was to be appended may stand there.
+//! Prints a report. The functions append; on failure, a part of the text may have been appended.
 
 ghost use Rattle.std.specs.Prelude.{◌≡◌, ◌++◌, codes, IfOk, OnOk};
 ghost use Rattle.lab_judge.specs.ReportText.{finding_text, grade_name, line_text, places_text, report_text, serial_text};
@@ -10,8 +10,7 @@ use crate::serial::Serial;
 use lab_table::NoMemory;
 use std::alloc::Global;
 
-/// The ten lines of a report, from `serializable: ` to `level: `, each with its newline.
-/// NoMemory where an allocation was refused.
+/// Returns the ten lines of a report, from `serializable: ` to `level: `, each with its newline.
 pub fn print_report(alloc: Global, report: &Report) -> Result<Vec<u8>, NoMemory>
     ensures { IfOk result (λ text. text.items ≡ report_text report.now) }
 {
@@ -29,7 +28,7 @@ pub fn print_report(alloc: Global, report: &Report) -> Result<Vec<u8>, NoMemory>
     Ok(text)
 }
 
-/// Appends the line of a serial verdict with its newline.
+/// Appends the line of the serial verdict, with its newline.
 pub fn put_serial(out: &mut Vec<u8>, serial: &Serial) -> Result<(), NoMemory>
     ensures { OnOk result (out.new.items ≡ out.old.items ++ line_text (codes "serializable") (serial_text serial.now)) }
 {
@@ -72,7 +71,7 @@ fn put_places(out: &mut Vec<u8>, places: &Places) -> Result<(), NoMemory>
     out.extend_from_slice(b"\n")
 }
 
-/// Appends the line of what was found of a phenomenon of this name, with its newline.
+/// Appends the line of a phenomenon: its name `about`, the finding, and a newline.
 pub fn put_finding(out: &mut Vec<u8>, about: &[u8], finding: &Finding) -> Result<(), NoMemory>
     ensures { OnOk result (out.new.items ≡ out.old.items ++ line_text about.now (finding_text finding.now)) }
 {

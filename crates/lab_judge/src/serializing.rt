@@ -14,9 +14,8 @@ use lab_order::{Graph, NoMemory, Ordered, order};
 use lab_table::TxnNo;
 use std::alloc::Global;
 
-/// The serial verdict on a sound history with these committed transactions, these dependencies and the graph of them all:
-/// the least order of the transactions along which every dependency points forward, or a cycle. NoMemory where an
-/// allocation was refused.
+/// The serial verdict on a sound history with these committed transactions, these dependencies and the graph of them
+/// all: the least order of the transactions along which every dependency points forward, or a cycle.
 pub(crate) fn serial_verdict(
     alloc: Global,
     net: &Dependencies<'_>,
@@ -37,7 +36,7 @@ pub(crate) fn serial_verdict(
     }
 }
 
-/// The transactions of these nodes, in the same order. NoMemory where an allocation was refused.
+/// The transactions of these nodes, in the same order.
 fn numbers_of(alloc: Global, net: &Dependencies<'_>, order: &[u32]) -> Result<Vec<TxnNo>, NoMemory>
     requires { All (λ node. node < length net.now.numbers) order.now }
     ensures { IfOk result (λ numbers. numbers.items ≡ map (λ node. slice_index net.now.numbers node) order.now) }

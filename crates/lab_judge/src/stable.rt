@@ -1,5 +1,4 @@
-//! What a legal log's recording keeps where what was read stays true up to the commit. The functions have nothing to do:
-//! their contracts are the laws.
+//! Theorems on logs in which reads stay valid until the commit, stated as contracts of empty functions.
 
 ghost use Rattle.std.specs.Prelude.{IsTrue};
 ghost use Rattle.lab_table.specs.Table.{Table};
@@ -16,16 +15,16 @@ ghost use Rattle.lab_judge.specs.Phenomena.{NoWalk, IsClosedWalk};
 ghost use Rattle.lab_judge.specs.LogOrders.{commit_order};
 ghost use Rattle.lab_judge.specs.Stable.{ReadsStable};
 
-/// Where what each operation saw stays true up to its transaction's commit, every dependency follows the order of commits,
-/// whatever the level; so that order is a serial run.
+/// At any level, if the reads of each operation stay valid until the commit of its transaction, every dependency
+/// follows the order of commits. So that order is a serial run.
 pub fn stable_reads_are_serial()
     ensures forward { (level : Level) (setup : Table) (past : Past) (h : History) → IsLegalRecording level setup past h → ReadsStable level setup past → IsForwardOrder h (commit_order past) }
     ensures serial { (level : Level) (setup : Table) (past : Past) (h : History) → IsLegalRecording level setup past h → ReadsStable level setup past → IsSerialRun h (commit_order past) }
     ensures no_walk { (level : Level) (setup : Table) (past : Past) (h : History) → IsLegalRecording level setup past h → ReadsStable level setup past → NoWalk (IsClosedWalk h) }
 {}
 
-/// Locking keeps reads stable, and so does each level by whose rules what a transaction has read is kept: who would change
-/// it waits, or the commit is refused.
+/// Locking keeps reads stable, and so does each level whose rules keep what a transaction has read unchanged until its
+/// commit: a transaction that would change it waits, or the commit fails.
 pub fn who_keeps_reads_stable()
     ensures locking { (setup : Table) (past : Past) → ReadsStable Locking setup past }
     ensures kept { (level : Level) (setup : Table) (past : Past) → IsTrue (keeps_reads (rules_of level)) → IsLegal level setup past → ReadsStable level setup past }

@@ -13,7 +13,7 @@ use lab_order::NoMemory;
 use std::alloc::Global;
 
 /// The walk along a cycle of nodes in the graph of the dependencies that are allowed: between two neighbours it takes
-/// the least of these, by kind and row. It begins with the first node. NoMemory where an allocation was refused.
+/// the least of these, by kind and row. It begins with the first node.
 pub(crate) fn walk_round(
     alloc: Global,
     net: &Dependencies<'_>,
@@ -30,7 +30,7 @@ pub(crate) fn walk_round(
 }
 
 /// The dependencies from a node along these, in the order of the way: between two neighbours the least that is allowed,
-/// by kind and row. NoMemory where an allocation was refused.
+/// by kind and row.
 pub(crate) fn walk_along(
     alloc: Global,
     net: &Dependencies<'_>,
@@ -54,7 +54,7 @@ pub(crate) fn walk_along(
 }
 
 /// The least dependency of one of these kinds from the transaction of one node to that of another, by kind and row, if
-/// there is one. NoMemory where an allocation was refused.
+/// there is one.
 pub(crate) fn least_between(
     net: &Dependencies<'_>,
     from: u32,

@@ -1,7 +1,7 @@
-//! The levels: their names, and their engines.
+//! The isolation levels: their names and their engines.
 //!
-//! [`level_name`] and [`level_named`] are the one table of the names by which levels are asked for and told of. [`on_engine!`]
-//! is the one place where a level becomes an engine: it gives what an expression comes to on a fresh engine of a level.
+//! [`level_name`] and [`level_named`] translate between levels and their names. [`on_engine!`] is the one place where a
+//! level becomes an engine: it evaluates an expression with a fresh engine of a level.
 #![tactic(auto)]
 
 mod naming;

@@ -1,4 +1,4 @@
-//! The levels, and the names of their engines.
+//! The names of the levels' engines.
 
 ghost use Rattle.std.specs.Prelude.{◌≡◌};
 ghost use Rattle.std.specs.Str.{bytes_eq};
@@ -14,7 +14,7 @@ pub const LEVELS: [Level; 4] = [
     Level::Optimistic,
 ];
 
-/// The name of the engine of a level: `locking`, `committed`, `snapshot` or `optimistic`.
+/// Returns the name of the engine of `level`: `locking`, `committed`, `snapshot` or `optimistic`.
 pub fn level_name(level: Level) -> &'static str
     ensures { result.now ≡ level_name level }
 {
@@ -45,7 +45,7 @@ fn first_level(among: &[Level], name: &str) -> Option<Level>
     None
 }
 
-/// The level of the engine of this name; None where no engine has it.
+/// Returns the level of the engine of this name, or `None` if no engine has it.
 pub fn level_named(name: &str) -> Option<Level>
     ensures { result ≡ level_named name.now }
 {

@@ -16,7 +16,7 @@ pub enum Column {
 }
 
 impl Column {
-    /// Its level.
+    /// Returns the level of the column.
     pub fn level(self) -> Level
         ensures { result ≡ level_of self }
     {
@@ -83,7 +83,7 @@ impl Matrix {
         }
     }
 
-    /// The judgement of a case in a column.
+    /// Returns the judgement of a case in a column.
     pub fn cell(&self, case: CaseName, column: Column) -> &Report
         ensures { result.now ≡ cell_of self.now case column }
     {

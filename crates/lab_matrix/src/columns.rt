@@ -1,4 +1,4 @@
-//! The cases at one level after another, played and judged.
+//! Plays and judges the cases at given levels.
 
 ghost use Rattle.std.specs.Prelude.{◌≡◌, ◌++◌, ◌∷◌, [], IfOk, IfErr, OnOk};
 ghost use Rattle.lab_matrix.specs.Columns.{report_of, AreReports, KeepPromise, IsFirstAt, AreColumns, KeepPromises, IsColumnsFault};
@@ -27,7 +27,7 @@ pub struct CaseReports {
 }
 
 impl CaseReports {
-    /// The judgement of a case.
+    /// Returns the judgement of a case.
     pub fn report(&self, case: CaseName) -> &Report
         ensures { result.now ≡ report_of self.now case }
     {
@@ -71,7 +71,7 @@ fn reports_at(alloc: Global, level: Level) -> Result<CaseReports, MatrixFault>
     })
 }
 
-/// Adds a column. NoMemory where an allocation was refused.
+/// Adds a column.
 fn add(columns: &mut Vec<CaseReports>, column: CaseReports) -> Result<(), NoMemory>
     ensures { OnOk result (columns.new.items ≡ columns.old.items ++ column ∷ []) }
 {
@@ -79,10 +79,9 @@ fn add(columns: &mut Vec<CaseReports>, column: CaseReports) -> Result<(), NoMemo
     Ok(())
 }
 
-/// The judgements of the cases at each of these levels, in their order. Each says what the engine of its level promises.
-///
-/// Refused where a play has no recording (2), which is then true of the first such level, and of the first such case of it;
-/// or where an allocation was refused (1).
+/// Returns the judgements of the cases at each of these levels, in their order. Each judgement says what the engine of
+/// its level promises. Fails with `Play` if a play has no recording: it names the first such level, and the first such
+/// case there.
 pub fn columns_at(alloc: Global, levels: &[Level]) -> Result<Vec<CaseReports>, MatrixFault>
     ensures columns { IfOk result (λ columns. AreColumns levels.now columns.items) }
     ensures promised { IfOk result (λ columns. KeepPromises columns.items) }

@@ -1,5 +1,4 @@
-//! The text of the cases at one level after another. Each function appends; after NoMemory, part of what was to be appended
-//! may stand there.
+//! Prints the cases at given levels. The functions append; on failure, a part of the text may have been appended.
 
 ghost use Rattle.std.specs.Prelude.{◌≡◌, ◌-◌, ◌++◌, length, IfOk, OnOk};
 ghost use Rattle.lab_matrix.specs.Columns.{lead_of, text_in, rest_of, line_of, columns_text};
@@ -100,9 +99,9 @@ fn put_line(out: &mut Vec<u8>, line: Line, columns: &[CaseReports]) -> Result<()
     put_rest(out, line, lead, columns)
 }
 
-/// The text of the cases at levels: a line of the levels' names, a line for each case with the level that its history meets
-/// on each engine, and `SI` where it is a snapshot run, and a line of what each engine promises. NoMemory where an allocation
-/// was refused.
+/// Returns the table of the cases at these levels. It has a line of the levels' names. Then each case has a line with
+/// the level that its history meets on each engine, and `SI` if it is a snapshot run. The last line lists what each
+/// engine promises.
 pub fn print_columns(alloc: Global, columns: &[CaseReports]) -> Result<Vec<u8>, NoMemory>
     ensures { IfOk result (λ text. text.items ≡ columns_text columns.now) }
 {

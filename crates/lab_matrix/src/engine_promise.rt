@@ -3,7 +3,7 @@
 ghost use Rattle.std.specs.Prelude.{◌≡◌};
 ghost use Rattle.lab_matrix.specs.EnginePromise.{promise_name};
 
-/// What an engine promises of each of its runs, scripted or free, whatever the script.
+/// A promise of an engine about each of its runs, scripted or free, for any script.
 #[derive(Clone, Copy, Debug, PartialEq, Eq)]
 pub enum Promise {
     /// The run is serializable.
@@ -15,7 +15,7 @@ pub enum Promise {
 }
 
 impl Promise {
-    /// Its name in the matrix: `PL-3`, `PL-2` or `SI`.
+    /// Returns the name of the promise in the matrix: `PL-3`, `PL-2` or `SI`.
     pub fn name(self) -> &'static str
         ensures { result.now ≡ promise_name self }
     {

@@ -1,4 +1,4 @@
-//! Filling the matrix: each case is played on each engine, and judged.
+//! Fills the matrix: plays each case on each engine, and judges it.
 
 ghost use Rattle.std.specs.Prelude.{◌≡◌, [], IfOk, IfErr};
 ghost use Rattle.lab_matrix.specs.Listings.{case_script};
@@ -16,9 +16,9 @@ use std::alloc::{AllocError, Global};
 /// Why there is no matrix.
 #[derive(Clone, Copy, Debug, PartialEq, Eq)]
 pub enum MatrixFault {
-    /// Refusal 1: an allocation was refused.
+    /// An allocation failed.
     NoMemory,
-    /// Refusal 2: the play of a case at a level has no recording.
+    /// The play of this case at this level has no recording.
     Play {
         case: CaseName,
         level: Level,
@@ -88,11 +88,9 @@ fn row_of_case(alloc: Global, name: CaseName) -> Result<Row, MatrixFault>
     })
 }
 
-/// The judgement of each case on each engine: of the recording of a scripted play of the case's script at the engine's
-/// level. Each says what the engine of its level promises (`promise`).
-///
-/// Refused where a play has no recording (2), which is then true of the first such case, in their order and in that of the
-/// levels; or where an allocation was refused (1).
+/// Returns the judgement of each case on each engine: of the recording of a scripted play of the case's script at the
+/// engine's level. Each judgement says what the engine of its level promises (`promise`). Fails with `Play` if a play
+/// has no recording: it names the first such case, and the first such level for it.
 pub fn matrix(alloc: Global) -> Result<Matrix, MatrixFault>
     ensures cells { IfOk result AreCells }
     ensures promised { IfOk result KeepsPromises }

@@ -1,4 +1,6 @@
-//! The ten cases, what each engine lets happen in them, and what it promises of every run.
+//! The ten cases, which anomalies each engine permits in them, and what each engine promises of every run.
+//!
+//! Functions that allocate return `NoMemory` if an allocation fails.
 #![tactic(auto)]
 
 mod cases;

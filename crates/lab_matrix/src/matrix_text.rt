@@ -1,4 +1,4 @@
-//! The text of the matrix.
+//! Prints the matrix.
 
 ghost use Rattle.std.specs.Prelude.{◌≡◌, ◌-◌, ◌++◌, IfOk, OnOk};
 ghost use Rattle.lab_printing.specs.Printed.{newline};
@@ -17,8 +17,8 @@ const CASE_WIDTH: usize = 10;
 /// The width of the column of an engine.
 const CELL_WIDTH: usize = 12;
 
-/// The matrix as a text: a line of the columns, a line for each case with its level on each engine, and `SI` where the
-/// history is a snapshot run, and a line of what each engine promises. NoMemory where an allocation was refused.
+/// Returns the matrix as text. It has a line of the columns. Then each case has a line with its level on each engine,
+/// and `SI` if the history is a snapshot run. The last line lists what each engine promises.
 pub fn print_matrix(alloc: Global, matrix: &Matrix) -> Result<Vec<u8>, NoMemory>
     ensures { IfOk result (λ text. text.items ≡ matrix_text matrix.now) }
 {

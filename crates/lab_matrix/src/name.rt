@@ -1,4 +1,4 @@
-//! The names of the cases.
+//! The names and scripts of the cases.
 
 ghost use Rattle.std.specs.Prelude.{◌≡◌, IfOk};
 ghost use Rattle.std.specs.Str.{bytes_eq};
@@ -12,29 +12,29 @@ use lab_script::Script;
 use lab_table::NoMemory;
 use std::alloc::Global;
 
-/// A case: an interleaving that shows one anomaly where an engine lets it happen. Written after the cases of Martin
-/// Kleppmann's Hermitage; the listings are this laboratory's own.
+/// A case: an interleaving that shows one anomaly if the engine permits it. The cases follow Martin Kleppmann's
+/// Hermitage; the scripts are this laboratory's own.
 #[derive(Clone, Copy, Debug, PartialEq, Eq)]
 pub enum CaseName {
     /// Two transactions write the same two rows in turn.
     G0,
-    /// One reads what another one wrote and then aborts.
+    /// A transaction reads a version whose writer aborts later.
     G1a,
-    /// One reads a value that another one overwrites before it commits.
+    /// A transaction reads a value that its writer overwrites before it commits.
     G1b,
-    /// Each of two reads what the other one wrote.
+    /// Each of two transactions reads what the other one wrote.
     G1c,
-    /// Observed transaction vanishes: one sees a part of what another one overwrote.
+    /// Observed transaction vanishes: a transaction sees a part of what another one overwrote.
     Otv,
-    /// Predicate many preceders: a row comes into what a predicate matches between two reads.
+    /// Predicate many preceders: a row starts to match a predicate between two reads.
     Pmp,
-    /// Lost update: two read a row, and both write it.
+    /// Lost update: two transactions read a row, and both write it.
     P4,
-    /// Read skew: one reads a row before and another row after what a second one writes to both.
+    /// Read skew: a transaction reads one row before and another row after another transaction writes both.
     GSingle,
-    /// Write skew on rows: each of two reads both rows, and writes one of them.
+    /// Write skew on rows: each of two transactions reads both rows, and writes one of them.
     G2Item,
-    /// Write skew on a predicate: each of two reads by a predicate, and inserts a row that it matches.
+    /// Write skew on a predicate: each of two transactions reads by a predicate, and inserts a row that matches it.
     G2,
 }
 
@@ -53,14 +53,15 @@ impl CaseName {
         CaseName::G2,
     ];
 
-    /// The case of this name; None where no case has it.
+    /// Returns the case of this name, or `None` if no case has it.
     pub fn named(name: &str) -> Option<CaseName>
         ensures { result ≡ case_named name.now }
     {
         first_named(&CaseName::ALL, name)
     }
 
-    /// The name as it is printed and given: `G0`, `G1a`, `G1b`, `G1c`, `OTV`, `PMP`, `P4`, `G-single`, `G2-item`, `G2`.
+    /// Returns the name of the case, as printed and as an argument: `G0`, `G1a`, `G1b`, `G1c`, `OTV`, `PMP`, `P4`,
+    /// `G-single`, `G2-item`, `G2`.
     pub fn name(self) -> &'static str
         ensures { result.now ≡ case_name self }
     {
@@ -98,8 +99,8 @@ fn first_named(among: &[CaseName], name: &str) -> Option<CaseName>
     None
 }
 
-/// The script of a case: a listing of commands, one on each text line from line 2 on, over the table (1, 10), (2, 20).
-/// NoMemory where an allocation was refused.
+/// Returns the script of a case: a list of commands, one on each text line from line 2 on, over the table (1, 10), (2,
+/// 20).
 pub fn case(alloc: Global, name: CaseName) -> Result<Script, NoMemory>
     ensures { IfOk result (λ script. script ≡ case_script name) }
 {

@@ -8,9 +8,9 @@ ghost use Rattle.lab_matrix.specs.EnginePromise.{Says, promise_of};
 use crate::engine_promise::Promise;
 use lab_engine::Level;
 
-/// What the engine of a level promises: Serializable at locking and optimistic, NoG1 at committed, SnapshotRun at snapshot. A
-/// report says so exactly where it says what `judge_recording` is proved to say of every recording of the level. It takes no
-/// memory and always answers.
+/// Returns what the engine of a level promises: `Serializable` at locking and optimistic, `NoG1` at committed,
+/// `SnapshotRun` at snapshot. A report says so exactly if it says what `judge_recording` is proved to say of every
+/// recording of the level. Allocates nothing.
 pub fn promise(level: Level) -> Promise
     ensures value { result ≡ promise_of level }
     ensures meaning { (report : Report) → Says result report ↔ IsPromised level report }

@@ -1,4 +1,4 @@
-//! Tests of what the matrix says of every run.
+//! Tests of the promises of the matrix about every run.
 #![tactic(auto)]
 
 #[cfg(test)]

@@ -1,4 +1,4 @@
-//! Plays by threads, whose reports say what the matrix promises.
+//! Plays with threads, whose reports must have what the matrix promises.
 
 use lab_engine::{Level, Recording};
 use lab_judge::{Finding, Places, Report, Serial, judge_recording};

@@ -37,7 +37,7 @@ impl FreeNodes {
         }
     }
 
-    /// Puts a node in. NoMemory where an allocation was refused.
+    /// Puts a node in.
     pub fn push(&mut self, node: u32) -> Result<(), NoMemory>
         ensures { IfOk result (λ _. (test : ℕ → Bool) → count_by test self.new ≡ cond (test node) 1 0 + count_by test self.old) }
     {

@@ -1,4 +1,4 @@
-//! The laws of the answers: of each kind there is one.
+//! Theorems: each kind of result is unique.
 
 ghost use Rattle.std.specs.Prelude.{◌≡◌, ◌≤◌, ◌==◌, ℕ, List, count_by};
 ghost use Rattle.lab_order.specs.Arrows.{Arrows};
@@ -8,27 +8,27 @@ ghost use Rattle.lab_order.specs.Order.{IsAnswered, AreSame};
 ghost use Rattle.lab_order.specs.Path.{IsShortestPath};
 ghost use Rattle.lab_order.specs.declared.ordering.Ordered.{Ordered};
 
-/// Two lists of which neither comes after the other are one. So of lists of one kind there is one least.
+/// Two lists are equal if neither comes after the other. So there is at most one least list of a kind.
 pub fn least_unique()
     ensures { (ns ms : List ℕ) → NotAfter ns ms → NotAfter ms ns → ns ≡ ms }
 {}
 
-/// From one node to another there is one least shortest path.
+/// There is at most one least shortest path from one node to another.
 pub fn least_path_unique()
     ensures { (graph : Arrows) (from to : ℕ) (ns ms : List ℕ) → IsLeast (IsShortestPath graph from to) ns → IsLeast (IsShortestPath graph from to) ms → ns ≡ ms }
 {}
 
-/// A graph has one cycle at most on the way back from its least stuck node.
+/// A graph has at most one cycle on the way back from its least stuck node.
 pub fn back_circle_unique()
     ensures { (graph : Arrows) (ns ms : List ℕ) → IsBackCircle graph ns → IsBackCircle graph ms → ns ≡ ms }
 {}
 
-/// No node is twice on a cycle on the way back from the least stuck node.
+/// A cycle on the way back from the least stuck node has no node twice.
 pub fn back_circle_once()
     ensures { (graph : Arrows) (circle : List ℕ) → IsBackCircle graph circle → (node : ℕ) → count_by (λ n. n == node) circle ≤ 1 }
 {}
 
-/// A graph has one answer: never an order and a cycle, and no two orders or cycles.
+/// A graph has one result: never an order and a cycle, and never two different orders or cycles.
 pub fn answered_unique()
     ensures { (graph : Arrows) (a b : Ordered) → IsAnswered graph a → IsAnswered graph b → AreSame a b }
 {}

@@ -11,7 +11,6 @@ use crate::memory::NoMemory;
 use std::alloc::Global;
 
 /// For each node those to which it has an arrow: the transposition of the predecessors.
-/// NoMemory where an allocation was refused.
 pub fn successors(alloc: Global, graph: &Graph) -> Result<Vec<Row>, NoMemory>
     ensures size { IfOk result (λ rows. length rows.items ≡ nodes_of graph.now) }
     ensures transposed { IfOk result (λ rows. IsTransposed graph.now rows.items) }
@@ -23,7 +22,7 @@ pub fn successors(alloc: Global, graph: &Graph) -> Result<Vec<Row>, NoMemory>
     Ok(rows)
 }
 
-/// Notes a node as successor of each of those before it. NoMemory where an allocation was refused.
+/// Notes a node as successor of each of those before it.
 fn note_successor(rows: &mut [Row], nodes: &[u32], node: u32) -> Result<(), NoMemory>
     requires { All (λ n. n < length rows.old) nodes.now }
     ensures size { IfOk result (λ _. length rows.new ≡ length rows.old) }
@@ -35,7 +34,7 @@ fn note_successor(rows: &mut [Row], nodes: &[u32], node: u32) -> Result<(), NoMe
     Ok(())
 }
 
-/// For each node how many nodes are before it. NoMemory where an allocation was refused.
+/// For each node how many nodes are before it.
 pub fn counts_before(alloc: Global, graph: &Graph) -> Result<Vec<usize>, NoMemory>
     ensures size { IfOk result (λ waits. length waits.items ≡ nodes_of graph.now) }
     ensures counts { IfOk result (λ waits. (node : ℕ) → waits_of waits.items node ≡ length (before graph.now node)) }
@@ -47,7 +46,7 @@ pub fn counts_before(alloc: Global, graph: &Graph) -> Result<Vec<usize>, NoMemor
     Ok(waits)
 }
 
-/// The nodes that wait for none. NoMemory where an allocation was refused.
+/// The nodes that wait for none.
 pub fn waiting_for_none(alloc: Global, waits: &[usize]) -> Result<FreeNodes, NoMemory>
     requires { length waits.now < 2 ^ 32 }
     ensures { IfOk result (λ free. (node : ℕ) → how_often free node ≡ cond (nat_lt node (length waits.now) && waits_of waits.now node == 0) 1 0) }
@@ -61,8 +60,8 @@ pub fn waiting_for_none(alloc: Global, waits: &[usize]) -> Result<FreeNodes, NoM
     Ok(free)
 }
 
-/// Each of these nodes waits for one node fewer; those that then wait for none become free.
-/// NoMemory where an allocation was refused; the counts are then of no use.
+/// Each of these nodes waits for one node fewer; those that then wait for none become free. After a failure, the result
+/// must not be used.
 pub fn lower(waits: &mut [usize], nodes: &[u32], free: &mut FreeNodes) -> Result<(), NoMemory>
     requires { All (λ n. n < length waits.old) nodes.now }
     ensures size { IfOk result (λ _. length waits.new ≡ length waits.old) }

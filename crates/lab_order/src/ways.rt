@@ -1,8 +1,8 @@
-//! From which nodes a path leads to each.
+//! Reachability: which nodes have a path to which.
 //!
-//! Each node has the set of the nodes that lead to it, at first itself and those with an arrow to it. Node by node, what
-//! a node leads to takes over the set of that node: then paths through it are told of too (S. Warshall, A Theorem on
-//! Boolean Matrices, 1962).
+//! Each node has the set of the nodes that lead to it, at first itself and those with an arrow to it. Node by node, the
+//! successors of a node take over its set, which adds the paths through that node (S. Warshall, A Theorem on Boolean
+//! Matrices, 1962).
 
 ghost use Rattle.std.specs.Prelude.{◌≡◌, ◌==◌, ◌<◌, ◌↔◌, ◌&&◌, ◌||◌, ℕ, true, length, IfOk};
 ghost use Rattle.std.specs.List.{All, list_any};
@@ -36,8 +36,8 @@ impl<'a> Model for Ways<'a> {
 }
 
 impl<'a> Ways<'a> {
-    /// Which nodes of a graph lead to which, for who asks of many: a bit for each two nodes. NoMemory where an
-    /// allocation was refused.
+    /// Computes which nodes of a graph lead to which, with a bit for each two nodes. Use it for many questions about
+    /// one graph.
     pub fn of(alloc: Global, graph: &'a Graph) -> Result<Ways<'a>, NoMemory>
         ensures { IfOk result (λ ways. ways ≡ graph.now) }
     {
@@ -51,7 +51,7 @@ impl<'a> Ways<'a> {
         Ok(Ways { graph, sets })
     }
 
-    /// Whether a path leads from one node to another. From each node one leads to itself.
+    /// Returns whether a path leads from one node to another. Each node leads to itself.
     pub fn lead(&self, from: u32, to: u32) -> bool
         requires { to < nodes_of self.now }
         ensures { result ≡ true ↔ Reaches self.now from to }
@@ -60,7 +60,7 @@ impl<'a> Ways<'a> {
     }
 }
 
-/// For each node the set of itself and of those with an arrow to it. NoMemory where an allocation was refused.
+/// For each node the set of itself and of those with an arrow to it.
 fn arrows_alone(alloc: Global, graph: &Graph) -> Result<Vec<NumberSet>, NoMemory>
     ensures size { IfOk result (λ sets. length sets.items ≡ nodes_of graph.now) }
     ensures rooms { IfOk result (λ sets. All (λ s. room s ≡ room_for (nodes_of graph.now)) sets.items) }
@@ -73,7 +73,7 @@ fn arrows_alone(alloc: Global, graph: &Graph) -> Result<Vec<NumberSet>, NoMemory
     Ok(sets)
 }
 
-/// The set of a node and of some others, all below a bound. NoMemory where an allocation was refused.
+/// The set of a node and of some others, all below a bound.
 fn set_of(alloc: Global, bound: u32, node: u32, others: &[u32]) -> Result<NumberSet, NoMemory>
     requires node { node < bound }
     requires others { All (λ n. n < bound) others.now }

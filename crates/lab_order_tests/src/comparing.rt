@@ -1,4 +1,4 @@
-//! Orders by counts and by scanning are the same.
+//! Compares orders by counters with orders by scanning.
 
 ghost use Rattle.std.specs.Prelude.{◌≡◌, ◌<◌, IfOk};
 ghost use Rattle.lab_order.specs.Arrows.{nodes_of};

@@ -1,4 +1,4 @@
-//! Tests of orders: that which is answered beside that of a plainer body; and calls that are refused memory.
+//! Tests of orders: results compared with a plain implementation, and calls whose allocations fail.
 #![tactic(auto)]
 
 #[cfg(test)]

@@ -1,4 +1,4 @@
-//! The order of a graph by the plain way: all nodes are looked through each time for the least that is free.
+//! A plain implementation of a graph's order: each step scans all nodes for the least free one.
 
 use lab_order::{NoMemory, Ordered};
 use std::alloc::Global;

@@ -1,4 +1,4 @@
-//! How the verdict is checked by hand.
+//! How a reader can check the verdict.
 
 ghost use Rattle.std.specs.Prelude.{◌≡◌, ◌++◌, OnOk};
 ghost use Rattle.lab_overview.specs.Check.{serial_check, found_check, check_of, check_part};
@@ -41,7 +41,7 @@ fn check_of(report: &Report, asked: Option<Phenomenon>) -> &'static [u8]
     }
 }
 
-/// Appends the part; after NoMemory, part of it may stand there.
+/// Appends the section on checking the verdict. On failure, a part of it may have been appended.
 #[tactic(auto, unfolding(crate::specs::Check::check_part))]
 pub fn put_check(
     out: &mut Vec<u8>,

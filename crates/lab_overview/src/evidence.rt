@@ -1,5 +1,5 @@
-//! The evidence of a page: the report, and the history itself. Each function that takes bytes appends to them; after
-//! NoMemory, part of what was to be appended may stand there.
+//! The evidence of a page: the report and the history. Functions that take bytes append; on failure, a part of the text
+//! may have been appended.
 
 ghost use Rattle.std.specs.Prelude.{◌≡◌, ◌++◌, OnOk};
 ghost use Rattle.lab_overview.specs.Check.{report_part, file_of, file_text, no_file, shown_file, history_text, history_part};
@@ -76,7 +76,7 @@ fn put_history_text(alloc: Global, out: &mut Vec<u8>, history: &History) -> Resu
     put_file_of(alloc, out, history)
 }
 
-/// Appends the history itself, and the end of the page.
+/// Appends the history, and the end of the page.
 #[tactic(auto, unfolding(crate::specs::Check::history_part))]
 pub fn put_history(alloc: Global, out: &mut Vec<u8>, history: &History) -> Result<(), NoMemory>
     ensures { OnOk result (out.new.items ≡ out.old.items ++ history_part (file_of history.now)) }

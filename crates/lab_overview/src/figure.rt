@@ -1,5 +1,4 @@
-//! The picture in a page. Each function that takes bytes appends to them; after NoMemory, part of what was to be appended
-//! may stand there.
+//! The picture of a page. Functions that take bytes append; on failure, a part of the text may have been appended.
 
 ghost use Rattle.std.specs.Prelude.{◌≡◌, ◌++◌, OnOk};
 ghost use Rattle.lab_overview.specs.Figure.{fold_open, fold_close, picture_open, picture_close, drawn_text, no_picture, is_wide, figure_text};
@@ -72,7 +71,7 @@ fn is_wide(columns: &[TxnNo]) -> bool
     MAX_COLUMNS < columns.len()
 }
 
-/// Appends the picture of these columns, where it isn't too long.
+/// Appends the picture of these columns, unless it is too long.
 pub fn put_figure(out: &mut Vec<u8>, columns: &[TxnNo], picture: &[u8]) -> Result<(), NoMemory>
     ensures { OnOk result (out.new.items ≡ out.old.items ++ figure_text columns.now picture.now) }
 {

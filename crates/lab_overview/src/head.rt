@@ -1,5 +1,4 @@
-//! The head of a page. Each function that takes bytes appends to them; after NoMemory, part of what was to be appended may
-//! stand there.
+//! The head of a page. Functions that take bytes append; on failure, a part of the text may have been appended.
 
 ghost use Rattle.std.specs.Prelude.{◌≡◌, ◌++◌, OnOk};
 ghost use Rattle.lab_overview.specs.Head.{behind_title, title_behind, above_headline, title_above, page_open, verdict_text, title_text, headline_line, lede_line, headline_text, is_commit, committed_txn, committed_txns, all_text, committed_text, counts_line, counts_text, head_text, header_open, header_text};
@@ -182,7 +181,7 @@ fn put_counts(alloc: Global, out: &mut Vec<u8>, txns: &[Txn]) -> Result<(), NoMe
     put_counts_line(out, txns.len() as u64, committed.len() as u64)
 }
 
-/// Appends what the browser doesn't show.
+/// Appends the head element, which the browser doesn't show.
 #[tactic(auto, unfolding(crate::specs::Head::head_text))]
 pub fn put_head(
     alloc: Global,

@@ -44,7 +44,7 @@ fn put_headline_words(
     }
 }
 
-/// The same. NoMemory where an allocation was refused.
+/// The same.
 pub fn headline_of(
     alloc: Global,
     history: &History,

@@ -1,5 +1,5 @@
-//! The levels and the phenomena. Each function that takes bytes appends to them; after NoMemory, part of what was to be
-//! appended may stand there.
+//! The levels and the phenomena. Functions that take bytes append; on failure, a part of the text may have been
+//! appended.
 
 ghost use Rattle.std.specs.Prelude.{◌≡◌, ◌++◌, flat_map, OnOk};
 ghost use Rattle.lab_explain.specs.Places.{places_sentence};
@@ -182,7 +182,7 @@ fn put_places(alloc: Global, out: &mut Vec<u8>, snapshot: &Places) -> Result<(),
     put_paragraph(out, &sentence)
 }
 
-/// Appends the whole part.
+/// Appends the section on levels and phenomena.
 #[tactic(auto, unfolding(crate::specs::Levels::levels_text))]
 pub fn put_levels(
     alloc: Global,

@@ -1,8 +1,8 @@
-//! What a page says of a report: its headline, its tiles, the levels and the phenomena, its picture, how the verdict is
-//! checked, the report and the history file.
+//! The part of a page about the report: headline, tiles, levels and phenomena, picture, how to check the verdict, the
+//! report and the history file.
 //!
-//! Each text is a definition in `specs/`, and a function here appends it. Every text of a file and of the user stands
-//! escaped.
+//! `specs/` defines each text, and a function here appends it. Every text of a file or of the user is escaped.
+//! Functions that allocate return `NoMemory` if an allocation fails.
 #![tactic(auto)]
 
 mod check;

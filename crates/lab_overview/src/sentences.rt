@@ -1,5 +1,4 @@
-//! Sentences with markup round them. Each function that takes bytes appends to them; after NoMemory, part of what was to be
-//! appended may stand there.
+//! Sentences with markup. Functions that take bytes append; on failure, a part of the text may have been appended.
 
 ghost use Rattle.std.specs.Prelude.{◌≡◌, ◌++◌, ◌≤◌, length, OnOk};
 ghost use Rattle.lab_overview.specs.Sentences.{lead_length, led_text, paragraph_text};
@@ -15,7 +14,7 @@ fn lead_length(text: &[u8]) -> usize
     text.iter().take_while(|byte| **byte != b':').count()
 }
 
-/// Appends a sentence, with what stands before its first colon in bold letters.
+/// Appends a sentence, with the words before its first colon in bold.
 #[tactic(auto, unfolding(crate::specs::Sentences::led_text))]
 pub fn put_led(out: &mut Vec<u8>, text: &[u8]) -> Result<(), NoMemory>
     ensures { OnOk result (out.new.items ≡ out.old.items ++ led_text text.now) }

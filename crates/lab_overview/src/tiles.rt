@@ -1,5 +1,5 @@
-//! The tiles of a page: the verdict in four words. Each function that takes bytes appends to them; after NoMemory, part of
-//! what was to be appended may stand there.
+//! The tiles of a page: the verdict in four words. Functions that take bytes append; on failure, a part of the text may
+//! have been appended.
 
 ghost use Rattle.std.specs.Prelude.{◌≡◌, ◌++◌, flat_map, IfOk, OnOk};
 ghost use Rattle.lab_overview.specs.Head.{tile_open, tile_said, tile_text, is_serial, is_placed, yes_word, is_present, present_name, present_names, none_words, names_tile, serial_tile, placed_tile, level_tile, verdict_tiles, tiles_text};
@@ -103,7 +103,7 @@ fn put_names(out: &mut Vec<u8>, report: &Report, phenomena: &[Phenomenon]) -> Re
     Ok(())
 }
 
-/// The names of the phenomena that are present. NoMemory where an allocation was refused.
+/// The names of the phenomena that are present.
 fn present_names(alloc: Global, report: &Report) -> Result<Vec<u8>, NoMemory>
     ensures { IfOk result (λ names. names.items ≡ present_names report.now) }
 {

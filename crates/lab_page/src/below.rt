@@ -1,5 +1,5 @@
-//! What stands below a step of a cycle: its operations, and the versions of its row. Each function that takes bytes appends to
-//! them; after NoMemory, part of what was to be appended may stand there.
+//! What stands below a step of a cycle: its operations, and the versions of its row. Functions that take bytes append;
+//! on failure, a part of the text may have been appended.
 
 ghost use Rattle.std.specs.Prelude.{◌≡◌, ◌++◌, OnOk};
 ghost use Rattle.lab_drawing.specs.Making.{arrow_of};

@@ -1,4 +1,4 @@
-//! Laws of pages. The functions have nothing to do: their contracts are the laws.
+//! Theorems on pages, stated as contracts of empty functions.
 
 ghost use Rattle.std.specs.Prelude.{◌≡◌, ◌≢◌, ℕ, ◌≤◌, true, false, None, Option, List, Contains, length};
 ghost use Rattle.std.specs.List.{list_all};
@@ -24,9 +24,9 @@ ghost use Rattle.lab_page.specs.Untagged.{Shows, Holds, untagged, read_back, nam
 ghost use Rattle.lab_page.specs.Why.{opening_of};
 ghost use Rattle.lab_page.specs.Whole.{page_text};
 
-/// A page without its tags has explain's sentences, word for word: the first one of what is told, each step of a cycle of
-/// those that are shown, the three of a fault, that of the snapshot verdict, one for each phenomenon, and the line of the
-/// level.
+/// Without its tags, a page has the sentences of `explain`, word for word: the first sentence of its subject, each
+/// shown step of a cycle, the three of a fault, the sentence of the snapshot verdict, one for each phenomenon, and the
+/// line of the level.
 pub fn the_sentences_stand_in_their_page()
     ensures first { (h : Held) (report : Report) (asked : Option Phenomenon) (title picture : List ℕ) → Shows (page_text h report asked title picture) (opening_of h report asked) }
     ensures steps { (h : Held) (report : Report) (asked : Option Phenomenon) (title picture : List ℕ) (e : Dependency) → Contains (shown_steps (told_cycle report asked)) e → Shows (page_text h report asked title picture) (edge_sentence h e) }
@@ -38,43 +38,43 @@ pub fn the_sentences_stand_in_their_page()
     ensures level { (h : Held) (report : Report) (asked : Option Phenomenon) (title picture : List ℕ) → Shows (page_text h report asked title picture) (level_line report.level) }
 {}
 
-/// A page without its tags has the ten lines of the report.
+/// Without its tags, a page has the ten lines of the report.
 pub fn the_report_stands_in_its_page()
     ensures { (h : Held) (report : Report) (asked : Option Phenomenon) (title picture : List ℕ) → Shows (page_text h report asked title picture) (report_text report) }
 {}
 
-/// A page without its tags has the file of its history, where that has no more than 65,536 bytes.
+/// Without its tags, a page has the file of its history, if that has at most 65,536 bytes.
 pub fn the_history_stands_in_its_page()
     ensures { (h : Held) (report : Report) (asked : Option Phenomenon) (title picture : List ℕ) → length (file_of h) ≤ 65536 → Shows (page_text h report asked title picture) (file_of h) }
 {}
 
-/// A page has its picture byte for byte, where that has no more than 65,536 bytes.
+/// A page has its picture, byte for byte, if that has at most 65,536 bytes.
 pub fn the_picture_stands_in_its_page()
     ensures { (h : Held) (report : Report) (asked : Option Phenomenon) (title picture : List ℕ) → length picture ≤ 65536 → Holds (page_text h report asked title picture) picture }
 {}
 
-/// A sentence of a page without its tags is the sentence, escaped; and an escaped text, its names of bytes read back, is the
-/// text.
+/// A sentence of a page without its tags is the escaped sentence. An escaped text, with its character references read
+/// back, is the text.
 pub fn without_tags_a_sentence_is_as_it_was()
     ensures tags { (text : List ℕ) → untagged false (led_text text) ≡ escaped text }
     ensures names { (text : List ℕ) → read_back (escaped text) ≡ text }
 {}
 
-/// What is escaped, as each name of a file and what the user says of a page is, has no bare `<`, `>` or `"`, and `&` only
-/// where it begins the name of a byte.
+/// An escaped text, such as a name of a file or the title of a page, has no bare `<`, `>` or `"`, and `&` only at the
+/// start of a character reference.
 pub fn what_is_escaped_has_no_markup()
     ensures markup { (text : List ℕ) → list_all is_plain (escaped text) ≡ true }
     ensures ands { (text : List ℕ) → names_bytes (escaped text) ≡ true }
 {}
 
-/// A page has what the user says of it escaped, in two places: whatever that is, all else of the page is the same. A page
-/// without its tags has it.
+/// A page has its title escaped, in two positions, and the rest of the page doesn't depend on the title. Without its
+/// tags, the page has the title.
 pub fn a_title_stands_escaped_in_its_page()
     ensures escaped { (h : Held) (report : Report) (asked : Option Phenomenon) (picture : List ℕ) → HasTitlesEscaped (λ title. page_text h report asked title picture) }
     ensures shown { (h : Held) (report : Report) (asked : Option Phenomenon) (title picture : List ℕ) → length title ≢ 0 → Shows (page_text h report asked title picture) title }
 {}
 
-/// Of one input `page` says one thing, byte for byte: two pages of one file are equal.
+/// `page` has one output for each input, byte for byte: two pages of one file are equal.
 pub fn page_answer_unique()
     ensures text { (input title one other : List ℕ) (asked : Option Phenomenon) (first again : Ending) → IsPageAnswer input asked title one first → IsPageAnswer input asked title other again → one ≡ other }
     ensures ending { (input title one other : List ℕ) (asked : Option Phenomenon) (first again : Ending) → IsPageAnswer input asked title one first → IsPageAnswer input asked title other again → first ≡ again }

@@ -1,11 +1,12 @@
 //! Pages of judgements, in HTML.
 //!
-//! [`page`] is the subcommand of the program: it reads a history file, and writes one HTML file that shows the verdict on
-//! its history, why, and what to check it by, to a person who has nothing but a browser. It has no scripts, and nothing is
-//! fetched for it.
+//! [`page`] is the subcommand of the program: it reads a history file, and writes one HTML file that shows the verdict
+//! on its history, the reasons, and how to check it. The reader needs only a browser. The page has no scripts, and
+//! loads nothing.
 //!
-//! Which text it is, is a definition over history and report (`page_text`), with the picture of the report in it. A part
-//! of the page is a definition in `specs/`, and a file here that appends it. Every text of a file stands escaped.
+//! `page_text` defines the page of a history and a report, with the picture of the report. `specs/` defines each
+//! section, and a file here appends it. Every text of a file is escaped. Functions that allocate return `NoMemory` if
+//! an allocation fails.
 #![tactic(auto)]
 
 mod below;

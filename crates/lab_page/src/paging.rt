@@ -1,4 +1,4 @@
-//! The subcommand `page`: from the bytes of a history file to its page.
+//! The subcommand `page`: reads a history file and writes its page.
 
 ghost use Rattle.std.specs.Prelude.{◌≡◌, ◌⊎◌, List, ℕ, IfOk, IfErr, IfSome, OnErr};
 ghost use Rattle.std.specs.Io.KnownBytes.{Appends, Keeps};
@@ -15,7 +15,7 @@ use lab_table::NoMemory;
 use std::alloc::{AllocError, Global};
 use std::io::{Read, Write};
 
-/// The page of a judgement of a history. NoMemory where an allocation was refused.
+/// The page of a judgement of a history.
 fn page_of(
     alloc: Global,
     history: &History,
@@ -51,8 +51,9 @@ impl<'a> Teller for TellsPage<'a> {
     fn note<N: Write>(&self, _notes: &mut N) {}
 }
 
-/// Reads a history file, and writes the page of a judgement of its history, or of what is found of a phenomenon, with what
-/// `title` says of it. Or the line of the file's first fault. It reads, writes and ends as [`tell_history`] does.
+/// Reads a history file, and writes the page of the judgement of its history, or of the finding about a phenomenon,
+/// with the title `title`. If the file is refused, writes the line of its first fault. Reads, writes and ends as
+/// `tell_history` does.
 pub fn page<R: Read, W: Write, N: Write>(
     alloc: Global,
     reader: &mut R,

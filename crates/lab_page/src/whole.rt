@@ -1,5 +1,4 @@
-//! The text of a page. Each function that takes bytes appends to them; after NoMemory, part of what was to be appended may
-//! stand there.
+//! The text of a page. Functions that take bytes append; on failure, a part of the text may have been appended.
 
 ghost use Rattle.std.specs.Prelude.{◌≡◌, ◌++◌, IfOk, OnOk};
 ghost use Rattle.lab_page.specs.Whole.{verdict_part, evidence_part, page_with, page_text};
@@ -70,8 +69,7 @@ fn put_page(
     put_evidence(alloc, out, history, scope, report, asked)
 }
 
-/// The page of a report on a history, with its picture and what the user says of it. NoMemory where an allocation was
-/// refused.
+/// The page of a report on a history, with its picture and what the user says of it.
 pub fn page_text(
     alloc: Global,
     history: &History,

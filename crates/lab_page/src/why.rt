@@ -1,5 +1,5 @@
-//! Why: the sentences of the verdict, beside its picture. Each function that takes bytes appends to them; after NoMemory,
-//! part of what was to be appended may stand there.
+//! Why: the sentences of the verdict, beside its picture. Functions that take bytes append; on failure, a part of the
+//! text may have been appended.
 
 ghost use Rattle.std.specs.Prelude.{◌≡◌, ◌++◌, OnOk};
 ghost use Rattle.lab_page.specs.Why.{opening_of, opening_text, serial_heading, heading_of, why_open, sentences_text, why_told, why_drawn, why_text};

@@ -1,5 +1,4 @@
-//! The steps of a verdict. Each function that takes bytes appends to them; after NoMemory, part of what was to be appended
-//! may stand there.
+//! The steps of a verdict. Functions that take bytes append; on failure, a part of the text may have been appended.
 
 ghost use Rattle.std.specs.Prelude.{◌≡◌, ◌++◌, ◌≤◌, length, OnOk};
 ghost use Rattle.lab_page.specs.Why.{item_head, item_text, edge_item, edge_items, recorded_item, due_item, mistake_item, fault_items, serial_items, fault_steps, untold_text, untold_steps, behind_cycle, behind_steps, steps_text};

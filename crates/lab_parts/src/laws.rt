@@ -1,4 +1,4 @@
-//! What is so of a run whose parts fit.
+//! Theorems on a run whose parts fit.
 
 ghost use Rattle.std.specs.Prelude.{◌⊎◌, List, map};
 ghost use Rattle.std.specs.List.{All};
@@ -14,26 +14,27 @@ ghost use Rattle.lab_parts.specs.WholeEdges.{IsWithin, LeadsForward, edge_in};
 ghost use Rattle.lab_parts.specs.WholeFindings.{HasThoseOfParts, IsFreeByParts, NoCircle, Graded, point_in, least_of};
 ghost use Rattle.lab_parts.specs.WholeRuns.{Ordered, Placed, whole_order, whole_spans};
 
-/// Where each part runs as recorded in an order, the run does in these orders one behind the other: each statement lists and
-/// writes what is recorded, from the table before the first part to the one behind the last.
+/// If each part is a serial run in an order, the whole run is a serial run in these orders, one after another. Each
+/// statement lists and writes what is recorded, from the table before the first part to the table after the last.
 pub fn orders_are_one_order()
     ensures { (first : Ordered) (others : List Ordered) → IsSerialRun first.part first.order → All (λ o. IsSerialRun o.part o.order) others
         → Fits first.part (map (λ o. o.part) others) → IsSerialRun (whole first.part (map (λ o. o.part) others)) (whole_order first others) }
 {}
 
-/// Where each part is a snapshot run with places, the run is one with the places of each part behind those before.
+/// If each part is a snapshot run with start and commit timestamps, the whole run is one, with the timestamps of each
+/// part after those of the parts before.
 pub fn spans_are_one_placing()
     ensures { (first : Placed) (others : List Placed) → IsSnapshotRun first.part first.spans → All (λ o. IsSnapshotRun o.part o.spans) others
         → Fits first.part (map (λ o. o.part) others) → IsSnapshotRun (whole first.part (map (λ o. o.part) others)) (whole_spans first others) }
 {}
 
-/// Where each part is sound, the run is.
+/// If each part is sound, the whole run is sound.
 pub fn parts_are_sound_together()
     ensures { (first : History) (parts : List History) → IsSound first → All IsSound parts → Fits first parts → IsSound (whole first parts) }
 {}
 
-/// Of sound parts each dependency of the run is one of a part, between the numbers that its transactions have in the run, or
-/// leads from a transaction of a part to one of a later part; and each dependency of a part is one of the run.
+/// If the parts are sound, each dependency of the run is one of a part, with the numbers that its transactions have in
+/// the run, or leads from a transaction of a part to one of a later part. Each dependency of a part is one of the run.
 pub fn dependencies_lead_forward()
     ensures forward { (first : History) (parts : List History) → IsSound first → All IsSound parts → Fits first parts
         → (e : Dependency) → IsEdge (whole first parts) e → IsWithin first parts e ⊎ LeadsForward first parts e }
@@ -41,8 +42,8 @@ pub fn dependencies_lead_forward()
         → (e : Dependency) → IsWithin first parts e → IsEdge (whole first parts) e }
 {}
 
-/// Of sound parts that fit, the run has exactly the cycles that one of its parts has, of each kind, between the numbers that
-/// the transactions have in the run; and so with cycles of starts and commits.
+/// If the parts are sound and fit, the run has exactly the cycles of each kind that its parts have, with the numbers
+/// that the transactions have in the run. The same holds for cycles of starts and commits.
 pub fn cycles_are_those_of_parts()
     ensures cycle { HasThoseOfParts IsClosedWalk edge_in }
     ensures g0 { HasThoseOfParts IsG0 edge_in }
@@ -53,7 +54,7 @@ pub fn cycles_are_those_of_parts()
     ensures circle { HasThoseOfParts IsCircle point_in }
 {}
 
-/// So it has none of a kind exactly where no part has one.
+/// If the parts are sound and fit, the run has no cycle of a kind exactly if no part has one.
 pub fn parts_show_what_the_whole_shows()
     ensures cycle { IsFreeByParts (λ h. NoWalk (IsClosedWalk h)) }
     ensures g0 { IsFreeByParts (λ h. NoWalk (IsG0 h)) }
@@ -64,7 +65,7 @@ pub fn parts_show_what_the_whole_shows()
     ensures circle { IsFreeByParts NoCircle }
 {}
 
-/// And its level is the lowest of theirs.
+/// If the parts are sound and fit, the level of the run is the lowest level of its parts.
 pub fn level_is_the_lowest_of_parts()
     ensures { (first : Graded) (others : List Graded) → IsSound first.part → All IsSound (map (λ o. o.part) others) → Fits first.part (map (λ o. o.part) others)
         → IsGrade first.part first.level → All (λ o. IsGrade o.part o.level) others

@@ -1,9 +1,9 @@
-//! Runs that were recorded in parts: the history that the parts make together, and what is so of it.
+//! Theorems on runs that were recorded in parts, and the history that the parts form together.
 //!
-//! A run is its first part and those behind it, each a history. Their history is a definition (`whole`): the transactions
-//! of all parts under numbers of their own, over the table with which the first part begins, with the versions that each
-//! statement saw. Here are laws, the contracts of functions that have nothing to do: a yes of each part is one of the run,
-//! and of parts that are sound the run shows what one of them shows.
+//! A run is its first part and the later parts, each a history. `whole` defines the history of the run: the
+//! transactions of all parts, renumbered, over the initial table of the first part, with the versions that each
+//! statement saw. The theorems are contracts of empty functions: if each part has a yes, so does the run; and a run of
+//! sound parts has the cycles that its parts have.
 #![tactic(auto)]
 
 mod laws;

@@ -35,7 +35,7 @@ fn tie_name(tie: Tie) -> &'static str
     }
 }
 
-/// What stands at an arrow. NoMemory where an allocation was refused.
+/// What stands at an arrow.
 fn label_of(alloc: Global, arrow: &Arrow) -> Result<Vec<u8>, NoMemory>
     ensures { IfOk result (λ label. label.items ≡ label_of arrow.now) }
 {

@@ -53,7 +53,7 @@ fn fits(statement: &[u8], effect: &[u8]) -> bool
     in_three(BOX_BYTES, statement) + in_four(BOX_BYTES, effect) <= 4
 }
 
-/// What a box tells of an operation where these rows are named. NoMemory where an allocation was refused.
+/// What a box tells of an operation where these rows are named.
 pub fn telling(alloc: Global, named: &[RowName], op: &Op) -> Result<BoxText, NoMemory>
     ensures { IfOk result (λ told. told ≡ telling named.now op.now) }
 {
@@ -96,7 +96,7 @@ fn lines_of(told: &BoxText) -> u64
     }
 }
 
-/// How many lines an operation's box needs where these rows are named. NoMemory where an allocation was refused.
+/// How many lines an operation's box needs where these rows are named.
 #[tactic(auto, unfolding(crate::specs::Boxes::box_lines))]
 pub fn lines_in_box(alloc: Global, named: &[RowName], op: &Op) -> Result<u64, NoMemory>
     ensures { IfOk result (λ lines. lines ≡ box_lines named.now op.now) }

@@ -23,7 +23,7 @@ fn put_next(out: &mut Vec<u8>, steps: &[u64]) -> Result<(), NoMemory>
     Ok(())
 }
 
-/// The attribute with the classes of some steps; empty of none. NoMemory where an allocation was refused.
+/// The attribute with the classes of some steps; empty of none.
 fn class_of(alloc: Global, steps: &[u64]) -> Result<Vec<u8>, NoMemory>
     ensures { IfOk result (λ class. class.items ≡ class_text steps.now) }
 {
@@ -37,7 +37,7 @@ fn class_of(alloc: Global, steps: &[u64]) -> Result<Vec<u8>, NoMemory>
     Ok(class)
 }
 
-/// The steps of an arrow that so many come before. NoMemory where an allocation was refused.
+/// The steps of an arrow that so many come before.
 fn arrow_steps(alloc: Global, before: usize, tie: Tie) -> Result<Vec<u64>, NoMemory>
     ensures { IfOk result (λ steps. steps.items ≡ arrow_steps before tie) }
 {
@@ -53,7 +53,7 @@ fn arrow_steps(alloc: Global, before: usize, tie: Tie) -> Result<Vec<u64>, NoMem
     }
 }
 
-/// The class of an arrow that so many come before. NoMemory where an allocation was refused.
+/// The class of an arrow that so many come before.
 pub fn arrow_class(alloc: Global, before: usize, tie: Tie) -> Result<Vec<u8>, NoMemory>
     ensures { IfOk result (λ class. class.items ≡ arrow_class before tie) }
 {
@@ -86,7 +86,7 @@ fn is_step_at(txn: TxnNo, op: u32, arrow: &Arrow) -> bool
     is_dependency(arrow.tie) && touches(txn, op, arrow)
 }
 
-/// The steps whose arrows lead from an operation, or to it. NoMemory where an allocation was refused.
+/// The steps whose arrows lead from an operation, or to it.
 fn steps_at(alloc: Global, txn: TxnNo, op: u32, arrows: &[Arrow]) -> Result<Vec<u64>, NoMemory>
     requires { length arrows.now ≤ 20 }
     ensures { IfOk result (λ steps. steps.items ≡ steps_from txn op 0 arrows.now) }
@@ -100,7 +100,7 @@ fn steps_at(alloc: Global, txn: TxnNo, op: u32, arrows: &[Arrow]) -> Result<Vec<
     Ok(steps)
 }
 
-/// The steps of a column's box. NoMemory where an allocation was refused.
+/// The steps of a column's box.
 fn box_steps(
     alloc: Global,
     arrows: &[Arrow],
@@ -116,7 +116,7 @@ fn box_steps(
     }
 }
 
-/// The class of a column's box. NoMemory where an allocation was refused.
+/// The class of a column's box.
 pub fn box_class(
     alloc: Global,
     arrows: &[Arrow],

@@ -32,7 +32,7 @@ pub fn marked_in(marked: &Option<Spot>, txn: TxnNo) -> u32
     }
 }
 
-/// What stands above a column. NoMemory where an allocation was refused.
+/// What stands above a column.
 fn title_of(alloc: Global, history: &History, txn: TxnNo) -> Result<Vec<u8>, NoMemory>
     ensures { IfOk result (λ title. title.items ≡ title_of history.now txn) }
 {

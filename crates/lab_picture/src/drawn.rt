@@ -1,4 +1,4 @@
-//! The picture of a report, for who has one.
+//! Draws the picture of a report that is already computed.
 
 ghost use Rattle.std.specs.Prelude.{IfOk};
 ghost use Rattle.lab_judge.specs.Judgement.{IsExactJudgement};
@@ -13,8 +13,7 @@ use lab_reports::Phenomenon;
 use lab_table::NoMemory;
 use std::alloc::Global;
 
-/// The picture of a report on a history: of its serial verdict, or of what it finds of a phenomenon. NoMemory where an
-/// allocation was refused.
+/// Returns the picture of a report on a history: of its serial verdict, or of its finding about a phenomenon.
 pub fn picture_with(
     alloc: Global,
     history: &History,

@@ -1,5 +1,5 @@
-//! What an operation did, as its box tells it. Each function that takes bytes appends to them; after NoMemory, part of
-//! what was to be appended may stand there.
+//! What an operation did, as its box shows it. Functions that take bytes append; on failure, a part of the text may
+//! have been appended.
 
 ghost use Rattle.std.specs.Prelude.{◌≡◌, ◌++◌, IfOk, OnOk, option_map};
 ghost use Rattle.lab_history.specs.VersionName.{state_value};
@@ -88,7 +88,7 @@ fn put_written(out: &mut Vec<u8>, op: &Op) -> Result<(), NoMemory>
     Ok(())
 }
 
-/// What an operation did. NoMemory where an allocation was refused.
+/// Returns what an operation did.
 pub fn effect_text(alloc: Global, op: &Op) -> Result<Vec<u8>, NoMemory>
     ensures { IfOk result (λ text. text.items ≡ effect_text op.now) }
 {

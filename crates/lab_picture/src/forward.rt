@@ -1,4 +1,4 @@
-//! The dependencies of a yes that a picture has.
+//! The dependencies of a yes that a picture shows.
 
 ghost use Rattle.std.specs.Prelude.{◌≡◌, ◌↔◌, ◌++◌, [], Contains, IfOk, OnOk};
 ghost use Rattle.lab_history.specs.History.{History as Held};
@@ -41,8 +41,7 @@ fn put_next_pairs(
     Ok(())
 }
 
-/// Each two transactions of one band, and the last of a band with the first of the next. NoMemory where an allocation
-/// was refused.
+/// Each two transactions of one band, and the last of a band with the first of the next.
 fn near_pairs(alloc: Global, columns: &[TxnNo]) -> Result<Vec<Pair>, NoMemory>
     ensures { IfOk result (λ pairs. pairs.items ≡ near_pairs 0 columns.now) }
 {
@@ -53,15 +52,14 @@ fn near_pairs(alloc: Global, columns: &[TxnNo]) -> Result<Vec<Pair>, NoMemory>
     Ok(pairs)
 }
 
-/// The least dependency of the second of two transactions on the first; None where there is none. NoMemory where an
-/// allocation was refused.
+/// The least dependency of the second of two transactions on the first; None where there is none.
 fn least_of(edges: &Dependencies<'_>, pair: Pair) -> Result<Option<Edge>, NoMemory>
     ensures { (h : Held) → ((e : Dependency) → Contains edges.now.edges e ↔ IsEdge h e) → IfOk result (IsLeastOf h pair) }
 {
     edges.least(pair.from, pair.to, Kinds::ALL)
 }
 
-/// The least dependency of each two. NoMemory where an allocation was refused.
+/// The least dependency of each two.
 fn least_of_all(
     alloc: Global,
     edges: &Dependencies<'_>,
@@ -83,7 +81,7 @@ fn arrow_at(history: &History, edge: Option<Edge>) -> Option<Arrow>
     arrow_of(history, &edge?)
 }
 
-/// The arrows of dependencies that there may be. NoMemory where an allocation was refused.
+/// The arrows of dependencies that there may be.
 fn arrows_in(
     alloc: Global,
     history: &History,
@@ -100,8 +98,7 @@ fn arrows_in(
     Ok(arrows)
 }
 
-/// The arrows of a sound history between transactions that are near to each other. NoMemory where an allocation was
-/// refused.
+/// The arrows of a sound history between transactions that are near to each other.
 fn arrows_between(
     alloc: Global,
     history: &History,
@@ -124,8 +121,7 @@ fn no_arrows(alloc: Global) -> Vec<Arrow>
     Vec::new(alloc)
 }
 
-/// The arrows between transactions that are near to each other in an order of a sound history's. NoMemory where an
-/// allocation was refused.
+/// The arrows between transactions that are near to each other in an order of a sound history's.
 fn order_arrows(alloc: Global, history: &History, columns: &[TxnNo]) -> Result<Vec<Arrow>, NoMemory>
     requires { IsSound history.now }
     ensures { IfOk result (λ arrows. AreForward history.now columns.now arrows.items) }
@@ -137,7 +133,7 @@ fn order_arrows(alloc: Global, history: &History, columns: &[TxnNo]) -> Result<V
     }
 }
 
-/// The arrows of a serial verdict's yes. NoMemory where an allocation was refused.
+/// The arrows of a serial verdict's yes.
 fn serial_arrows(alloc: Global, history: &History, serial: &Serial) -> Result<Vec<Arrow>, NoMemory>
     requires { RestsOnOrder history.now serial.now }
     ensures { IfOk result (λ arrows. AreForward history.now (order_of serial.now) arrows.items) }
@@ -152,8 +148,8 @@ fn serial_arrows(alloc: Global, history: &History, serial: &Serial) -> Result<Ve
     }
 }
 
-/// The arrows of a yes: those of the least dependencies between transactions that are near to each other. None of a no,
-/// and of what is found of a phenomenon. NoMemory where an allocation was refused.
+/// Returns the arrows of a yes: those of the least dependencies between transactions whose columns are near to each
+/// other. Returns none for a no, or for a finding about a phenomenon.
 pub fn forward_arrows(
     alloc: Global,
     history: &History,

@@ -13,7 +13,7 @@ use lab_history::{History, Op};
 use lab_table::{NoMemory, TxnNo};
 use std::alloc::Global;
 
-/// How many lines the box of an operation needs. NoMemory where an allocation was refused.
+/// How many lines the box of an operation needs.
 fn needed(
     alloc: Global,
     arrows: &[Arrow],
@@ -27,7 +27,7 @@ fn needed(
     lines_in_box(alloc, &named, op)
 }
 
-/// How many lines the fullest box of a transaction has, and no fewer than given. NoMemory where an allocation was refused.
+/// How many lines the fullest box of a transaction has, and no fewer than given.
 fn fullest_box(
     alloc: Global,
     arrows: &[Arrow],
@@ -46,8 +46,7 @@ fn fullest_box(
     Ok(most)
 }
 
-/// How many lines the fullest box of some transactions has, and no fewer than four. NoMemory where an allocation was
-/// refused.
+/// How many lines the fullest box of some transactions has, and no fewer than four.
 fn fullest(
     alloc: Global,
     history: &History,
@@ -63,7 +62,7 @@ fn fullest(
     Ok(most)
 }
 
-/// How many lines the fullest box of some transactions has beyond four. NoMemory where an allocation was refused.
+/// How many lines the fullest box of some transactions has beyond four.
 pub fn extra_lines(
     alloc: Global,
     history: &History,

@@ -29,7 +29,7 @@ fn line_bytes(columns: usize) -> usize
     if columns > 2 { 122 } else { 76 }
 }
 
-/// How many transactions are drawn, where that isn't all. NoMemory where an allocation was refused.
+/// How many transactions are drawn, where that isn't all.
 fn more_text(alloc: Global, columns: usize) -> Result<Vec<u8>, NoMemory>
     ensures { IfOk result (λ text. text.items ≡ more_text columns) }
 {

@@ -1,5 +1,5 @@
-//! What a box tells of an operation's rows where it tells only of those that arrows name. Each function that takes bytes
-//! appends to them; after NoMemory, part of what was to be appended may stand there.
+//! What a box tells of an operation's rows where it tells only of those that arrows name. Functions that take bytes
+//! append; on failure, a part of the text may have been appended.
 
 ghost use Rattle.std.specs.Prelude.{◌≡◌, ◌++◌, IfOk, OnOk};
 ghost use Rattle.lab_history.specs.VersionName.{state_value};
@@ -175,7 +175,7 @@ fn kept_lead(rows: &Rows) -> &'static [u8]
     }
 }
 
-/// What an operation did with the rows that are named. NoMemory where an allocation was refused.
+/// What an operation did with the rows that are named.
 pub fn kept_text(alloc: Global, named: &[RowName], op: &Op) -> Result<Vec<u8>, NoMemory>
     ensures { IfOk result (λ text. text.items ≡ kept_text named.now op.now) }
 {

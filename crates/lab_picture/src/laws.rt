@@ -1,4 +1,4 @@
-//! Laws of drawings and of their texts. The functions have nothing to do: their contracts are the laws.
+//! Theorems on drawings and their text, stated as contracts of empty functions.
 
 ghost use Rattle.std.specs.Prelude.{◌≡◌, ℕ, Some, Option, List, Contains};
 ghost use Rattle.lab_history.specs.History.{History as Held};
@@ -13,26 +13,27 @@ ghost use Rattle.lab_reports.specs.declared.phenomenon.Phenomenon.{Phenomenon};
 ghost use Rattle.lab_drawing.specs.declared.drawing.Arrow.{Arrow as Drawn};
 ghost use Rattle.lab_drawing.specs.declared.drawing.Spot.{Spot as Place};
 
-/// Where an arrow is drawn between two operations, the box of each has all that is told of the arrow's row, if the
-/// operation tells of it: nothing of it is cut, and its parentheses aren't parted, unless they are wider than a line.
+/// If an arrow is drawn between two operations, the box of each shows everything about the arrow's row that the
+/// operation has: nothing of it is cut, and its parentheses aren't split unless they are wider than a line.
 pub fn each_arrow_has_its_row_at_both_ends()
     ensures { (h : Held) (d : Sketch) (a : Drawn) → Contains (arrows_drawn d) a → HasRow h (arrows_drawn d) a.row a.from × HasRow h (arrows_drawn d) a.row a.to }
 {}
 
-/// Where few operations are drawn, both operations of each arrow that is drawn are, and so is the marked one.
+/// If only some operations are drawn, both operations of each drawn arrow are among them, and so is the marked
+/// operation.
 pub fn each_named_operation_is_drawn()
     ensures ends { (h : Held) (d : Sketch) (a : Drawn) → Contains (arrows_drawn d) a → IsDrawnAt h d a.from × IsDrawnAt h d a.to }
     ensures marked { (h : Held) (d : Sketch) (spot : Place) → d.marked ≡ Some spot → IsDrawnAt h d spot }
 {}
 
-/// Of each column no more operations are drawn than twenty-four, or nine and two for each arrow that is drawn. So however
-/// many a transaction has, the picture is no higher than its arrows and its fullest box make it.
+/// A column draws at most 24 operations, or nine and two for each drawn arrow. So the height of a picture is limited by
+/// its arrows and its largest box, not by the number of operations of a transaction.
 pub fn a_picture_is_low()
     ensures drawn { (h : Held) (d : Sketch) (n : ℕ) → Contains (shown_columns d.columns) n → DrawsFew h d n }
     ensures height { (h : Held) (d : Sketch) → IsLow h d }
 {}
 
-/// Of one input `picture` says one thing, byte for byte: two pictures of one file are equal.
+/// `picture` has one output for each input, byte for byte: two pictures of one file are equal.
 pub fn picture_answer_unique()
     ensures text { (input one other : List ℕ) (asked : Option Phenomenon) (first again : Ending) → IsPictureAnswer input asked one first → IsPictureAnswer input asked other again → one ≡ other }
     ensures ending { (input one other : List ℕ) (asked : Option Phenomenon) (first again : Ending) → IsPictureAnswer input asked one first → IsPictureAnswer input asked other again → first ≡ again }

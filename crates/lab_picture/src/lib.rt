@@ -1,9 +1,9 @@
-//! Pictures of judgements.
+//! Pictures of judgements, in SVG.
 //!
-//! [`print_drawing`] gives a drawing its text, in SVG, which is a definition over history and drawing (`svg_of`). The arrows
-//! of a yes, which are drawn thin, are those of the least dependencies between transactions that stand near to each other
-//! (`AreForward`); there is one such list. [`picture`] is the subcommand of the program: it reads a history file, and
-//! writes the picture of a judgement of its history.
+//! [`print_drawing`] returns the SVG text of a drawing; `svg_of` defines it for a history and a drawing. The arrows of
+//! a yes are drawn thin; they are those of the least dependencies between transactions whose columns are near to each
+//! other (`AreForward`), and there is one such list. [`picture`] is the subcommand of the program: it reads a history
+//! file, and writes the picture of the judgement. Functions that allocate return `NoMemory` if an allocation fails.
 #![tactic(auto)]
 
 mod arrows;

@@ -27,8 +27,7 @@ fn add_drawn(found: &mut Vec<Arrow>, columns: &[TxnNo], arrows: &[Arrow]) -> Res
     Ok(())
 }
 
-/// The arrows that are drawn between columns of these transactions: of these and of those. NoMemory where an allocation
-/// was refused.
+/// The arrows that are drawn between columns of these transactions: of these and of those.
 pub fn drawn(
     alloc: Global,
     columns: &[TxnNo],
@@ -57,7 +56,7 @@ pub fn touches(txn: TxnNo, op: u32, arrow: &Arrow) -> bool
     is_at(txn, op, arrow.from) || is_at(txn, op, arrow.to)
 }
 
-/// The rows that arrows name which lead from an operation, or to it. NoMemory where an allocation was refused.
+/// The rows that arrows name which lead from an operation, or to it.
 pub fn rows_at(
     alloc: Global,
     arrows: &[Arrow],

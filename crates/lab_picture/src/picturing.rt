@@ -1,4 +1,4 @@
-//! The subcommand `picture`: from the bytes of a history file to its picture.
+//! The subcommand `picture`: reads a history file and writes its picture.
 
 ghost use Rattle.std.specs.Prelude.{◌≡◌, ◌⊎◌, List, ℕ, IfOk, IfErr, IfSome, OnErr};
 ghost use Rattle.std.specs.Io.KnownBytes.{Appends, Keeps};
@@ -16,7 +16,7 @@ use lab_table::NoMemory;
 use std::alloc::{AllocError, Global};
 use std::io::{Read, Write};
 
-/// The picture of a judgement of a history. NoMemory where an allocation was refused.
+/// The picture of a judgement of a history.
 fn picture_of(
     alloc: Global,
     history: &History,
@@ -51,8 +51,9 @@ impl Teller for TellsPicture {
     fn note<N: Write>(&self, _notes: &mut N) {}
 }
 
-/// Reads a history file, and writes the picture of a judgement of its history: of its serial verdict, or of what is found
-/// of a phenomenon. Or the line of the file's first fault. It reads, writes and ends as [`tell_history`] does.
+/// Reads a history file, and writes the picture of the judgement of its history: of the serial verdict, or of the
+/// finding about a phenomenon. If the file is refused, writes the line of its first fault. Reads, writes and ends as
+/// `tell_history` does.
 pub fn picture<R: Read, W: Write, N: Write>(
     alloc: Global,
     reader: &mut R,

@@ -54,7 +54,7 @@ fn slotted(few: bool, arrows: &[Arrow], marked: &Option<Spot>, arrow: &Arrow) ->
     }
 }
 
-/// Arrows with the places of their ends for their numbers. NoMemory where an allocation was refused.
+/// Arrows with the places of their ends for their numbers.
 pub fn all_slotted(
     alloc: Global,
     few: bool,

@@ -1,4 +1,4 @@
-//! The text of a drawing, in SVG.
+//! The SVG text of a drawing.
 
 ghost use Rattle.std.specs.Prelude.{◌≡◌, ◌++◌, ◌≤◌, IfOk, OnOk};
 ghost use Rattle.lab_picture.specs.Svg.{numbers_text, view_text, svg_text, letters_text, open_text, told_title, told_line, told_text, marker_text, ground_text, head_text, arrows_drawn, drawn_columns, placed, drawn_arrows, values_y, whole_height, body_text, svg_with, svg_of, goes_below, frame_of};
@@ -123,7 +123,7 @@ fn put_head(out: &mut Vec<u8>, width: u128, height: u128, drawing: &Drawing) -> 
     put_ground(out, width, height)
 }
 
-/// The arrows of a drawing that are drawn, those of a yes too. NoMemory where an allocation was refused.
+/// The arrows of a drawing that are drawn, those of a yes too.
 fn arrows_drawn(alloc: Global, drawing: &Drawing) -> Result<Vec<Arrow>, NoMemory>
     ensures { IfOk result (λ arrows. arrows.items ≡ arrows_drawn drawing.now) }
 {
@@ -147,7 +147,7 @@ fn put_drawn_columns(
     put_columns(alloc, out, history, frame, &arrows, drawing, columns)
 }
 
-/// Arrows of a drawing with the places of their ends for their numbers. NoMemory where an allocation was refused.
+/// Arrows of a drawing with the places of their ends for their numbers.
 fn placed(
     alloc: Global,
     frame: Frame,
@@ -185,7 +185,7 @@ fn goes_below(drawing: &Drawing) -> bool
     has_round(columns, &drawing.arrows) || has_round(columns, &drawing.forward)
 }
 
-/// The frame of a drawing. NoMemory where an allocation was refused.
+/// The frame of a drawing.
 fn frame_of(alloc: Global, history: &History, drawing: &Drawing) -> Result<Frame, NoMemory>
     ensures { IfOk result (λ frame. frame ≡ frame_of history.now drawing.now) }
 {
@@ -252,7 +252,7 @@ fn put_drawing(
     out.extend_from_slice(b"</svg>\n")
 }
 
-/// The text of a drawing of some of a history's transactions. NoMemory where an allocation was refused.
+/// Returns the SVG text of a drawing.
 pub fn print_drawing(
     alloc: Global,
     history: &History,

@@ -1,4 +1,4 @@
-//! Texts of a picture. Each function appends; after NoMemory, part of what was to be appended may stand there.
+//! Texts of a picture. The functions append; on failure, a part of the text may have been appended.
 
 ghost use Rattle.std.specs.Prelude.{◌≡◌, ℕ, ◌+◌, ◌++◌, ◌≤◌, ◌<◌, length, IfOk, OnOk};
 ghost use Rattle.std.specs.Fmt.{decimal};
@@ -145,8 +145,7 @@ pub fn put_line(
     }
 }
 
-/// The last of a text's lines, with two dots at its end where the text goes on. NoMemory where an allocation was
-/// refused.
+/// The last of a text's lines, with two dots at its end where the text goes on.
 fn shown(alloc: Global, width: usize, text: &[u8]) -> Result<Vec<u8>, NoMemory>
     requires { 3 ≤ width }
     ensures { IfOk result (λ line. line.items ≡ shown width text.now) }

@@ -39,7 +39,7 @@ fn put_first_and_last(
     out.extend_from_slice(b" at the end")
 }
 
-/// A row's first and last value. NoMemory where an allocation was refused.
+/// A row's first and last value.
 fn value_text(alloc: Global, history: &History, row: RowName) -> Result<Vec<u8>, NoMemory>
     ensures { IfOk result (λ text. text.items ≡ value_text history.now row) }
 {
@@ -91,7 +91,7 @@ fn first_rows(rows: &[RowName]) -> &[RowName]
     &rows[..rows.len().min(MAX_VALUES)]
 }
 
-/// How many rows have no line, where there are any. NoMemory where an allocation was refused.
+/// How many rows have no line, where there are any.
 fn rest_text(alloc: Global, rows: usize) -> Result<Vec<u8>, NoMemory>
     ensures { IfOk result (λ text. text.items ≡ rest_text rows) }
 {

@@ -7,7 +7,7 @@ use Rattle.lab_table.specs.declared.statement.StatementKind.{StatementKind}
 use Rattle.lab_table.specs.declared.statement.StatementKind.TheVariants as kind
 use Rattle.lab_printing.specs.Printed.{is_and, is_or}
 
--- one more where parentheses stand round it
+-- one more if there are parentheses round it
 abbrev pub deeper : Bool → ℕ → ℕ
 deeper true d = suc d
 deeper false d = d
@@ -21,7 +21,7 @@ depth_of (predicate.Not p) = suc (deeper (is_and p || is_or p) (depth_of p))
 depth_of (predicate.And p q) = max (deeper (is_or p) (depth_of p)) (deeper (is_and q || is_or q) (depth_of q))
 depth_of (predicate.Or p q) = max (depth_of p) (deeper (is_or q) (depth_of q))
 
--- the depth behind a where
+-- the depth of a where clause, 0 without one
 abbrev pub where_depth : Option Predicate → ℕ
 where_depth None = 0
 where_depth (Some p) = depth_of p

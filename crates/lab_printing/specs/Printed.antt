@@ -57,7 +57,7 @@ abbrev pub is_and : Predicate → Bool
 is_and (predicate.And p q) = true
 is_and p = false
 
--- A predicate. Parentheses stand round an or under and, round an and or an or under not, and round a right member that is the same connective.
+-- A predicate. Parentheses are put round an or under and, round an and or an or under not, and round a right member that is the same connective.
 abbrev pub printed_pred : Predicate → List ℕ
 printed_pred (predicate.Compare c m n) = printed_col c ++ printed_cmp m ++ signed_decimal n
 printed_pred (predicate.Remainder c m r) = printed_col c ++ codes " % " ++ decimal m ++ codes " = " ++ signed_decimal r
@@ -66,7 +66,7 @@ printed_pred (predicate.Not p) = codes "not " ++ parenthesized (is_and p || is_o
 printed_pred (predicate.And p q) = parenthesized (is_or p) (printed_pred p) ++ codes " and " ++ parenthesized (is_and q || is_or q) (printed_pred q)
 printed_pred (predicate.Or p q) = printed_pred p ++ codes " or " ++ parenthesized (is_or q) (printed_pred q)
 
--- what stands behind a statement, with the space before it
+-- the where clause of a statement, if it has one, with the space before it
 abbrev pub printed_where : Option Predicate → List ℕ
 printed_where None = []
 printed_where (Some p) = codes " where " ++ printed_pred p

@@ -1,4 +1,4 @@
-//! Whether a statement's printed form keeps the limits of a text: it is measured and not made, and no further than the limit.
+//! Length check of printed statements: measures the text without building it, and no further than the limit.
 
 ghost use Rattle.std.specs.Prelude.{◌≤◌, ◌↔◌, length, IsTrue};
 ghost use Rattle.lab_printing.specs.Printed.{printed_statement};
@@ -41,7 +41,7 @@ fn nests_within(pred: &Pred, enclosed: bool, depth: usize) -> bool
     }
 }
 
-/// Whether a statement's printed form has at most [`MAX_STATEMENT_BYTES`].
+/// Returns whether the printed form of `statement` has at most `MAX_STATEMENT_BYTES`.
 pub fn statement_fits(statement: &Statement) -> bool
     ensures { IsTrue result ↔ (length (printed_statement statement.now) ≤ max_statement_bytes) }
 {

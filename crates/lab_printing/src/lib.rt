@@ -1,20 +1,21 @@
-//! The text that statements, commands and rows are printed as, and where it goes.
+//! The printed form of statements, commands and rows, and the sinks that take it.
 //!
 //! ```text
 //! update test set value = value + 10 where id = 1
 //! ```
 //!
-//! Each has one printed form. What takes its text is a [`Sink`], which is handed it piece by piece: bytes append it, and
-//! a [`Room`] tells whether it fits, without a text. [`spell_statement`], [`spell_command`], [`spell_row_name`] and
-//! [`spell_list`] answer whether all of it was taken; [`put_statement`], [`put_printable`], [`put_row_name`] and
-//! [`put_list`] append it to bytes. What else has a printed form is [`Spell`], of which [`spell_all`] spells a list.
+//! Each value has one printed form. A [`Sink`] takes its text piece by piece: a list of bytes appends it, and a
+//! [`Room`] only measures whether it fits. [`spell_statement`], [`spell_command`], [`spell_row_name`] and
+//! [`spell_list`] return whether the sink took the whole text. [`put_statement`], [`put_printable`], [`put_row_name`]
+//! and [`put_list`] append it to bytes. Other printable values implement [`Spell`]; [`spell_all`] spells a list of
+//! them.
 //!
-//! The text of a statement keeps limits: [`MAX_STATEMENT_BYTES`] and [`MAX_DEPTH`], and [`MAX_LINE_BYTES`] as a line. A
-//! statement that is made by hand need not: [`check_statement`] and [`check_command`] tell whether it does, without a
-//! text, and else which limit it breaks, a [`PrintFault`]. How such a text is read again, `lab_statement` says.
+//! The text of a statement keeps the limits [`MAX_STATEMENT_BYTES`] and [`MAX_DEPTH`], and [`MAX_LINE_BYTES`] as a
+//! line. A statement that was built in code may exceed them. [`check_statement`] and [`check_command`] check this
+//! without building a text, and return the exceeded limit as a [`PrintFault`]. `lab_statement` reads such a text.
 //!
-//! What takes memory is handed bytes, and may be refused for want of memory. They may then end in a part of what was to
-//! be appended.
+//! Functions that append to bytes return `NoMemory` if an allocation fails. The bytes may then end in a part of the
+//! text.
 #![tactic(auto)]
 
 mod fits;

@@ -1,4 +1,4 @@
-//! Statements in printed form, where that keeps the limits of a text.
+//! Printed statements that keep the limits of a text.
 
 ghost use Rattle.std.specs.Prelude.{◌≡◌, ◌≢◌, ◌++◌, ◌≤◌, ◌<◌, length, OnOk, Err};
 ghost use Rattle.lab_printing.specs.Printed.{printed_command, printed_statement};
@@ -17,17 +17,17 @@ use thiserror::Error;
 /// Why a value has no printed text.
 #[derive(Clone, Copy, Debug, PartialEq, Eq, Error)]
 pub enum PrintFault {
-    /// An allocation was refused.
+    /// An allocation failed.
     #[error("no memory")]
     NoMemory,
-    /// More than 16 parentheses and `not`s of a statement would be open at one place.
+    /// More than 16 parentheses and `not`s of a statement would be open at once.
     #[error("a statement is too deep")]
     TooDeep,
-    /// A statement would have more than 1,000 bytes, the line of a setup more than 4,000,
-    /// or a script more than 2,000 lines.
+    /// A statement would have more than 1,000 bytes, the line of a setup more than 4,000 bytes, or a script more than
+    /// 2,000 lines.
     #[error("the text is too long")]
     TooLong,
-    /// A script names more than four tables. Only `print_script` answers it.
+    /// A script names more than four tables. Only `print_script` returns it.
     #[error("there are too many tables")]
     TooManyTables,
 }
@@ -43,11 +43,10 @@ impl From<AllocError> for PrintFault {
     }
 }
 
-/// Whether a statement's printed form keeps the limits of a text, before it is printed: Ok exactly where
-/// `print_statement` of `lab_statement` gives a text unless memory runs out.
-/// TooDeep where more than 16 parentheses and `not`s would be open at one place; else TooLong where the
-/// text would have more than 1,000 bytes. It takes no memory and never answers NoMemory.
-/// By it a caller refuses a statement that can't be written down before running or keeping it.
+/// Checks that the printed form of a statement keeps the limits of a text. Returns `Ok` exactly if `print_statement` of
+/// `lab_statement` returns a text unless memory runs out. Fails with `TooDeep` if more than 16 parentheses and `not`s
+/// would be open at once, else with `TooLong` if the text would have more than 1,000 bytes. Allocates nothing, and
+/// never fails with `NoMemory`. Call it before running or keeping a statement that must be printable.
 pub fn check_statement(statement: &Statement) -> Result<(), PrintFault>
     ensures prints { OnOk result (StatementPrints statement.now) }
     ensures too_deep { result ≡ Err PrintFault.TooDeep → max_depth < statement_depth statement.now }
@@ -64,8 +63,7 @@ pub fn check_statement(statement: &Statement) -> Result<(), PrintFault>
     }
 }
 
-/// Appends a statement in printed form, whatever its length. NoMemory where an allocation was refused, and then part of it
-/// may stand there.
+/// Appends the printed form of a statement, of any length. On failure, a part of it may have been appended.
 pub fn put_statement(out: &mut Vec<u8>, statement: &Statement) -> Result<(), NoMemory>
     ensures in_range { OnOk result (StatementInRange statement.now) }
     ensures text { OnOk result (out.new.items ≡ out.old.items ++ printed_statement statement.now) }
@@ -73,9 +71,8 @@ pub fn put_statement(out: &mut Vec<u8>, statement: &Statement) -> Result<(), NoM
     append_result(spell_statement(out, statement))
 }
 
-/// Appends a command in printed form, if that keeps the limits of a text.
-/// TooDeep and TooLong only where it breaks that limit; NoMemory where an allocation was refused. Where it is refused,
-/// the text or a part of it may stand there.
+/// Appends the printed form of a command, if it keeps the limits of a text. Fails with `TooDeep` or `TooLong` only if
+/// it exceeds that limit. On failure, a part of the text may have been appended.
 pub fn put_printable(out: &mut Vec<u8>, command: &Command) -> Result<(), PrintFault>
     ensures text { OnOk result (out.new.items ≡ out.old.items ++ printed_command command.now) }
     ensures prints { OnOk result (CommandPrints command.now) }
@@ -97,7 +94,7 @@ pub fn put_printable(out: &mut Vec<u8>, command: &Command) -> Result<(), PrintFa
     }
 }
 
-/// Whether a command's printed form keeps the limits of a text; it takes no memory.
+/// Checks that the printed form of a command keeps the limits of a text. Allocates nothing.
 pub fn check_command(command: &Command) -> Result<(), PrintFault>
     ensures prints { OnOk result (CommandPrints command.now) }
     ensures too_deep { result ≡ Err PrintFault.TooDeep → IsDeep command.now }

@@ -1,4 +1,4 @@
-//! Numbers and rows in printed form, as `spelling` has the rest. What spells a text answers whether all of it was taken.
+//! The printed form of numbers and rows. Functions that spell a text return whether the sink took all of it.
 
 ghost use Rattle.std.specs.Prelude.{◌≡◌, ◌≤◌, ◌+◌, ◌∷◌, ◌++◌, drop, codes, OnOk, true};
 ghost use Rattle.std.specs.Fmt.{decimal, signed_decimal};
@@ -64,15 +64,16 @@ fn spell_table_name<S: Sink>(out: &mut S, table: TableName) -> bool
     table == TableName::test() || spell_both(out, table.as_bytes(), b" ")
 }
 
-/// Spells the name of a row: the number of a row of `test`, and the table's name and the number of another, as `stock 1`.
+/// Spells the name of a row: the number alone for a row of `test`, else the name of the table and the number, such as
+/// `stock 1`.
 pub fn spell_row_name<S: Sink>(out: &mut S, row: RowName) -> bool
     ensures { Puts S.kept S.limit result (S.text out.old) (printed_row_name row) (S.text out.new) }
 {
     spell_table_name(out, row.table) && spell_natural(out, row.id.number())
 }
 
-/// Appends the name of a row, as `stock 1`, and `1` for a row of `test`.
-/// NoMemory where an allocation was refused, and then part of it may stand there.
+/// Appends the name of a row, such as `stock 1`, or `1` for a row of `test`. On failure, a part of it may have been
+/// appended.
 pub fn put_row_name(out: &mut Vec<u8>, row: RowName) -> Result<(), NoMemory>
     ensures { OnOk result (out.new.items ≡ out.old.items ++ printed_row_name row) }
 {
@@ -148,7 +149,7 @@ fn spell_next_row(out: &mut Vec<u8>, id: RowId, value: Value) -> bool
     out.put(&text[start..])
 }
 
-/// Spells rows of one table as a list, without the table's name; `none` where there is no row.
+/// Spells rows of one table as a list, without the name of the table. An empty list is `none`.
 pub fn spell_list(out: &mut Vec<u8>, rows: &[(RowName, Value)]) -> bool
     ensures { OnTaken result (out.new.items ≡ out.old.items ++ rows_or (codes "none") rows.now) }
 {
@@ -166,8 +167,8 @@ pub fn spell_list(out: &mut Vec<u8>, rows: &[(RowName, Value)]) -> bool
     true
 }
 
-/// Appends rows of one table as a list, without the table's name; `none` where there is no row.
-/// NoMemory where an allocation was refused, and then part of the list may stand there.
+/// Appends rows of one table as a list, without the name of the table. An empty list is `none`. On failure, a part of
+/// it may have been appended.
 pub fn put_list(out: &mut Vec<u8>, rows: &[(RowName, Value)]) -> Result<(), NoMemory>
     ensures { OnOk result (out.new.items ≡ out.old.items ++ rows_or (codes "none") rows.now) }
 {

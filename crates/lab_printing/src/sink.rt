@@ -1,4 +1,4 @@
-//! Where printed text goes: behind other bytes, or nowhere, where only its length is asked for.
+//! Destinations of printed text: bytes that it is appended to, or a counter that only measures its length.
 
 ghost use Rattle.std.specs.Prelude.{◌≡◌, ◌≤◌, ℕ, List, MatchResult, suc, replicate, true, false};
 ghost use Rattle.lab_printing.specs.Sink.{Puts};
@@ -6,7 +6,7 @@ ghost use Rattle.lab_printing.specs.Sink.{Puts};
 use lab_table::NoMemory;
 use std::alloc::AllocError;
 
-/// What takes a text, piece by piece, as far as it has room.
+/// A destination of a text. It takes the text piece by piece, as far as it has room.
 pub trait Sink {
     // What was taken so far.
     ghost text: { Self → List ℕ };
@@ -17,7 +17,7 @@ pub trait Sink {
     // A shorter text than this isn't refused.
     ghost limit: { ℕ };
 
-    /// Takes bytes. Answers whether it did: where it didn't, it may have taken part of them.
+    /// Takes `bytes`. Returns whether it took them all; if not, it may have taken a part.
     fn put(&mut self, bytes: &[u8]) -> bool
         ensures { Puts kept limit result (text self.old) bytes.now (text self.new) };
 }
@@ -36,14 +36,14 @@ impl Sink for Vec<u8> {
     }
 }
 
-/// How appending a text to bytes ended, of which this says whether they took it.
+/// Returns `Ok` if the bytes were taken, else `NoMemory`: an append to bytes fails only if memory runs out.
 pub fn append_result(taken: bool) -> Result<(), NoMemory>
     ensures { MatchResult result (λ _. taken ≡ true) (λ _. taken ≡ false) }
 {
     if taken { Ok(()) } else { Err(AllocError) }
 }
 
-/// Room for a text of `LIMIT` bytes, of which only the length is kept.
+/// A sink that only counts: it has room for `LIMIT` bytes and keeps none of them.
 #[derive(Drop)]
 pub struct Room<const LIMIT: usize> {
     used: usize,
@@ -51,7 +51,7 @@ pub struct Room<const LIMIT: usize> {
 }
 
 impl<const LIMIT: usize> Room<LIMIT> {
-    /// All of the room.
+    /// Returns an unused `Room`.
     pub fn new() -> Room<LIMIT>
         ensures { result.used ≡ 0 }
     {

@@ -1,4 +1,4 @@
-//! What has a printed form, and lists of it.
+//! The trait of values that have a printed form, and lists of them.
 
 ghost use Rattle.std.specs.Prelude.{◌++◌, codes, map, ℕ, List};
 ghost use Rattle.lab_printing.specs.Each.{Each};
@@ -7,7 +7,7 @@ ghost use Rattle.lab_printing.specs.Sink.{OnTaken, Puts};
 
 use crate::sink::Sink;
 
-/// What has a printed form.
+/// A value that has a printed form.
 pub trait Spell {
     // Its printed form.
     ghost printed: { Self → List ℕ };
@@ -15,7 +15,7 @@ pub trait Spell {
     // What its type says of the names and numbers in it.
     ghost in_range: { Self → Type 0 };
 
-    /// Spells it. Answers whether all of its text was taken.
+    /// Spells the value. Returns whether the sink took the whole text.
     fn spell<S: Sink>(&self, out: &mut S) -> bool
         ensures in_range { OnTaken result (in_range self.now) }
         ensures text { Puts S.kept S.limit result (S.text out.old) (printed self.now) (S.text out.new) };
@@ -29,7 +29,7 @@ fn spell_next<S: Sink, T: Spell>(out: &mut S, item: &T) -> bool
     out.put(b", ") && item.spell(out)
 }
 
-/// Spells all of a list, with a comma and a space between two of them.
+/// Spells a list, with a comma and a space between two values. Returns whether the sink took the whole text.
 pub fn spell_all<S: Sink, T: Spell>(out: &mut S, items: &[T]) -> bool
     ensures in_range { OnTaken result (Each T.in_range items.now) }
     ensures text { Puts S.kept S.limit result (S.text out.old) (joined (map T.printed items.now)) (S.text out.new) }

@@ -1,4 +1,4 @@
-//! The printed form of statements. Each function that spells a text answers whether all of it was taken.
+//! The printed form of statements. Functions that spell a text return whether the sink took all of it.
 
 ghost use Rattle.std.specs.Prelude.{◌≡◌, ◌++◌, ◌||◌, codes};
 ghost use Rattle.std.specs.Fmt.{decimal, signed_decimal};
@@ -182,7 +182,7 @@ fn spell_kind<S: Sink>(out: &mut S, table: &[u8], kind: &StatementKind) -> bool
     }
 }
 
-/// Spells a statement.
+/// Spells a statement. Returns whether the sink took the whole text.
 pub fn spell_statement<S: Sink>(out: &mut S, statement: &Statement) -> bool
     // Their types keep the numbers in range: where each was put, that is known of the statement.
     ensures in_range { OnTaken result (StatementInRange statement.now) }
@@ -191,7 +191,7 @@ pub fn spell_statement<S: Sink>(out: &mut S, statement: &Statement) -> bool
     spell_kind(out, statement.table.as_bytes(), &statement.kind)
 }
 
-/// Spells a command.
+/// Spells a command. Returns whether the sink took the whole text.
 pub fn spell_command<S: Sink>(out: &mut S, command: &Command) -> bool
     ensures in_range { OnTaken result (CommandInRange command.now) }
     ensures text { Puts S.kept S.limit result (S.text out.old) (printed_command command.now) (S.text out.new) }

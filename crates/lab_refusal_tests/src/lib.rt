@@ -1,4 +1,4 @@
-//! What tests of refused memory share: allocations that are refused in turn.
+//! Shared by the tests of failing memory: allocations that fail in turn.
 #![tactic(auto)]
 
 use std::alloc::{AllocError, Global};

@@ -1,16 +1,15 @@
-//! What it means of a history that its judgement meets a requirement, or doesn't. Each law is the contract of a function
-//! that has nothing to do.
+//! Theorems: what a met or unmet requirement says about the history. Stated as contracts of empty functions.
 
 ghost use Rattle.lab_reports.specs.RequirementLaws.{MetIsSo, UnmetIsNot};
 ghost use Rattle.lab_reports.specs.declared.requirement.Requirement.TheVariants.{Pl1, Pl2, Pl299, Pl3};
 
-/// Where a judgement meets a requirement, its history shows no phenomenon that the level proscribes, or is a snapshot
-/// run.
+/// If the judgement of a history meets a requirement, the history has no phenomenon that the level proscribes, or it is
+/// a snapshot run.
 pub fn met_requirements_are_kept()
     ensures { MetIsSo }
 {}
 
-/// Where a judgement has found a level, and doesn't meet one, its history hasn't that one.
+/// If a judgement has found a level and doesn't meet another one, the history isn't at that other level.
 pub fn unmet_levels_are_not()
     ensures pl1 { UnmetIsNot Pl1 }
     ensures pl2 { UnmetIsNot Pl2 }

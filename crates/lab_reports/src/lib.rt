@@ -1,11 +1,11 @@
-//! What programs and pipelines take of a report.
+//! Reports for programs and pipelines: JSON, phenomena by name, and requirements.
 //!
-//! A report is asked for one of its phenomena by name ([`Phenomenon`]), or whether it meets what a pipeline requires
-//! ([`Requirement`]); [`put_shortfall`] says why it doesn't. [`print_report_json`] gives a report as one line of JSON, and
-//! [`print_refusal_json`] and [`print_unreadable_json`] why there is none.
+//! [`Phenomenon`] names a phenomenon of a report. [`Requirement`] is what a pipeline requires of a report, and
+//! [`put_shortfall`] says why the report doesn't meet it. [`print_report_json`] prints a report as one line of JSON;
+//! [`print_refusal_json`] and [`print_unreadable_json`] print why there is none.
 //!
-//! Which JSON value it is, is a definition over the report (`tree_of`), and the line is read back as that value. Of a
-//! judgement, what is met is so of its history.
+//! `tree_of` defines the JSON value of a report, and parsing the line gives that value. What a judgement meets is true
+//! of its history. Functions that allocate return `NoMemory` if an allocation fails.
 #![tactic(auto)]
 
 mod laws;

@@ -11,7 +11,7 @@ use lab_table::NoMemory;
 use serde_json::Value as Json;
 use std::alloc::Global;
 
-/// A value that has no float as one line of compact JSON with its newline. NoMemory where an allocation was refused.
+/// Returns a value without floats as one line of compact JSON, with its newline.
 pub fn print_line(alloc: Global, json: &Json) -> Result<Vec<u8>, NoMemory>
     requires { has_float (view json.now) ≡ false }
     ensures line { IfOk result (λ line. line.items ≡ line_of (view json.now)) }

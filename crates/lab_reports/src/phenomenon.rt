@@ -1,4 +1,4 @@
-//! The phenomena that a report speaks of.
+//! The phenomena of a report.
 
 ghost use Rattle.std.specs.Prelude.{◌≡◌, Some};
 ghost use Rattle.std.specs.Str.{bytes_eq};
@@ -6,7 +6,7 @@ ghost use Rattle.lab_reports.specs.Phenomena.{phenomenon_name, finding_of, first
 
 use lab_judge::{Finding, Report};
 
-/// A phenomenon that a report speaks of.
+/// A phenomenon that a report covers.
 #[derive(Clone, Copy, Debug, PartialEq, Eq)]
 pub enum Phenomenon {
     G0,
@@ -33,7 +33,7 @@ impl Phenomenon {
         Phenomenon::G2,
     ];
 
-    /// Its name, as a report prints it. No other has it.
+    /// Returns the name of the phenomenon, as a report prints it. No other phenomenon has it.
     pub fn name(self) -> &'static str
         ensures name { result.now ≡ phenomenon_name self }
         ensures back { named result.now ≡ Some self }
@@ -41,7 +41,7 @@ impl Phenomenon {
         PHENOMENA[self as usize]
     }
 
-    /// What a report finds of it.
+    /// Returns the finding of a report about the phenomenon.
     pub fn found_in(self, report: &Report) -> &Finding
         ensures { result.now ≡ finding_of self report.now }
     {
@@ -56,7 +56,7 @@ impl Phenomenon {
         }
     }
 
-    /// The phenomenon of this name; None where no phenomenon has it.
+    /// Returns the phenomenon of this name, or `None` if no phenomenon has it.
     pub fn named(name: &str) -> Option<Phenomenon>
         ensures { result ≡ named name.now }
     {

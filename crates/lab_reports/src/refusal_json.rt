@@ -1,4 +1,4 @@
-//! Why there is no report on a file, as a line of JSON.
+//! Prints why there is no report on a file, as a line of JSON.
 
 ghost use Rattle.std.specs.Prelude.{◌≡◌, Some, IfOk, IsErr, OnOk, IsUtf8};
 ghost use Rattle.std.specs.Option.{option_copied};
@@ -24,7 +24,7 @@ fn path_json(alloc: Global, path: Path) -> Result<Json, NoMemory>
     text_json(alloc, &path.print(alloc)?)
 }
 
-/// What a file is refused for. NoMemory where that is want of memory.
+/// Returns why a file is refused, as JSON. Fails if the fault is itself `NoMemory`.
 fn file_fault_json(alloc: Global, fault: &FileFault) -> Result<Json, NoMemory>
     ensures value { IfOk result (λ v. view v ≡ file_fault_tree fault.now) }
     ensures memory { fault.now ≡ FileFault.NoMemory → IsErr result }
@@ -71,8 +71,8 @@ fn refused_json(alloc: Global, file: Option<&str>, fault: &FileFault) -> Result<
     }
 }
 
-/// Why a file is no history, as one line of compact JSON with its newline, behind the file's name where that is given.
-/// NoMemory where an allocation was refused, and where the fault is that.
+/// Returns why a file isn't a history, as one line of compact JSON with its newline; with the name of the file if it is
+/// given. Fails if the fault is itself `NoMemory`.
 #[tactic(auto, using(crate::proofs::WritableTree::refused_whole, crate::proofs::WritableTree::refused_flat))]
 pub fn print_refusal_json(
     alloc: Global,
@@ -94,8 +94,8 @@ fn unreadable_json(alloc: Global, file: &str) -> Result<Json, NoMemory>
     json!(in alloc; {"file": file, "unreadable": true})
 }
 
-/// That a file can't be opened or read, as one line of compact JSON with its newline, behind the file's name.
-/// NoMemory where an allocation was refused.
+/// Returns a line of compact JSON, with its newline, that says that a file can't be opened or read. The line has the
+/// name of the file.
 pub fn print_unreadable_json(alloc: Global, file: &str) -> Result<Vec<u8>, NoMemory>
     ensures line { IfOk result (λ line. line.items ≡ line_of (unreadable_tree file.now)) }
     ensures utf8 { IfOk result (λ line. IsUtf8 line.items) }

@@ -1,4 +1,4 @@
-//! A report as a line of JSON.
+//! Prints a report as a line of JSON.
 
 ghost use Rattle.std.specs.Prelude.{◌≡◌, fold, Some, IfOk, OnOk, IsUtf8};
 ghost use Rattle.std.specs.Option.{option_copied};
@@ -107,8 +107,8 @@ fn report_json(alloc: Global, file: Option<&str>, report: &Report) -> Result<Jso
     }
 }
 
-/// A report as one line of compact JSON with its newline, the keys of each object in the order of their bytes; behind the
-/// name of the file that it is of, where that is given. NoMemory where an allocation was refused.
+/// Returns a report as one line of compact JSON with its newline; with the name of its file if it is given. The keys of
+/// each object are in the order of their bytes.
 #[tactic(auto, using(crate::proofs::WritableTree::tree_whole, crate::proofs::WritableTree::tree_flat))]
 pub fn print_report_json(
     alloc: Global,

@@ -1,4 +1,4 @@
-//! What a pipeline may require of a report.
+//! What a pipeline can require of a report.
 
 ghost use Rattle.std.specs.Prelude.{◌≡◌, Some};
 ghost use Rattle.lab_reports.specs.Requirements.{requirement_name, first_required, required, levels_met, is_yes, meets};
@@ -6,7 +6,7 @@ ghost use Rattle.lab_reports.specs.Requirements.{requirement_name, first_require
 use crate::phenomenon::is_same;
 use lab_judge::{Grade, Places, Report};
 
-/// What may be required of a report: a level, or that the history is a snapshot run.
+/// A requirement on a report: a level, or that the history is a snapshot run.
 #[derive(Clone, Copy, Debug, PartialEq, Eq)]
 pub enum Requirement {
     /// The level PL-1.
@@ -17,7 +17,7 @@ pub enum Requirement {
     Pl299,
     /// The level PL-3.
     Pl3,
-    /// That the history is a snapshot run.
+    /// The history must be a snapshot run.
     Snapshot,
 }
 
@@ -34,7 +34,7 @@ impl Requirement {
         Requirement::Snapshot,
     ];
 
-    /// Its name. No other has it.
+    /// Returns the name of the requirement. No other requirement has it.
     pub fn name(self) -> &'static str
         ensures name { result.now ≡ requirement_name self }
         ensures back { required result.now ≡ Some self }
@@ -42,15 +42,15 @@ impl Requirement {
         REQUIREMENTS[self as usize]
     }
 
-    /// The requirement of this name; None where no requirement has it.
+    /// Returns the requirement of this name, or `None` if no requirement has it.
     pub fn named(name: &str) -> Option<Requirement>
         ensures { result ≡ required name.now }
     {
         first_required(&Requirement::ALL, name)
     }
 
-    /// Whether a report meets it: the report's level is the one that is required or a higher one, or its snapshot
-    /// verdict is yes. A report whose level is `unsound` meets no level.
+    /// Returns whether a report meets the requirement: its level is the required one or higher, or its snapshot verdict
+    /// is yes. A report whose level is `unsound` meets no level.
     pub fn is_met(self, report: &Report) -> bool
         ensures { result ≡ meets self report.now }
     {

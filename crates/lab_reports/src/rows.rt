@@ -24,7 +24,7 @@ impl ToJson for (RowName, Value) {
     }
 }
 
-/// The rows of a table, by rising row, as a history file has them. NoMemory where an allocation was refused.
+/// Returns the rows of a table, in ascending order, as in a history file.
 pub fn rows_json(alloc: Global, table: &Table) -> Result<Json, NoMemory>
     ensures { IfOk result (λ v. view v ≡ map_tree value_tree table.now) }
 {

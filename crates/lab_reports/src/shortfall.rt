@@ -1,5 +1,5 @@
-//! What is said of a report that doesn't meet what was required of it. Each function appends; after NoMemory, part of
-//! what was to be appended may stand there.
+//! Says why a report doesn't meet a requirement. The functions append; on failure, a part of the text may have been
+//! appended.
 
 ghost use Rattle.std.specs.Prelude.{◌≡◌, ◌++◌, codes, OnOk};
 ghost use Rattle.lab_reports.specs.Phenomena.{phenomenon_name};
@@ -140,11 +140,11 @@ fn put_places(out: &mut Vec<u8>, report: &Report) -> Result<(), NoMemory>
     put_cut(out, &report.snapshot)
 }
 
-/// Appends why a report doesn't meet what was required of it, without a newline: the requirement, and the level that the
-/// report found with the first phenomenon that keeps the history from the next one, as
-/// `PL-2 asked, PL-1 found: G1b present`; what is wrong with a history that isn't sound, as
-/// `PL-2 asked, unsound: F1 Dangling T1 op 1 row 1`; or the snapshot verdict, of which at most 200 bytes are shown, as
-/// `SI asked, snapshot: no c1 s2 c1`. NoMemory where an allocation was refused.
+/// Appends why a report doesn't meet a requirement, without a newline. The text has the requirement, and one of these:
+/// - the level that was found, and the first phenomenon that excludes the next one:
+///   `PL-2 asked, PL-1 found: G1b present`
+/// - the fault of a history that isn't sound: `PL-2 asked, unsound: F1 Dangling T1 op 1 row 1`
+/// - the snapshot verdict, at most 200 bytes of it: `SI asked, snapshot: no c1 s2 c1`
 pub fn put_shortfall(
     out: &mut Vec<u8>,
     requirement: Requirement,

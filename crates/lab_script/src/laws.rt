@@ -1,4 +1,4 @@
-//! Laws of the texts. The functions have nothing to do: their contracts are the laws.
+//! Theorems on the text of scripts, stated as contracts of empty functions.
 
 ghost use Rattle.std.specs.Prelude.{◌≡◌, ◌≤◌, ◌<◌, ◌↔◌, ℕ, List, length, take, None};
 ghost use Rattle.lab_table.specs.Table.{Table};
@@ -19,17 +19,16 @@ ghost use Rattle.lab_script.specs.Script.{Spells};
 ghost use Rattle.lab_table.specs.TableSet.{max_tables};
 ghost use Rattle.lab_script.specs.Tables.{with_commands, setup_tables};
 
-/// What a text spells, and its fault, is told by its first bytes, where these are more than 8,388,608: a script has at most
-/// 2,000 lines of at most 4,000 bytes, so a longer text has its first fault there.
+/// The first bytes of a text, if there are more than 8,388,608 of them, decide which script the text spells, and its
+/// fault. A script has at most 2,000 lines of at most 4,000 bytes, so a longer text has its first fault there.
 pub fn first_bytes_tell_a_script()
     ensures short { (text : List ℕ) (script : Script) → Spells text script → length text ≤ max_script_bytes }
     ensures spelled { (text : List ℕ) (n : ℕ) (script : Script) → max_script_bytes < n → Spells (take n text) script → Spells text script }
     ensures fault { (text : List ℕ) (n : ℕ) (fault : ScriptFault) → max_script_bytes < n → IsFaultOf (take n text) fault → IsFaultOf text fault }
 {}
 
-/// A text has one fault at most: two of which each is true of it, as the contract of [`parse_script`](crate::parse_script)
-/// has it, are at one line and of one kind. So has the text of one statement, by the contract of
-/// [`parse_statement`](crate::parse_statement).
+/// A text has at most one fault: if two faults are true of it, in the sense of the contract of `parse_script`, they
+/// have the same line and kind. The same holds for the text of one statement and the contract of `parse_statement`.
 pub fn fault_unique()
     ensures line { (text : List ℕ) (n m : ℕ) (kind other : ScriptFaultKind) → IsFaultOf text (ScriptFault.At n kind) → IsFaultOf text (ScriptFault.At m other) → n ≡ m }
     ensures kind { (text : List ℕ) (n m : ℕ) (kind other : ScriptFaultKind) → IsFaultOf text (ScriptFault.At n kind) → IsFaultOf text (ScriptFault.At m other) → kind ≡ other }
@@ -39,8 +38,8 @@ pub fn fault_unique()
         → IsStatementFault text (ScriptFault.At m other) → IsFirstInText text (ScriptFault.At m other) → kind ≡ other }
 {}
 
-/// There is no first fault exactly where the tokens are in the grammar: as a line of commands for which there is room and
-/// which, with the lines before, name few tables; as a setup that names few; or as one statement.
+/// The tokens have no first fault exactly if the grammar derives them: as a line of commands that fits the remaining
+/// room and, with the lines before, names few tables; as a setup that names few tables; or as one statement.
 pub fn first_faults_are_of_the_grammar()
     ensures commands { (names : List (List ℕ)) (room : ℕ) (ts : List Token) → (commands_fault names room ts ≡ None) ↔ ((cs : List Command) × IsCommands ts cs × (length cs ≤ room) × (length (with_commands names cs) ≤ max_tables)) }
     ensures setup { (ts : List Token) → (setup_fault ts ≡ None) ↔ ((table : Table) × IsSetup ts table × (length (setup_tables table) ≤ max_tables)) }

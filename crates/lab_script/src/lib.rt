@@ -1,7 +1,7 @@
-//! Scripts: statements for sessions over a table, their text both ways, and what they do one transaction after another.
+//! Scripts: statements of sessions over a table. Parses, prints and runs them one transaction after another.
 //!
-//! A [`Script`] has the table to begin with and its [`Lines`], each a command of a session. In a text the setup comes
-//! first, and each later line names its session in its remark:
+//! A [`Script`] has an initial table and its [`Lines`], each a command of a session. In a text the setup comes first,
+//! and the comment of each later line names its session:
 //!
 //! ```text
 //! setup (1, 10), (2, 20);
@@ -10,21 +10,22 @@
 //! commit; -- T1
 //! ```
 //!
-//! A statement names its table. A row of the setup is of the table whose name stands before it, as in `stock (1, 5)`, and of
-//! `test` where none does.
+//! A statement names its table. A row of the setup belongs to the table that is named before it, as in `stock (1, 5)`,
+//! or else to `test`.
 //!
-//! [`parse_script`] reads such a text: this one as a table of two rows and three lines of session 1, each of which keeps
-//! the number of the text's line that it came from. A text that spells no script is refused with its first faulty line
-//! and what is wrong there, a `ScriptFault` of `lab_statement`. [`print_script`] gives a script its text, a command on each
-//! line, and what it prints is read as that script again.
+//! [`parse_script`] parses such a text: the one above as a table of two rows and three lines of session 1. Each line
+//! keeps its line number in the text. A text that isn't a script fails with the first faulty line and its fault, a
+//! `ScriptFault` of `lab_statement`. [`print_script`] prints a script, one command on each line, so that it is parsed
+//! as the same script.
 //!
-//! A text keeps limits: [`MAX_LINES`] and [`MAX_COMMANDS`], and those of `lab_printing` for each line and statement. A
-//! script that is made by hand, by `Lines::new` or `Lines::push`, need not: printing then answers a `PrintFault`.
+//! A text keeps the limits [`MAX_LINES`] and [`MAX_COMMANDS`], and those of `lab_printing` for each line and statement.
+//! A script that was built in code, with `Lines::new` or `Lines::push`, may exceed them; printing then fails with a
+//! `PrintFault`.
 //!
-//! [`run_serial`] runs a script's transactions whole, in the order of their begins, and [`print_transcript`] hands out
-//! what they listed and left.
+//! [`run_serial`] runs the transactions of a script one after another, in the order of their begins.
+//! [`print_transcript`] returns what they listed and the final table.
 //!
-//! What takes memory is handed an allocator and may be refused for want of memory.
+//! Functions that allocate take an allocator, and return `NoMemory` if an allocation fails.
 #![tactic(auto)]
 
 mod command;

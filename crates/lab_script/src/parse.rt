@@ -1,4 +1,4 @@
-//! Reading a script's text line by line.
+//! Parses the text of a script line by line.
 
 ghost use Rattle.std.specs.Prelude.{◌≡◌, [], IfOk, OnOk, IfErr, IfSome, MatchResult, List, ℕ, Some, None};
 ghost use Rattle.lab_script.specs.declared.script.Script.{Script as PlainScript};
@@ -20,9 +20,9 @@ use lab_statement::{
 use lab_table::{Command, TableSet, Word};
 use std::alloc::Global;
 
-/// The script that a text spells: the setup, then lines of statements with a session in their remarks.
-/// The first faulty line in the text and what is wrong with it, or NoMemory where an allocation was refused.
-/// A text that ends before its setup has NoSetup, at one more than the number of its lines.
+/// Parses the text of a script: the setup, then lines of statements whose comments name a session. Fails with the first
+/// faulty line of the text and its fault. A text that ends before its setup fails with `NoSetup`, at one more than its
+/// number of lines.
 pub fn parse_script(alloc: Global, text: &[u8]) -> Result<Script, ScriptFault>
     ensures found { IfOk result (λ script. Spells text.now script) }
     // A text spells one script at most, and it is read unless memory runs out.

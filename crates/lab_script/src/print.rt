@@ -1,4 +1,4 @@
-//! Scripts in printed form, where that keeps the limits of a text.
+//! Printed scripts that keep the limits of a text.
 
 ghost use Rattle.std.specs.Prelude.{◌≡◌, ◌≢◌, ◌≤◌, IfOk, MatchBool, OnOk, Err, length};
 ghost use Rattle.lab_script.specs.Printed.{printed_script, renumbered};
@@ -15,9 +15,8 @@ use lab_printing::{PrintFault, check_command};
 use lab_table::TableSet;
 use std::alloc::Global;
 
-/// A script in printed form, if that keeps the limits of a text; each line ends with a newline.
-/// TooDeep, TooLong and TooManyTables only where the text would break that limit; NoMemory where an allocation was
-/// refused.
+/// Returns the printed form of a script, if it keeps the limits of a text; each line ends with a newline. Fails with
+/// `TooDeep`, `TooLong` or `TooManyTables` only if the text would exceed that limit.
 pub fn print_script(alloc: Global, script: &Script) -> Result<Vec<u8>, PrintFault>
     ensures text { IfOk result (λ text. text.items ≡ printed_script script.now) }
     // What is printed is read as the same script again, its commands on lines 2, 3 and so on.

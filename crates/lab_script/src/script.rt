@@ -2,7 +2,7 @@
 
 use lab_table::{Command, NoMemory, Sequence, Session, Table};
 
-/// A command of a session, and the line of the text that it came from.
+/// A command of a session, and its line number in the text.
 #[derive(Debug, Drop)]
 pub struct Line {
     pub session: Session,
@@ -13,7 +13,7 @@ pub struct Line {
 /// The lines of a script, in order.
 pub type Lines = Sequence<Line>;
 
-/// A table to begin with, and commands of sessions.
+/// An initial table, and commands of sessions.
 #[derive(Debug, Drop)]
 pub struct Script {
     pub setup: Table,
@@ -24,8 +24,7 @@ impl Script {
     ghost use Rattle.std.specs.Prelude.{◌≡◌, OnOk};
     ghost use Rattle.lab_script.specs.Script.{extended};
 
-    /// Takes commands and adds them, as those of a session from this line of the text. NoMemory where an allocation was
-    /// refused.
+    /// Takes commands and adds them, as those of a session from this line of the text.
     pub(crate) fn take(
         &mut self,
         session: Session,

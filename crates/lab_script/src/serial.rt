@@ -1,4 +1,4 @@
-//! Running a script's transactions one after another.
+//! Runs the transactions of a script one after another.
 
 ghost use Rattle.std.specs.Prelude.{◌≡◌, ◌++◌, ◌&&◌, not, None, Some, cond, IfOk, IfSome, OnOk};
 ghost use Rattle.std.specs.Option.{option_or};
@@ -14,9 +14,8 @@ use lab_printing::append_result;
 use lab_table::{Command, NoMemory, PerSession, Session, Statement, Table};
 use std::alloc::{AllocError, Global};
 
-/// Runs a script's transactions one after another, each whole, in the order of their begins.
-/// A begin inside a transaction and any other command outside of one are left out.
-/// NoMemory where an allocation was refused.
+/// Runs the transactions of a script one after another, each as a whole, in the order of their begins. Ignores a begin
+/// inside a transaction, and any other command outside of one.
 pub fn run_serial(alloc: Global, script: &Script) -> Result<Transcript, NoMemory>
     ensures text { IfOk result (λ output. output.text ≡ transcript script.now) }
     ensures unprintable { IfOk result (λ output. output.unprintable ≡ unprintable script.now) }

@@ -1,4 +1,4 @@
-//! The printed form of scripts. Each function that spells a text answers whether all of it was taken.
+//! The printed form of scripts. Functions that spell a text return whether the sink took all of it.
 
 ghost use Rattle.std.specs.Prelude.{◌≡◌, ◌++◌, ◌≤◌, ◌↔◌, length, IsTrue};
 ghost use Rattle.std.specs.FinMap as finite;

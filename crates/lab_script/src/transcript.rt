@@ -1,5 +1,4 @@
-//! What a script does where its transactions run whole. Each function that spells a text answers whether all of it was
-//! taken.
+//! The text of a serial run. Functions that spell a text return whether the sink took all of it.
 
 ghost use Rattle.std.specs.Prelude.{◌≡◌, ◌++◌, [], None, codes, IfOk, IfErr, OnOk, ◌⊎◌, ◌≢◌, Some, Err};
 ghost use Rattle.std.specs.Option.{option_or};
@@ -17,8 +16,8 @@ use lab_table::{RowName, Session, Statement, TableFault, Value};
 use std::alloc::Global;
 use std::marker::Model;
 
-/// What a script does where its transactions run whole: the text is made as they run, and `print_transcript` and
-/// `into_text` hand it out.
+/// The result of running the transactions of a script one after another. The text is built as they run;
+/// `print_transcript` and `into_text` return it.
 #[derive(Drop)]
 pub struct Transcript {
     pub(crate) text: Vec<u8>,
@@ -59,8 +58,9 @@ impl Transcript {
         spell_statement(&mut self.text, statement) && self.text.put(b" -> ")
     }
 
-    /// The text that `print_transcript` copies, handed out as it is, if each statement in it keeps the limits of a text.
-    /// TooDeep or TooLong as the first that doesn't, depth first. It takes no memory.
+    /// Returns the text without copying it, if each statement in it keeps the limits of a text. Otherwise fails with
+    /// the limit that the first other statement exceeds: `TooDeep`, or `TooLong` if only the length exceeds its limit.
+    /// Allocates nothing.
     pub fn into_text(self) -> Result<Vec<u8>, PrintFault>
         ensures text { IfOk result (λ text. text.items ≡ self.text) }
         ensures printed { OnOk result (self.unprintable ≡ None) }
@@ -91,7 +91,7 @@ pub fn spell_rows(text: &mut Vec<u8>, rows: &[(RowName, Value)]) -> bool
     spell_list(text, rows) && text.put(b"\n")
 }
 
-/// Spells why a statement was refused, to the end of its line; want of memory isn't spelled.
+/// Spells why a statement was refused, to the end of its line. `NoMemory` isn't spelled.
 pub fn spell_fault(text: &mut Vec<u8>, fault: &TableFault) -> bool
     ensures text { OnTaken result (text.new.items ≡ text.old.items ++ fault_text fault.now ++ newline) }
     ensures refused { OnTaken result (fault.now ≢ TableFault.NoMemory) }
@@ -124,8 +124,8 @@ pub fn spell_table(text: &mut Vec<u8>, rows: &[(RowName, Value)]) -> bool
     text.put(b"end ") && spell_named_rows(text, b"none", rows) && text.put(b"\n")
 }
 
-/// The text of a transcript, if each statement in it keeps the limits of a text.
-/// TooDeep or TooLong as the first that doesn't, depth first; NoMemory where an allocation was refused.
+/// Returns a copy of the text of a transcript, if each statement in it keeps the limits of a text. Otherwise fails with
+/// the limit that the first other statement exceeds: `TooDeep`, or `TooLong` if only the length exceeds its limit.
 pub fn print_transcript(alloc: Global, output: &Transcript) -> Result<Vec<u8>, PrintFault>
     ensures text { IfOk result (λ text. text.items ≡ output.now.text) }
     ensures printed { IfOk result (λ text. output.now.unprintable ≡ None) }

@@ -1,4 +1,4 @@
-//! Why a run isn't closed, and why a play has no recording.
+//! Why a run can't be closed, and why a play has no recording.
 
 ghost use Rattle.std.specs.Prelude.{◌≡◌, ◌≢◌};
 ghost use Rattle.lab_session.specs.Closing.{close_fault_of};
@@ -10,45 +10,45 @@ use lab_history::Limit;
 use lab_table::Session;
 use std::alloc::{AllocError, AllocFailed};
 
-/// Why a run wasn't closed. Nothing has changed then.
+/// Why a run can't be closed. Nothing has changed then.
 #[derive(Clone, Copy, Debug, PartialEq, Eq)]
 pub enum CloseFault {
-    /// Refusal 1: an allocation was refused.
+    /// An allocation failed.
     NoMemory,
-    /// Refusal 2: a session has no seat.
+    /// A session has no seat.
     SeatMissing { session: Session },
-    /// Refusal 3: the list of a session's seat isn't its calls in the log. The first place, counted from 1, at which
-    /// they differ or one of them has ended.
+    /// The calls of a session's seat aren't its calls in the log. `place` is the first position, counted from 1, at
+    /// which they differ or one list has ended.
     ReceiptDiffers { session: Session, place: usize },
-    /// Refusal 4: the recording would have too much of something.
+    /// The recording would exceed a limit.
     OverLimit { which: Limit },
-    /// Refusal 5: a session has two seats.
+    /// A session has two seats.
     SeatRepeated { session: Session },
 }
 
-/// Why a call in a lab was refused. Where `waiting` is true the command still waits, and the seat holds it.
+/// Why a call of a lab failed. If `waiting` is true, the command still waits, and the seat holds it.
 #[derive(Clone, Copy, Debug, PartialEq, Eq)]
 pub enum LabFault {
-    /// Refusal 1: an allocation was refused.
+    /// An allocation failed.
     NoMemory { waiting: bool },
-    /// Refusal 2: the log has 100,000 events.
+    /// The log has 100,000 events.
     Full { waiting: bool },
-    /// Refusal 3: the seat holds no command.
+    /// The seat holds no command.
     NothingWaiting,
 }
 
 /// Why a play has no recording.
 #[derive(Clone, Copy, Debug, PartialEq, Eq)]
 pub enum PlayFault {
-    /// Refusal 1: an allocation was refused.
+    /// An allocation failed.
     NoMemory,
-    /// Refusal 2: the recording would have too much of something.
+    /// The recording would exceed a limit.
     OverLimit { which: Limit },
-    /// Refusal 3: the run wasn't closed.
+    /// The run couldn't be closed.
     Close { fault: CloseFault },
-    /// Refusal 4: a thread wasn't given.
+    /// A thread couldn't be started.
     NoThread,
-    /// Refusal 5: the log has 100,000 events.
+    /// The log has 100,000 events.
     Full,
 }
 

@@ -1,4 +1,4 @@
-//! Why a play has no recording, as a line.
+//! Prints why a play has no recording.
 
 ghost use Rattle.std.specs.Prelude.{◌≡◌, IfOk};
 ghost use Rattle.lab_session.specs.PlayFaultText.{play_fault_text};
@@ -7,8 +7,8 @@ use crate::fault::PlayFault;
 use lab_table::NoMemory;
 use std::alloc::Global;
 
-/// The line that tells a fault, as `play: OverLimit entries` and a newline; nothing for want of memory.
-/// NoMemory where an allocation was refused.
+/// Returns the line that reports a fault, such as `play: OverLimit entries` and a newline. For `NoMemory` the text is
+/// empty.
 pub fn print_play_fault(alloc: Global, fault: &PlayFault) -> Result<Vec<u8>, NoMemory>
     ensures { IfOk result (λ text. text.items ≡ play_fault_text fault.now) }
 {

@@ -1,4 +1,4 @@
-//! Playing a script by one thread for each session.
+//! Plays a script with one thread for each session.
 
 ghost use Rattle.std.specs.Prelude.{◌≡◌, ◌≢◌, [], ◌++◌, map, None, false, true, OnOk, IfOk, IfErr, IfSome, IfNone};
 ghost use Rattle.std.specs.List.{All};
@@ -19,12 +19,12 @@ use std::sync::Wait;
 use std::thread;
 use std::thread::{Promise, PromisedHandle, Scope, Threads};
 
-/// What each thread of a free play calls round each of its lines.
+/// Callbacks of a free play, which each thread calls before and after each of its lines.
 pub trait Gate {
-    /// Before a line of a session is submitted; `index` counts the session's own lines from 0.
+    /// Called before a line of `session` is submitted. `index` counts the session's own lines from 0.
     fn before(&self, session: Session, index: usize);
 
-    /// After it was answered, or refused.
+    /// Called after the line has completed or failed.
     fn after(&self, session: Session, index: usize);
 }
 
@@ -322,16 +322,18 @@ fn play_from<O: Origin + Send, E: Engine + Drop + Send, G: Gate + Sync, R: Threa
     }
 }
 
-/// Plays a script by one thread for each session that has lines: each submits its session's lines in order, between
-/// `before` and `after` of the gate, and then aborts what it has active. It is for a fresh engine, and waits for its
-/// threads.
+/// Plays a script with one thread for each session that has lines. Each thread submits the lines of its session in
+/// order, calls `before` and `after` of `gate` around each, and then aborts a transaction that is still active. Waits
+/// until all threads have ended. The engine must be fresh; it is consumed.
 ///
-/// A thread whose call is refused submits no further line. It goes on once with what still waits, submits one abort
-/// and ends, and from then on no thread waits for another: one whose command can't be retried at once ends likewise, so
-/// that a play ends whichever allocations are refused. The play then answers the fault of the least session that has
-/// one: a allocation was refused (1), or the log has 100,000 events (5). Else the lab is closed with all nine seats,
-/// and refused where that is: the recording would have too much of something (2), or seats and log differ (3).
-/// `NoThread` (4) where a thread wasn't given; those that were end first. The engine is given up then.
+/// A thread whose call fails submits no further line. It resumes a command that still waits once, submits one abort and
+/// ends. From then on no thread waits for another: a thread whose command can't be retried at once ends in the same
+/// way, so a play ends whichever allocations fail. The play then fails with the fault of the least session that has
+/// one: `NoMemory`, or `Full` if the log has 100,000 events.
+///
+/// Otherwise the lab is closed with all nine seats. Fails with `OverLimit` if the recording would exceed a limit, with
+/// `Close` if seats and log differ, and with `NoThread` if a thread couldn't be started; threads that were started end
+/// first.
 pub fn play_free<E: Engine + Drop + Send, G: Gate + Sync, R: Threads + Wait + Sync>(
     rt: &R,
     alloc: Global,

@@ -31,7 +31,7 @@ struct Shared<E: Engine> {
     given_up: bool,
 }
 
-/// A bench under a lock, and how many sessions it has seats for. Contracts see that number, at most 9.
+/// A bench under a lock, and the number of sessions that have seats. In contracts it is that number, at most 9.
 #[derive(Drop)]
 pub struct Lab<E: Engine> {
     shared: Mutex<Shared<E>>,
@@ -78,8 +78,8 @@ fn new_seats(alloc: Global, sessions: u8) -> Result<Vec<Seat>, NoMemory>
 }
 
 impl<E: Engine + Drop> Lab<E> {
-    /// A lab of a fresh engine, and a new seat of each session from 1 to `sessions`, which is from 1 to 9. NoMemory
-    /// where an allocation was refused; the engine is given up then.
+    /// Returns a lab of a fresh engine, and a new seat for each session from 1 to `sessions`, which is from 1 to 9. On
+    /// failure, the engine is dropped.
     pub fn start(alloc: Global, engine: E, sessions: u8) -> Result<(Lab<E>, Vec<Seat>), NoMemory>
         requires fresh { E.events engine ≡ [] }
         requires some { 1 ≤ sessions }
@@ -138,13 +138,13 @@ impl<E: Engine + Drop> Lab<E> {
         unreachable!()
     }
 
-    /// Steps a command of a seat's session, and waits until it is answered. The seat's list then has it with its
-    /// receipt, which is that of an event of the session. Where the answer is Busy, and where no statement was asked
-    /// for, the seat holds what it held.
+    /// Runs a command of the seat's session, and waits until it completes. The calls of the seat then end with the
+    /// command and its receipt, which is that of an event of the session. If the outcome is `Busy`, or the command runs
+    /// no statement, the seat holds what it held.
     ///
-    /// Refused, for want of memory (1) or where the log has 100,000 events (2), the seat is handed back with its list
-    /// as it was. Where the fault says `waiting` the command waits in the lab and the seat holds it, in the place of one
-    /// that it held; else the command is given up, and the seat holds what it held.
+    /// Fails with `NoMemory`, or with `Full` if the log has 100,000 events, and returns the seat with its old calls. If
+    /// the fault has `waiting`, the command waits in the lab, and the seat holds it instead of an earlier one.
+    /// Otherwise the command is dropped, and the seat holds what it held.
     pub fn submit<R: Wait>(
         &self,
         rt: &R,
@@ -176,11 +176,12 @@ impl<E: Engine + Drop> Lab<E> {
         }
     }
 
-    /// Goes on with the command that a seat holds, until it is answered. In a lab where its session isn't waiting the
-    /// command is stepped, as by `submit`. The seat's list then has it with its receipt, and the seat holds none.
+    /// Continues the command that the seat holds, and waits until it completes. If its session isn't waiting in the
+    /// lab, the command is run as by `submit`. The calls of the seat then end with the command and its receipt, and the
+    /// seat holds no command.
     ///
-    /// Refused as `NothingWaiting` (3) only where the seat holds no command, and else for want of memory (1) or where
-    /// the log has 100,000 events (2). The seat is handed back as it was.
+    /// Fails with `NothingWaiting` only if the seat holds no command, otherwise with `NoMemory`, or with `Full` if the
+    /// log has 100,000 events. On failure, the seat is returned unchanged.
     pub fn resume<R: Wait>(
         &self,
         rt: &R,
@@ -231,8 +232,8 @@ impl<E: Engine + Drop> Lab<E> {
         self.shared.lock(rt).bench.is_active(session)
     }
 
-    /// The recording of the lab's bench, as by `Bench::close` with the lab's sessions and these seats. It waits for
-    /// nobody: the lab is its own. Where that is refused, lab and seats are handed back with the fault.
+    /// Consumes the lab, and returns the recording of its bench, as `Bench::close` does with the lab's sessions and
+    /// these seats. Waits for nobody. On failure, returns the lab and the seats with the fault.
     pub fn close(
         self,
         alloc: Global,

@@ -1,4 +1,4 @@
-//! A log as a text. Each function appends; after NoMemory, part of what was to be appended may stand there.
+//! Prints a log. The functions append; on failure, a part of the text may have been appended.
 
 ghost use Rattle.std.specs.Prelude.{◌≢◌, ◌≡◌, ◌++◌, codes, flat_map, map, Err, IfOk, OnOk};
 ghost use Rattle.std.specs.Fmt.{decimal};
@@ -12,8 +12,8 @@ use lab_printing::{PrintFault, put_list, put_printable, put_row_name};
 use lab_table::{NoMemory, RowName, Session, TxnNo};
 use std::alloc::Global;
 
-/// The log of a recording, one line for each event, as `T1 commit: committed`, if each of its statements keeps the
-/// limits of a text. TooDeep and TooLong only where one breaks that limit; NoMemory where an allocation was refused.
+/// Returns the printed log of a recording, one line for each event, such as `T1 commit: committed`, if each of its
+/// statements keeps the limits of a text. Fails with `TooDeep` or `TooLong` only if a statement exceeds that limit.
 pub fn print_log(alloc: Global, recording: &Recording) -> Result<Vec<u8>, PrintFault>
     ensures text { IfOk result (λ text. text.items ≡ log_text recording.now.log) }
     ensures prints { OnOk result (AllPrint recording.now.log) }
@@ -29,8 +29,8 @@ pub fn print_log(alloc: Global, recording: &Recording) -> Result<Vec<u8>, PrintF
     Ok(text)
 }
 
-/// Appends the line of an event, as `T1 commit: committed`, if its statement keeps the limits of a text. TooDeep and TooLong
-/// only where it breaks that limit.
+/// Appends the line of an event, such as `T1 commit: committed`, if its statement keeps the limits of a text. Fails
+/// with `TooDeep` or `TooLong` only if it exceeds that limit.
 pub fn put_event(out: &mut Vec<u8>, event: &LogEvent) -> Result<(), PrintFault>
     ensures text { OnOk result (out.new.items ≡ out.old.items ++ event_text event.now) }
     ensures prints { OnOk result (CommandPrints event.now.command) }
@@ -47,7 +47,7 @@ pub fn put_event(out: &mut Vec<u8>, event: &LogEvent) -> Result<(), PrintFault>
     Ok(())
 }
 
-/// Appends a session, as `T1`.
+/// Appends a session, such as `T1`.
 pub fn put_session(out: &mut Vec<u8>, session: Session) -> Result<(), NoMemory>
     ensures { OnOk result (out.new.items ≡ out.old.items ++ session_text session) }
 {
@@ -81,7 +81,7 @@ fn put_circle(out: &mut Vec<u8>, circle: &[Session]) -> Result<(), NoMemory>
     Ok(())
 }
 
-/// Appends what an engine answered, as `waits T2`.
+/// Appends an outcome, such as `waits T2`.
 pub fn put_outcome(out: &mut Vec<u8>, outcome: &Outcome) -> Result<(), NoMemory>
     ensures { OnOk result (out.new.items ≡ out.old.items ++ outcome_text outcome.now) }
 {

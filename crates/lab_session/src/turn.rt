@@ -38,7 +38,7 @@ fn lab_fault(fault: BenchFault, waiting: bool) -> LabFault
 }
 
 /// Makes room for a call that is answered, and for one behind it where this one doesn't end its session's transaction.
-/// So the call that ends one needs no memory. NoMemory where an allocation was refused.
+/// So the call that ends one needs no memory.
 fn reserve_call(calls: &mut Vec<Call>, ends: bool) -> Result<(), NoMemory>
     ensures calls { calls.new.items ≡ calls.old.items }
     ensures capacity { vec_capacity calls.old ≤ vec_capacity calls.new }

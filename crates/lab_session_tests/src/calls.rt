@@ -1,4 +1,4 @@
-//! Calls of labs, for tests that ask nothing of what their contracts say.
+//! Calls of labs, for tests that need nothing of their contracts.
 
 use lab_engine::{Engine, Recording};
 use lab_script::{Script, parse_script};

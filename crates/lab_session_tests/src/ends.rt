@@ -1,4 +1,4 @@
-//! The last abort of a seat, which may have no memory at all.
+//! The last abort of a seat, which must succeed without memory.
 
 use crate::calls::asked;
 use crate::runs::{NOTHING, all_submitted};

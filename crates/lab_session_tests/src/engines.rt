@@ -1,3 +1,3 @@
-//! An engine for tests that would do with any on which nobody waits.
+//! An engine for tests that need any engine on which no statement waits.
 
 pub use lab_versions::SnapshotEngine as QuietEngine;

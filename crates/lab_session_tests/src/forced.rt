@@ -1,4 +1,4 @@
-//! Free plays whose order a gate forces: at each level the log is the one that the level's rules leave.
+//! Free plays whose order a gate forces. At each level, the log is the one that the rules of the level give.
 
 use crate::instrumented::{Counts, Refusals, comes_to, play_instrumented};
 use lab_engine::{Level, Recording};

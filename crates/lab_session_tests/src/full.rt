@@ -1,4 +1,4 @@
-//! A log that is full.
+//! Calls on a full log.
 
 use crate::instrumented::{Counts, Refusals, play_instrumented};
 use lab_engine::{EngineFault, Outcome};

@@ -1,4 +1,4 @@
-//! Free plays that are refused while a session waits that nobody would ever wake: it is told, and the play ends.
+//! Free plays that fail while a session waits that nobody would wake: the session ends with a fault, and the play ends.
 
 use crate::instrumented::{Counts, Refusals, comes_to, play_instrumented};
 use lab_engine::MAX_EVENTS;

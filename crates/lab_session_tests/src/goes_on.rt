@@ -1,4 +1,4 @@
-//! Commands that are refused memory before their event, and while they wait, and that go on then, in their lab or in
+//! Commands whose allocations fail before their event or while they wait, and that then continue, in the same lab or in
 //! another one.
 
 use crate::calls::{closed, log_of, resumed, setup_of, submitted, with_seat};

@@ -1,4 +1,4 @@
-//! An engine that does what another does: it counts that, and is refused memory where it is told so.
+//! An engine that wraps another one: it counts the calls, and fails with `NoMemory` where a test asks for it.
 
 ghost use Rattle.std.specs.Prelude.{◌≡◌, ◌⊎◌, [], true, false};
 ghost use Rattle.lab_table.specs.declared.statement.Statement.{Statement as Spelled};

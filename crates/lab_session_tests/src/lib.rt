@@ -1,7 +1,7 @@
-//! Tests of sessions: what no contract says of locks and threads, and what the program can't show.
+//! Tests of sessions: properties of locks and threads that no contract states and the program can't show.
 //!
-//! Where a function ends early while it owns something large, as a seat, a lab, a script or a recording, it gives that to
-//! `drop` by name: a drop that the compiler writes at the exit makes the function's proof several times as dear.
+//! A function that returns early while it owns a large value, such as a seat, a lab, a script or a recording, passes it
+//! to `drop` explicitly. A drop that the compiler inserts at the exit makes the function several times slower to prove.
 #![tactic(auto)]
 
 #[cfg(test)]

@@ -1,4 +1,4 @@
-//! Listings in which nothing waits, and the logs of their runs.
+//! Scripts in which no statement waits, and the logs of their runs.
 
 use lab_engine::Level;
 

@@ -1,4 +1,4 @@
-//! Free play by several threads.
+//! Free plays with several threads.
 
 use crate::engines::QuietEngine;
 use crate::instrumented::comes_to;

@@ -1,5 +1,5 @@
-//! Whole runs of labs by one thread, on listings in which nothing waits, with each allocation of each call refused in
-//! turn: the call answers want of memory, and made once more it answers as if nothing had been.
+//! Whole runs of labs with one thread, on scripts in which no statement waits, with each allocation of each call
+//! failing in turn. The call returns `NoMemory`, and when repeated it returns the usual result.
 
 ghost use Rattle.std.specs.Prelude.{◌≡◌, []};
 

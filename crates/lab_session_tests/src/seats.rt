@@ -1,4 +1,4 @@
-//! Seats that a lab isn't closed with.
+//! Seats with which a lab can't be closed.
 
 use crate::calls::{asked, closed, resumed, setup_of, with_seat};
 use crate::engines::QuietEngine;

@@ -1,4 +1,5 @@
-//! A free play with each allocation refused in turn: that a thread wasn't given is told apart from want of memory.
+//! A free play with each allocation failing in turn. A thread that couldn't be started and an allocation that failed
+//! are reported differently.
 
 use crate::engines::QuietEngine;
 use lab_refusal_tests::{refuse, was_refused};

@@ -1,5 +1,5 @@
-//! Sessions that wait in a free play: each event wakes them, and nothing else; none is missed, and one that isn't due
-//! waits on.
+//! Sessions that wait in a free play. Each event wakes them, and nothing else does; no event is missed, and a session
+//! that is still blocked keeps waiting.
 
 use crate::instrumented::{Counts, Refusals, comes_to, play_instrumented};
 use lab_engine::Recording;

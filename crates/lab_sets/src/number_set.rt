@@ -9,7 +9,7 @@ use std::marker::Model;
 /// A set of the numbers below a bound.
 #[derive(Debug, Drop)]
 pub struct NumberSet {
-    /// The bit n % 64 of the word n / 64 says whether the set has n.
+    /// Bit n % 64 of word n / 64 is set if the set has n.
     words: Vec<u64>,
 }
 
@@ -22,7 +22,7 @@ impl Model for NumberSet {
 }
 
 impl NumberSet {
-    /// The empty set, for numbers below a bound. AllocError where the memory was refused.
+    /// Returns an empty set for the numbers below `bound`.
     pub fn none(alloc: Global, bound: u32) -> Result<NumberSet, AllocError>
         ensures none { IfOk result (λ set. (n : ℕ) → has set n ≡ false) }
         ensures room { IfOk result (λ set. room set ≡ room_for bound) }
@@ -38,14 +38,14 @@ impl NumberSet {
         self.words.get(place).copied().unwrap_or(0)
     }
 
-    /// Whether a number is in it.
+    /// Returns whether the set has `number`.
     pub fn has(&self, number: u32) -> bool
         ensures { result ≡ has self.now number }
     {
         (self.word(number as usize / 64) >> (number % 64)) & 1 == 1
     }
 
-    /// Puts a number in.
+    /// Adds `number`.
     pub fn insert(&mut self, number: u32)
         requires { number < room self.old }
         ensures room { room self.new ≡ room self.old }
@@ -54,7 +54,7 @@ impl NumberSet {
         self.words[number as usize / 64] |= 1u64 << (number % 64);
     }
 
-    /// Puts in what another set has, by 64 numbers at a time.
+    /// Adds all numbers of `other`, 64 at a time.
     pub fn unite(&mut self, other: &NumberSet)
         requires { room other.now ≡ room self.old }
         ensures room { room self.new ≡ room self.old }
@@ -65,7 +65,7 @@ impl NumberSet {
         }
     }
 
-    /// Takes all numbers out.
+    /// Removes all numbers.
     pub fn clear(&mut self)
         ensures room { room self.new ≡ room self.old }
         ensures none { (n : ℕ) → has self.new n ≡ false }

@@ -35,7 +35,7 @@ impl Block {
         self.from <= place && place < self.to
     }
 
-    /// A history without them, where that is one. NoMemory where an allocation was refused.
+    /// A history without them, where that is one.
     pub fn taken_from(self, alloc: Global, history: &History) -> Result<Option<History>, NoMemory>
         ensures { IfOk result (λ left. IfSome left (λ part. IsPartOf part history.now)) }
     {

@@ -18,8 +18,7 @@ use std::alloc::Global;
 /// The most times that leads are followed; each takes something away.
 const LEADS: usize = 8;
 
-/// What is left of a history with these rows alone, and of its operations those that are kept. NoMemory where an allocation
-/// was refused.
+/// What is left of a history with these rows alone, and of its operations those that are kept.
 fn followed(
     alloc: Global,
     history: &History,
@@ -34,9 +33,8 @@ fn followed(
     }
 }
 
-/// What is left of a history where a lead is followed, if that shows the goal: the named rows alone, the named operations, and
-/// those that these need; with the first of the rows' writers gone, or with them all. NoMemory where an allocation was
-/// refused.
+/// What is left of a history where a lead is followed, if that shows the goal: the named rows alone, the named
+/// operations, and those that these need; with the first of the rows' writers gone, or with them all.
 fn led_by(
     alloc: Global,
     goal: Goal,
@@ -59,8 +57,7 @@ fn led_by(
     tried(alloc, goal, whole, part, work)
 }
 
-/// What is left of a history where what its judgement names is kept, if that shows the goal. NoMemory where an allocation was
-/// refused.
+/// What is left of a history where what its judgement names is kept, if that shows the goal.
 fn led_once(
     alloc: Global,
     goal: Goal,
@@ -78,8 +75,7 @@ fn led_once(
     Ok(None)
 }
 
-/// What is left of a history where the leads of judgements are followed, one after another. NoMemory where an allocation
-/// was refused.
+/// What is left of a history where the leads of judgements are followed, one after another.
 pub fn led(
     alloc: Global,
     goal: Goal,

@@ -173,8 +173,8 @@ impl Touches {
     }
 }
 
-/// What the committed transactions of a history did with its rows, in order; None where that would be too much to look at.
-/// NoMemory where an allocation was refused.
+/// What the committed transactions of a history did with its rows, in order; None where that would be too much to look
+/// at.
 pub fn touches_of(alloc: Global, history: &History) -> Result<Option<Touches>, NoMemory> {
     let known = Known::of(alloc, history)?;
     let tests = count_operations(history).saturating_mul(known.changing.len());

@@ -1,4 +1,4 @@
-//! What a history has to show.
+//! What a history must show.
 
 ghost use Rattle.std.specs.Prelude.{◌≡◌, ◌↔◌, IsTrue};
 ghost use Rattle.lab_reports.specs.Shortfall.{is_present};
@@ -8,21 +8,21 @@ use lab_deps::{FaultParts, LocalFault, OpFault, RowFault};
 use lab_judge::{Finding, Report, Serial};
 use lab_reports::Phenomenon;
 
-/// A kind of fault: one of an operation and a row, or of a row alone.
+/// A kind of fault: at an operation and a row, or at a row.
 #[derive(Clone, Copy, Debug, PartialEq, Eq)]
 pub enum FaultKind {
     Operation(OpFault),
     Row(RowFault),
 }
 
-/// What a history has to show.
+/// What a history must show.
 #[derive(Clone, Copy, Debug, PartialEq, Eq)]
 pub enum Goal {
-    /// It is sound, and no order of its transactions is a serial run.
+    /// The history is sound, and no order of its transactions is a serial run.
     NoOrder,
-    /// Its first fault is of this kind.
+    /// The first fault of the history is of this kind.
     Fault(FaultKind),
-    /// The phenomenon is there; and the history is sound, where `in_sound` says so.
+    /// The history has the phenomenon, and is sound if `in_sound` is set.
     Present {
         phenomenon: Phenomenon,
         in_sound: bool,
@@ -30,7 +30,7 @@ pub enum Goal {
 }
 
 impl FaultKind {
-    /// The kind of a fault.
+    /// Returns the kind of a fault.
     pub fn of(fault: LocalFault) -> FaultKind
         ensures { result ≡ kind_of fault }
     {
@@ -77,8 +77,8 @@ fn verdict_goal(serial: &Serial) -> Option<Goal>
 }
 
 impl Goal {
-    /// What a report shows: the no of its serial verdict, by a cycle or by a fault of a kind, or the phenomenon that is
-    /// asked for. None where the verdict is a yes, or the phenomenon isn't there.
+    /// Returns what a report shows: the no of its serial verdict, by a cycle or by the kind of a fault, or the
+    /// phenomenon that is asked for. Returns `None` if the verdict is yes, or the phenomenon is absent.
     pub fn of(report: &Report, asked: Option<Phenomenon>) -> Option<Goal>
         ensures { result ≡ goal_of report.now asked }
     {
@@ -95,7 +95,7 @@ impl Goal {
         }
     }
 
-    /// Whether a report shows it.
+    /// Returns whether a report shows the goal.
     pub fn is_shown_by(self, report: &Report) -> bool
         ensures { IsTrue result ↔ IsShownBy self report.now }
     {

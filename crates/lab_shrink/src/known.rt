@@ -17,7 +17,7 @@ pub struct Known {
 }
 
 impl Known {
-    /// What is known of a history. NoMemory where an allocation was refused.
+    /// What is known of a history.
     pub fn of(alloc: Global, history: &History) -> Result<Known, NoMemory> {
         let named = named_rows(alloc, history)?;
         let mut rows = Vec::new(alloc);
@@ -80,7 +80,7 @@ impl Known {
         Ok(())
     }
 
-    /// The places of the rows that an operation touched, each once. NoMemory where an allocation was refused.
+    /// The places of the rows that an operation touched, each once.
     pub fn touched(&self, alloc: Global, op: &Op) -> Result<Vec<usize>, NoMemory> {
         let mut places = Vec::new(alloc);
         self.push_places(&mut places, op.view.entries())?;

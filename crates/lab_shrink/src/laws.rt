@@ -1,4 +1,4 @@
-//! Laws of goals. The functions have nothing to do: their contracts are the laws.
+//! Theorems on goals, stated as contracts of empty functions.
 
 ghost use Rattle.std.specs.Prelude.{◌≡◌, Bool, Some, Option};
 ghost use Rattle.lab_history.specs.History.{History as Held};
@@ -14,20 +14,20 @@ ghost use Rattle.lab_shrink.specs.declared.goal.FaultKind.{FaultKind as Kind};
 ghost use Rattle.lab_shrink.specs.declared.goal.Goal.{Goal as Aim};
 ghost use Rattle.lab_shrink.specs.declared.goal.Goal.TheVariants as goal;
 
-/// What shows a goal has it: it is sound and its dependencies lead back to where they begin, its first fault is of the kind,
-/// or the phenomenon is there.
+/// A history that shows a goal has it: it is sound and its dependencies have a cycle, its first fault is of the kind,
+/// or it has the phenomenon.
 pub fn what_is_shown_is_so()
     ensures no_order { (h : Held) → Shows h goal.NoOrder → IsSound h × HasWalk (IsClosedWalk h) }
     ensures fault { (h : Held) (kind : Kind) → Shows h (goal.Fault kind) → (f : Fault) × IsFirst h f × (kind_of f ≡ kind) }
     ensures present { (h : Held) (p : Phenomenon) (in_sound : Bool) → Shows h (goal.Present p in_sound) → Has p h }
 {}
 
-/// A history shows what its judgement shows.
+/// A history shows the goal of its judgement.
 pub fn judgement_shows_its_goal()
     ensures { (h : Held) (report : Report) (asked : Option Phenomenon) (aim : Aim) → IsExactJudgement h report → goal_of report asked ≡ Some aim → Shows h aim }
 {}
 
-/// What shows the same as a sound history is sound.
+/// A history that shows the goal of a sound history is sound.
 pub fn sound_stays_sound()
     ensures { (h part : Held) (report : Report) (asked : Option Phenomenon) (aim : Aim) → IsExactJudgement h report → goal_of report asked ≡ Some aim → IsSound h → Shows part aim → IsSound part }
 {}

@@ -55,7 +55,7 @@ fn is_named(beside: &mut Vec<RowBeside>, op: &Op, is_each: bool) -> bool {
     is_named
 }
 
-/// The rows of the dependencies that begin or end at a transaction. NoMemory where an allocation was refused.
+/// The rows of the dependencies that begin or end at a transaction.
 fn rows_beside(alloc: Global, walk: &[Edge], txn: TxnNo) -> Result<Vec<RowBeside>, NoMemory> {
     let mut rows = Vec::new(alloc);
     for edge in walk {
@@ -71,7 +71,7 @@ fn rows_beside(alloc: Global, walk: &[Edge], txn: TxnNo) -> Result<Vec<RowBeside
 }
 
 /// What a walk names: the rows of its dependencies, and what its transactions did first with them, or all that they did
-/// with them where `is_each` says so. NoMemory where an allocation was refused.
+/// with them where `is_each` says so.
 fn lead_of_walk(
     alloc: Global,
     history: &History,
@@ -126,7 +126,7 @@ fn is_beside(op: &Op, here: &OpPlace, at: &OpPlace, seen: &Option<OpPlace>, row:
     }
 }
 
-/// What a fault at an operation and a row names. NoMemory where an allocation was refused.
+/// What a fault at an operation and a row names.
 fn lead_of_op(
     alloc: Global,
     history: &History,
@@ -146,7 +146,7 @@ fn lead_of_op(
     Ok(Lead { rows, named })
 }
 
-/// What a fault at a row names: whoever wrote it. NoMemory where an allocation was refused.
+/// What a fault at a row names: whoever wrote it.
 fn lead_of_row(alloc: Global, history: &History, row: RowName) -> Result<Lead, NoMemory> {
     let mut named = Vec::new(alloc);
     for txn in history.txns().as_slice() {
@@ -159,7 +159,7 @@ fn lead_of_row(alloc: Global, history: &History, row: RowName) -> Result<Lead, N
     Ok(Lead { rows, named })
 }
 
-/// What a fault names. NoMemory where an allocation was refused.
+/// What a fault names.
 fn lead_of_fault(alloc: Global, history: &History, fault: LocalFault) -> Result<Lead, NoMemory> {
     match fault.parts() {
         FaultParts::Operation { txn, op, row, .. } => {
@@ -171,7 +171,7 @@ fn lead_of_fault(alloc: Global, history: &History, fault: LocalFault) -> Result<
     }
 }
 
-/// What a finding names, if it is one. NoMemory where an allocation was refused.
+/// What a finding names, if it is one.
 fn lead_of_finding(
     alloc: Global,
     history: &History,
@@ -189,7 +189,7 @@ fn lead_of_finding(
     }
 }
 
-/// What a report names where it shows a goal. NoMemory where an allocation was refused.
+/// What a report names where it shows a goal.
 fn lead_of(
     alloc: Global,
     history: &History,
@@ -224,8 +224,8 @@ fn push_lead(leads: &mut Vec<Lead>, lead: Option<Lead>) -> Result<(), NoMemory> 
     Ok(())
 }
 
-/// What a judgement of a history names where it shows a goal: what is named of what transactions did first, and then, where
-/// that is more, what is named of all that they did. NoMemory where an allocation was refused.
+/// What a judgement of a history names where it shows a goal: what is named of what transactions did first, and then,
+/// where that is more, what is named of all that they did.
 pub fn leads_of(alloc: Global, history: &History, goal: Goal) -> Result<Vec<Lead>, NoMemory> {
     let report = judge(alloc, history)?;
     let mut leads = Vec::new(alloc);

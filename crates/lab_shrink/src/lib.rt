@@ -1,9 +1,10 @@
-//! Smaller histories that show the same.
+//! Smaller histories that show the same anomaly.
 //!
-//! A history has something to show, its [`Goal`]: that it isn't serializable, a fault of a kind, or a phenomenon.
-//! [`shrink`] takes away transactions, operations, rows and what statements needn't see, as long as what is left shows the
-//! goal, and answers a part of the history of which nothing more can go. Whether a part shows the goal is the proved
-//! judgement's answer; what is tried, and in which order, promises nothing.
+//! A history has a [`Goal`]: that it isn't serializable, a kind of fault, or a phenomenon. [`shrink`] removes
+//! transactions, operations, rows and view entries, as long as the rest shows the goal, and returns a part of the
+//! history from which nothing more can be removed. The proved judgement decides whether a part shows the goal. Which
+//! parts are tried, and in which order, isn't promised. Functions that allocate return `NoMemory` if an allocation
+//! fails.
 #![tactic(auto)]
 
 mod block;

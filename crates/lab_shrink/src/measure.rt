@@ -61,7 +61,7 @@ pub fn size_of(history: &History) -> usize {
     size
 }
 
-/// How many things of a sort a history has. NoMemory where an allocation was refused.
+/// How many things of a sort a history has.
 pub fn count(alloc: Global, history: &History, sort: Sort) -> Result<usize, NoMemory> {
     match sort {
         Sort::Transactions => Ok(history.txns().as_slice().len()),

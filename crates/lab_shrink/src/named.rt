@@ -4,7 +4,7 @@ use lab_history::{History, Op};
 use lab_table::{NoMemory, RowName};
 use std::alloc::Global;
 
-/// The rows that the lists of a history name, each once, by rising row. NoMemory where an allocation was refused.
+/// The rows that the lists of a history name, each once, by rising row.
 pub fn named_rows(alloc: Global, history: &History) -> Result<Vec<RowName>, NoMemory> {
     let mut rows = Vec::new(alloc);
     push_rows(&mut rows, history.initial().rows())?;
@@ -21,7 +21,7 @@ pub fn named_rows(alloc: Global, history: &History) -> Result<Vec<RowName>, NoMe
     Ok(rows)
 }
 
-/// Puts rows in order, each once. NoMemory where an allocation was refused.
+/// Puts rows in order, each once.
 pub fn put_in_order(rows: &mut Vec<RowName>) -> Result<(), NoMemory> {
     rows.sort()?;
     rows.dedup();

@@ -53,7 +53,7 @@ fn place_for(history: &History, reader: TxnNo, writer: TxnNo, row: RowName) -> O
 }
 
 impl Needs {
-    /// No needs, of so many rows. NoMemory where an allocation was refused.
+    /// No needs, of so many rows.
     pub fn none(alloc: Global, rows: usize) -> Result<Needs, NoMemory> {
         Ok(Needs {
             least: vec![in alloc; NONE; rows]?,
@@ -70,7 +70,7 @@ impl Needs {
         }
     }
 
-    /// Notes which version of the row at a place an operation saw. NoMemory where an allocation was refused.
+    /// Notes which version of the row at a place an operation saw.
     fn add_seen(
         &mut self,
         history: &History,
@@ -89,8 +89,7 @@ impl Needs {
         }
     }
 
-    /// Notes that another transaction's version of the row at a place is seen, and who wrote it. NoMemory where an allocation
-    /// was refused.
+    /// Notes that another transaction's version of the row at a place is seen, and who wrote it.
     fn push_seen(&mut self, row: usize, place: usize, writer: &OpName) -> Result<(), NoMemory> {
         self.see(row, place);
         self.seen.push(Seen {
@@ -103,7 +102,7 @@ impl Needs {
         Ok(())
     }
 
-    /// Notes what an operation saw and wrote of the row at a place. NoMemory where an allocation was refused.
+    /// Notes what an operation saw and wrote of the row at a place.
     fn add_row(
         &mut self,
         history: &History,
@@ -121,8 +120,7 @@ impl Needs {
         Ok(())
     }
 
-    /// Notes what an operation did with the rows of entries, where they are among some rows. NoMemory where an allocation
-    /// was refused.
+    /// Notes what an operation did with the rows of entries, where they are among some rows.
     fn add_entries<X>(
         &mut self,
         history: &History,
@@ -139,7 +137,7 @@ impl Needs {
         Ok(())
     }
 
-    /// Notes what an operation did with some rows. NoMemory where an allocation was refused.
+    /// Notes what an operation did with some rows.
     pub fn add_op(
         &mut self,
         history: &History,
@@ -178,7 +176,7 @@ impl Needs {
     }
 
     /// Of each of so many rows, whether an operation stays that wrote the version next after the one with which the row
-    /// begins. NoMemory where an allocation was refused.
+    /// begins.
     fn are_followed(
         &self,
         alloc: Global,
@@ -197,9 +195,9 @@ impl Needs {
         Ok(followed)
     }
 
-    /// The operations that are needed: the writers of the versions that are seen, but of those with which rows begin, and of
-    /// each row the writer of the version next after that one, where none of its operations that wrote the row stays.
-    /// NoMemory where an allocation was refused.
+    /// The operations that are needed: the writers of the versions that are seen, but of those with which rows begin,
+    /// and of each row the writer of the version next after that one, where none of its operations that wrote the row
+    /// stays.
     pub fn needed(
         &self,
         alloc: Global,

@@ -13,8 +13,8 @@ use lab_history::History;
 use lab_table::NoMemory;
 use std::alloc::Global;
 
-/// Takes away blocks of so many things of a sort, from the last to the first, each that can go; behind one that went a block
-/// of twice the length is tried, and so on. What is left, where one went. NoMemory where an allocation was refused.
+/// Takes away blocks of so many things of a sort, from the last to the first, each that can go; behind one that went a
+/// block of twice the length is tried, and so on. What is left, where one went.
 #[tactic(auto, using(crate::proofs::SmallerStill::smaller_still))]
 pub fn pass(
     alloc: Global,

@@ -1,4 +1,4 @@
-//! Making a history smaller, until nothing more can go.
+//! Shrinks a history until nothing more can be removed.
 
 ghost use Rattle.std.specs.Prelude.{IfOk, IfSome};
 ghost use Rattle.lab_shrink.specs.Smaller.{IsSmaller};
@@ -25,18 +25,18 @@ const SORTS: [Sort; 4] = [
 /// The most rounds; each takes something away.
 const ROUNDS: usize = 1_000;
 
-/// Who is told how far it is.
+/// Receives the progress of a search.
 pub trait Watcher {
-    /// So many transactions and operations are left.
+    /// Called when `transactions` and `operations` are left.
     fn left(&mut self, transactions: usize, operations: usize);
 }
 
-/// What a history was made.
+/// The result of shrinking a history.
 #[derive(Drop)]
 pub struct Shrunk {
-    /// What is left; None where nothing could go.
+    /// The rest, or `None` if nothing could be removed.
     pub history: Option<History>,
-    /// Whether nothing more can go; else the work ended before that was known.
+    /// Whether nothing more can be removed; otherwise the search ended before that was known.
     pub is_least: bool,
 }
 
@@ -103,13 +103,10 @@ fn take_round<W: Watcher>(
     Ok(found)
 }
 
-/// Makes a history smaller: a part of it that shows the goal, and of which no transaction, no operation, no row and no entry
-/// of a view can go, unless the work ended before that was known. None where nothing of the history could go. NoMemory
-/// where an allocation was refused.
-///
-/// First it looks at what a judgement of the history names, a cycle or a fault, and keeps that with what it needs; then it
-/// takes away halves, quarters and so on, of transactions, of operations, of rows and of what views list, until nothing
-/// more can go.
+/// Shrinks a history: returns a part of it that shows the goal, or `None` in `history` if nothing could be removed.
+/// `is_least` says whether the search ended with a part from which no transaction, operation, row or view entry can be
+/// removed; no clause states this. The search first keeps what the judgement names, a cycle or a fault, with what that
+/// needs. Then it removes halves, quarters and so on, of transactions, operations, rows and view entries.
 pub fn shrink<W: Watcher>(
     alloc: Global,
     history: &History,

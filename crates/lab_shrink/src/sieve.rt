@@ -143,7 +143,7 @@ fn is_needed(found: &Touches, block: Block) -> bool {
     }
 }
 
-/// Whether what is left without a block may be sound and have a cycle. NoMemory where an allocation was refused.
+/// Whether what is left without a block may be sound and have a cycle.
 fn may_show(alloc: Global, found: &Touches, block: Block) -> Result<bool, NoMemory> {
     if is_needed(found, block) {
         return Ok(false);
@@ -186,7 +186,7 @@ impl Sieve {
         self.touches = None;
     }
 
-    /// Learns that a judgement of what is left of a history failed. NoMemory where an allocation was refused.
+    /// Learns that a judgement of what is left of a history failed.
     pub fn learn(&mut self, alloc: Global, history: &History) -> Result<(), NoMemory> {
         self.failed = self.failed.saturating_add(1);
         if self.is_used && self.failed == PATIENCE {
@@ -203,7 +203,7 @@ impl Sieve {
         }
     }
 
-    /// Whether what is left without a block may show the goal. NoMemory where an allocation was refused.
+    /// Whether what is left without a block may show the goal.
     pub fn lets_through(&self, alloc: Global, block: Block) -> Result<bool, NoMemory> {
         match &self.touches {
             Some(found) => may_show(alloc, found, block),

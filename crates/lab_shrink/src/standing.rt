@@ -28,7 +28,7 @@ pub struct Standings {
 }
 
 impl Standings {
-    /// Where the transactions of a history stand. NoMemory where an allocation was refused.
+    /// Where the transactions of a history stand.
     pub fn of(alloc: Global, history: &History) -> Result<Standings, NoMemory> {
         let mut items = Vec::new(alloc);
         let mut first = 0usize;

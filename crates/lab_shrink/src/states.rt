@@ -18,7 +18,7 @@ pub struct RowStates {
 }
 
 impl RowStates {
-    /// What is known of a row. NoMemory where an allocation was refused.
+    /// What is known of a row.
     pub fn of(alloc: Global, history: &History, row: RowName) -> Result<RowStates, NoMemory> {
         let mut states = Vec::new(alloc);
         states.push(history.initial().get(row))?;

@@ -14,7 +14,7 @@ use lab_judge::judge;
 use lab_table::NoMemory;
 use std::alloc::Global;
 
-/// Whether a history shows a goal. NoMemory where an allocation was refused.
+/// Whether a history shows a goal.
 #[tactic(auto, using(crate::proofs::GoalsShown::shown_where))]
 fn shows(alloc: Global, history: &History, goal: Goal) -> Result<bool, NoMemory>
     ensures { IfOk result (λ shown. shown ≡ true → Shows history.now goal) }
@@ -23,7 +23,7 @@ fn shows(alloc: Global, history: &History, goal: Goal) -> Result<bool, NoMemory>
     Ok(goal.is_shown_by(&report))
 }
 
-/// A part of a history, where it has less than that and shows the goal. NoMemory where an allocation was refused.
+/// A part of a history, where it has less than that and shows the goal.
 #[tactic(auto, using(crate::proofs::SmallerStill::smaller_part))]
 pub fn tried(
     alloc: Global,
@@ -50,7 +50,7 @@ pub fn tried(
     Ok(Some(part))
 }
 
-/// A history without a block, where that shows the goal. NoMemory where an allocation was refused.
+/// A history without a block, where that shows the goal.
 pub fn tried_without(
     alloc: Global,
     goal: Goal,

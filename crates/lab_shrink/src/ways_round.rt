@@ -23,7 +23,7 @@ struct Outgoing {
 }
 
 impl Outgoing {
-    /// These arrows between so many nodes. NoMemory where an allocation was refused.
+    /// These arrows between so many nodes.
     fn of(alloc: Global, nodes: usize, arrows: &[Arrow]) -> Result<Outgoing, NoMemory> {
         let mut first = vec![in alloc; NONE; nodes]?;
         let mut waiting = vec![in alloc; 0usize; nodes]?;
@@ -44,7 +44,7 @@ impl Outgoing {
         })
     }
 
-    /// The nodes that no arrow leads to. NoMemory where an allocation was refused.
+    /// The nodes that no arrow leads to.
     fn free(&self, alloc: Global) -> Result<Vec<usize>, NoMemory> {
         let mut free = Vec::new(alloc);
         for (node, count) in self.waiting.iter().enumerate() {
@@ -79,7 +79,7 @@ impl Outgoing {
     }
 }
 
-/// Whether arrows between so many nodes lead back to where they begin. NoMemory where an allocation was refused.
+/// Whether arrows between so many nodes lead back to where they begin.
 pub fn lead_back(alloc: Global, nodes: usize, arrows: &[Arrow]) -> Result<bool, NoMemory> {
     let mut outgoing = Outgoing::of(alloc, nodes, arrows)?;
     let mut free = outgoing.free(alloc)?;

@@ -32,7 +32,7 @@ fn add_name(kept: &mut Vec<bool>, standings: &Standings, name: &OpName) -> bool 
     }
 }
 
-/// What the operations that stay need at some rows. NoMemory where an allocation was refused.
+/// What the operations that stay need at some rows.
 fn needs_of(
     alloc: Global,
     history: &History,
@@ -55,8 +55,7 @@ fn needs_of(
     Ok(needs)
 }
 
-/// Adds the writers of what an operation saw of some rows, but of the versions with which rows begin. NoMemory where an
-/// allocation was refused.
+/// Adds the writers of what an operation saw of some rows, but of the versions with which rows begin.
 fn push_writers(
     needed: &mut Vec<OpName>,
     needs: &Needs,
@@ -85,7 +84,7 @@ fn op_named<'h>(history: &'h History, name: &OpName) -> Option<&'h Op> {
     history.txn(name.txn)?.ops.as_slice().get(place)
 }
 
-/// Which operations stay once those that are needed do. NoMemory where an allocation was refused.
+/// Which operations stay once those that are needed do.
 fn kept_more(
     alloc: Global,
     history: &History,
@@ -110,8 +109,8 @@ fn kept_more(
     Ok(more)
 }
 
-/// Of each operation, whether it is named, or is needed by those that are; with `from_start` the first writers of each row
-/// are needed, too. NoMemory where an allocation was refused.
+/// Of each operation, whether it is named, or is needed by those that are; with `from_start` the first writers of each
+/// row are needed, too.
 pub fn kept_with(
     alloc: Global,
     history: &History,

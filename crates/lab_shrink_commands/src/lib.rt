@@ -1,8 +1,9 @@
-//! The subcommand `shrink`: from a history file to one of a smaller history that shows the same.
+//! The subcommand `shrink`: writes a smaller history that shows the same anomaly.
 //!
-//! [`shrink`] reads a history file, and writes the file of a part of its history that shows what the judgement of the whole
-//! shows: that it isn't serializable, its fault's kind, or a phenomenon that is asked for. Where nothing is shown, or nothing
-//! can go, it writes the input as it is. A line on standard error says so.
+//! [`shrink`] reads a history file, and writes the file of a part of its history that shows what the judgement of the
+//! whole shows: that it isn't serializable, the kind of its fault, or a phenomenon that is asked for. If it shows none
+//! of these, or nothing can be removed, `shrink` writes the input unchanged, and a line on standard error says so.
+//! Functions that allocate return `NoMemory` if an allocation fails.
 #![tactic(auto)]
 
 mod progress;

@@ -1,15 +1,15 @@
-//! How much of a history is left.
+//! The progress of a search, on a line that is overwritten.
 
 use itoa::Buffer;
 use lab_shrink::Watcher;
 use std::io::Write;
 
-/// A line that says how many transactions and operations are left, where there is somebody to read it. What fails is let go.
+/// A line that shows how many transactions and operations are left, if a person reads it. Ignores write errors.
 #[derive(Drop)]
 pub struct Progress<'p, P: Write> {
     /// Where the line is written.
     pub to: &'p mut P,
-    /// Whether somebody reads it; else nothing is written.
+    /// Whether a person reads it; otherwise nothing is written.
     pub is_shown: bool,
 }
 
@@ -31,7 +31,7 @@ impl<'p, P: Write> Watcher for Progress<'p, P> {
 }
 
 impl<'p, P: Write> Progress<'p, P> {
-    /// Takes the line away.
+    /// Removes the line.
     pub fn clear(&mut self) {
         if self.is_shown {
             let _ = self.to.write_all(b"\r\x1b[K");

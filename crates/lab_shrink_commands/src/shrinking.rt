@@ -38,7 +38,7 @@ fn of_shrunk(shrunk: &Shrunk) -> Remark {
     }
 }
 
-/// What a judgement of a history shows. NoMemory where an allocation was refused.
+/// What a judgement of a history shows.
 fn goal_in(
     alloc: Global,
     history: &History,
@@ -50,8 +50,7 @@ fn goal_in(
     Ok(Goal::of(&report, asked))
 }
 
-/// A part of a history that shows the goal, of which nothing more can go; None where nothing can. NoMemory where an
-/// allocation was refused.
+/// A part of a history that shows the goal, of which nothing more can go; None where nothing can.
 fn smaller_part<P: Write>(
     alloc: Global,
     history: &History,
@@ -68,7 +67,7 @@ fn smaller_part<P: Write>(
     Ok(shrunk.history)
 }
 
-/// The file of a history; None where it would be too long. NoMemory where an allocation was refused.
+/// The file of a history; None where it would be too long.
 fn file_of(
     alloc: Global,
     history: &History,
@@ -86,8 +85,8 @@ fn file_of(
     }
 }
 
-/// The file of a part of a history that shows what the history shows; None where nothing is shown, where nothing can go, or
-/// where the file would be too long, and `remark` says which. NoMemory where an allocation was refused.
+/// The file of a part of a history that shows what the history shows; None where nothing is shown, where nothing can
+/// go, or where the file would be too long, and `remark` says which.
 fn smaller_file<P: Write>(
     alloc: Global,
     history: &History,
@@ -118,7 +117,7 @@ struct Shrinker<'p, P: Write> {
 }
 
 impl<'p, P: Write> Shrinker<'p, P> {
-    /// The file of a smaller history, or the input. NoMemory where an allocation was refused.
+    /// The file of a smaller history, or the input.
     fn shrunk(&mut self, alloc: Global, input: &[u8], history: &History) -> Result<Answer, NoMemory>
         ensures { IfOk result (λ answer. Shrinks self.old.asked input.now history.now answer.text.items answer.ending) }
     {
@@ -173,10 +172,10 @@ impl<'p, P: Write> Subcommand for Shrinker<'p, P> {
     ghost whole = { λ s. shrinks_whole s.asked };
 }
 
-/// Reads a history file, and writes one of a part of its history that shows what a judgement of the history shows: the no of
-/// its serial verdict, its fault's kind, or the phenomenon that is asked for. Where it shows nothing of that, where nothing can
-/// go, or where the part's file would be too long, it writes the input as it is, and `notes` is told. Or the line of the
-/// file's first fault. It reads, writes and ends as [`answer_input`] does.
+/// Reads a history file, and writes the file of a part of its history that shows what the judgement shows: the no of
+/// its serial verdict, the kind of its fault, or the phenomenon that is asked for. If the judgement shows none of
+/// these, nothing can be removed, or the file of the part would be too long, writes the input unchanged, and a line to
+/// `notes`. If the file is refused, writes the line of its first fault. Reads, writes and ends as `answer_input` does.
 pub fn shrink<R: Read, W: Write, N: Write, P: Write>(
     alloc: Global,
     reader: &mut R,

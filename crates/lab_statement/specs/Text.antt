@@ -50,7 +50,7 @@ pub record BeginsLongStatement (ts : List Token) : Type 0 where
   pub spelled : IsStatement front statement
   pub long : max_statement_bytes < length (printed_statement statement)
 
--- the text spells the statement: it has no two dashes side by side, behind which a remark would stand, and its tokens are those of the statement
+-- the text spells the statement: it has no two dashes side by side, which would begin a remark, and its tokens are those of the statement
 pub record SpellsStatement (text : List ℕ) (s : Statement) : Type 0 where
   pub bytes : length text ≤ max_line_bytes
   pub ascii : list_all is_code_byte text ≡ true

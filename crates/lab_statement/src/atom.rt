@@ -1,4 +1,4 @@
-//! Comparisons, remainders and lists, read from tokens.
+//! Parses comparisons, remainders and lists.
 
 ghost use Rattle.std.specs.Prelude.{◌≡◌, ◌≤◌, length};
 ghost use Rattle.lab_statement.specs.Stopping.{cmp_of, Comes, atom_read, cmp_read, col_read, compare_read, number_list_read, numbers_read, one_of_read, positive_read, remainder_read};
@@ -25,7 +25,7 @@ fn cmp_of(token: Token) -> Option<Cmp>
 }
 
 impl Parser<'_> {
-    /// A comparison, a remainder or a list.
+    /// Parses a comparison, a remainder or a list.
     #[tactic(auto, unfolding(crate::specs::Stopping::atom_read))]
     pub fn atom(&mut self, alloc: Global) -> Result<Pred, Refusal>
         ensures reads { Comes (λ x. (x, self.new)) result self.new (atom_read self.old) }

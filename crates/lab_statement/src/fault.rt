@@ -1,4 +1,4 @@
-//! What is wrong with a script's text.
+//! Faults of a script's text.
 
 ghost use Rattle.std.specs.Prelude.{◌≡◌, ◌++◌, IfOk};
 ghost use Rattle.lab_statement.specs.Fault.{fault_text};
@@ -13,39 +13,39 @@ use thiserror::Error;
 /// What is wrong with a line of a script.
 #[derive(Clone, Copy, Debug, PartialEq, Eq)]
 pub enum ScriptFaultKind {
-    /// A byte of the code that is neither a tab nor printed ASCII.
+    /// The code has a byte that is neither a tab nor printable ASCII.
     NotAscii,
-    /// Something else stands where the setup belongs, or the text has no setup.
+    /// The first line of code isn't a setup, or the text has no setup.
     NoSetup,
     /// A second setup.
     SetupRepeated,
-    /// The line's remark names no session.
+    /// The comment of the line names no session.
     NoSession,
-    /// A token, or the end, that no statement has there.
+    /// A token that no statement has at this position, or an unexpected end.
     UnknownStatement,
-    /// The same, behind a `where` of the statement.
+    /// A token that no statement has at this position, or an unexpected end, after a `where`.
     BadPredicate,
-    /// A word that is no table's name where one may stand.
+    /// A word in the position of a table name that isn't one.
     BadTableName,
-    /// Digits whose number is out of its range.
+    /// A number out of its range.
     NumberOutOfRange,
-    /// More than 16 parentheses and `not`s are open.
+    /// More than 16 parentheses and `not`s are open at once.
     TooDeep,
-    /// A line, a statement's printed form, or the script is over its limit.
+    /// A line, the printed form of a statement, or the script exceeds its limit.
     TooLong,
-    /// A row of the setup whose id came before.
+    /// A row occurs twice in the setup.
     DuplicateSetupRow,
-    /// The name of a fifth table; a row of the setup without a name is one of `test`.
+    /// A fifth table. A row of the setup without a table name belongs to `test`.
     TooManyTables,
 }
 
-/// Why a text is no script.
+/// Why a text isn't a script.
 #[derive(Clone, Copy, Debug, PartialEq, Eq, Error)]
 pub enum ScriptFault {
-    /// An allocation was refused.
+    /// An allocation failed.
     #[error("no memory")]
     NoMemory,
-    /// The first faulty line, counted from 1, and what is wrong with it.
+    /// The first faulty line, counted from 1, and its fault.
     #[error("line {line}: {kind:?}")]
     At { line: u32, kind: ScriptFaultKind },
 }
@@ -61,12 +61,12 @@ impl From<AllocError> for ScriptFault {
     }
 }
 
-/// Why reading the tokens of a line stopped, whichever line it is.
+/// Why parsing a line stopped, without the line's number.
 #[derive(Debug, Drop)]
 pub enum Refusal {
-    /// An allocation was refused.
+    /// An allocation failed.
     NoMemory,
-    /// The tokens spell nothing of the grammar.
+    /// The tokens don't follow the grammar.
     Fault(ScriptFaultKind),
 }
 
@@ -74,7 +74,7 @@ impl Refusal {
     ghost use Rattle.std.specs.Prelude.{◌≡◌};
     ghost use Rattle.lab_statement.specs.Fault.{refusal_at};
 
-    /// The fault of a script whose line with this number stopped so.
+    /// Returns this fault as the fault of line `line` of a script.
     pub fn at(self, line: u32) -> ScriptFault
         ensures { result ≡ refusal_at self line }
     {
@@ -132,7 +132,7 @@ impl ScriptFaultKind {
     }
 }
 
-/// Spells the line that tells a fault, and nothing for want of memory.
+/// Spells the line that tells a fault, and nothing if memory runs out.
 fn spell_fault(out: &mut Vec<u8>, fault: &ScriptFault) -> bool
     ensures { OnTaken result (out.new.items ≡ out.old.items ++ fault_text fault.now) }
 {
@@ -148,8 +148,7 @@ fn spell_fault(out: &mut Vec<u8>, fault: &ScriptFault) -> bool
     }
 }
 
-/// The line that tells a fault, as `line 3: NoSession` and a newline; nothing for want of memory.
-/// NoMemory where an allocation was refused.
+/// Returns the printed fault, such as `line 3: NoSession` and a newline. For `NoMemory` the text is empty.
 pub fn print_script_fault(alloc: Global, fault: &ScriptFault) -> Result<Vec<u8>, NoMemory>
     ensures { IfOk result (λ text. text.items ≡ fault_text fault.now) }
 {

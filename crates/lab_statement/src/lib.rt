@@ -1,20 +1,20 @@
-//! The text of statements, both ways.
+//! Parsing and printing statements.
 //!
 //! ```text
 //! update test set value = value + 10 where id = 1
 //! ```
 //!
-//! [`parse_statement`] reads such a text, and [`print_statement`] gives a statement its text: what it prints is read as
-//! that statement again. A text that spells no statement is refused with what is wrong there, a [`ScriptFault`], which
-//! [`print_script_fault`] tells: the same type that the text of a whole script is refused with, whose kinds are those of
-//! scripts too.
+//! [`parse_statement`] parses such a text, and [`print_statement`] prints a statement so that it is parsed as the same
+//! statement. A text that isn't a statement has a [`ScriptFault`], which [`print_script_fault`] prints. Whole scripts
+//! have the same type of faults, so some kinds occur only there.
 //!
-//! A text keeps the limits of `lab_printing`: those of a line, and for the statement those of its printed form. A
-//! statement that is made by hand need not: printing then answers a `PrintFault`.
+//! A text keeps the limits of `lab_printing`, for lines and for printed statements. A statement that was built in code
+//! may exceed them; printing then fails with a `PrintFault`.
 //!
-//! The crate of scripts reads the tokens of its lines with the same [`Parser`].
+//! `lab_script` parses the tokens of its lines with the same [`Parser`].
 //!
-//! What takes memory is handed an allocator, or a list of tokens that has one, and may be refused for want of memory.
+//! Functions that allocate take an allocator, or a list of tokens that has one, and return `NoMemory` if an allocation
+//! fails.
 #![tactic(auto)]
 
 mod atom;

@@ -1,4 +1,4 @@
-//! The code and the remark of a line.
+//! The code and the comment of a line.
 
 ghost use Rattle.std.specs.Prelude.{◌≡◌};
 ghost use Rattle.std.specs.List.{list_all};
@@ -6,7 +6,7 @@ ghost use Rattle.lab_statement.specs.Text.{code_of, remark_of, is_code_byte};
 
 use bstr::ByteSlice;
 
-/// The code, and the remark behind the first two dashes; no bytes where there is no remark.
+/// Returns the code of a line, and the comment after the first two dashes. The comment is empty if there are no dashes.
 pub fn code_and_remark(line: &[u8]) -> (&[u8], &[u8])
     ensures code { result.0.now ≡ code_of line.now }
     ensures remark { result.1.now ≡ remark_of line.now }
@@ -24,7 +24,7 @@ fn is_code_byte(byte: u8) -> bool
     byte == b'\t' || (b' ' <= byte && byte <= b'~')
 }
 
-/// Whether all bytes are tabs or printed ones.
+/// Returns whether all bytes are tabs or printable ASCII.
 pub fn is_ascii_code(code: &[u8]) -> bool
     ensures { result ≡ list_all is_code_byte code.now }
 {

@@ -1,4 +1,4 @@
-//! A parser of tokens, with the tokens and numbers that it reads, and what is read by it: single statements.
+//! The parser of tokens: reads tokens, numbers and names, and is the base of the parser of statements.
 
 ghost use Rattle.std.specs.Prelude.{◌≡◌, ◌==◌, ◌≤◌, ◌<◌, length, List, Some, None, IfOk, MatchBool, false};
 ghost use Rattle.lab_statement.specs.Grammar.{IsWholeStatement};
@@ -28,35 +28,35 @@ impl<'a> Model for Parser<'a> {
 }
 
 impl<'a> Parser<'a> {
-    /// A parser of these tokens.
+    /// Returns a parser of these tokens.
     pub fn new(tokens: &'a [Token]) -> Parser<'a>
         ensures { result ≡ tokens.now }
     {
         Parser { rest: tokens }
     }
 
-    /// The tokens that are left.
+    /// Returns the tokens that are left.
     pub fn tokens(&self) -> &'a [Token]
         ensures { result.now ≡ self.now }
     {
         self.rest
     }
 
-    /// Whether nothing is left.
+    /// Returns whether no token is left.
     pub fn is_done(&self) -> bool
         ensures { result ≡ (length self.now == 0) }
     {
         self.rest.is_empty()
     }
 
-    /// How many tokens are left.
+    /// Returns how many tokens are left.
     pub fn left(&self) -> usize
         ensures { result ≡ length self.now }
     {
         self.rest.len()
     }
 
-    /// Nothing may be left.
+    /// Fails if a token is left.
     pub fn nothing_left(&self) -> Result<(), Refusal>
         ensures { Comes (λ x. x) result self.now (nothing_read self.now) }
     {
@@ -67,7 +67,7 @@ impl<'a> Parser<'a> {
         }
     }
 
-    /// Takes this token, if it is the first.
+    /// Takes `token` if it is next. Returns whether it was.
     #[inline(always)]
     pub fn took(&mut self, token: Token) -> bool
         ensures gives { MatchBool result (after token self.old ≡ Some self.new) ((after token self.old ≡ None) × (self.new ≡ self.old)) }
@@ -82,7 +82,7 @@ impl<'a> Parser<'a> {
         }
     }
 
-    /// Takes this token, which must be the first.
+    /// Takes `token`, which must be next.
     #[inline(always)]
     pub fn expect(&mut self, token: Token) -> Result<(), Refusal>
         ensures reads { Comes (λ x. self.new) result self.new (token_read token self.old) }
@@ -95,7 +95,7 @@ impl<'a> Parser<'a> {
         }
     }
 
-    /// Takes these tokens, which must be the first.
+    /// Takes these tokens, which must be next.
     pub fn expect_all(&mut self, tokens: &[Token]) -> Result<(), Refusal>
         ensures { Comes (λ x. self.new) result self.new (tokens_read tokens.now self.old) }
     {
@@ -105,7 +105,7 @@ impl<'a> Parser<'a> {
         Ok(())
     }
 
-    /// The name of a table. BadTableName where another word stands.
+    /// Parses the name of a table. Fails with `BadTableName` at any other word.
     #[tactic(auto, unfolding(crate::specs::Stopping::name_read))]
     pub fn name(&mut self) -> Result<TableName, Refusal>
         ensures reads { Comes (λ x. (x, self.new)) result self.new (name_read self.old) }
@@ -123,7 +123,7 @@ impl<'a> Parser<'a> {
         }
     }
 
-    /// Digits, and their number.
+    /// Parses digits, and returns their number.
     #[tactic(auto, unfolding(crate::specs::Stopping::digits_read))]
     pub fn digits(&mut self) -> Result<u32, Refusal>
         ensures reads { Comes (λ x. (x, self.new)) result self.new (digits_read self.old) }
@@ -138,7 +138,7 @@ impl<'a> Parser<'a> {
         }
     }
 
-    /// A number without a sign, up to 1,000,000,000.
+    /// Parses a number without a sign, up to 1,000,000,000.
     #[tactic(auto, unfolding(crate::specs::Stopping::magnitude_read))]
     pub fn magnitude(&mut self) -> Result<u32, Refusal>
         ensures reads { Comes (λ x. (x, self.new)) result self.new (magnitude_read self.old) }
@@ -153,7 +153,7 @@ impl<'a> Parser<'a> {
         }
     }
 
-    /// A number, from -1,000,000,000 to 1,000,000,000.
+    /// Parses a number, from -1,000,000,000 to 1,000,000,000.
     #[tactic(auto, unfolding(crate::specs::Stopping::number_read))]
     pub fn number(&mut self) -> Result<Value, Refusal>
         ensures reads { Comes (λ x. (x, self.new)) result self.new (number_read self.old) }
@@ -183,7 +183,8 @@ pub fn read_statement(alloc: Global, tokens: &[Token]) -> Result<Statement, Refu
     }
 }
 
-/// The stop of a line of which so many tokens are left: behind a `where` of its statement an unknown token is a bad predicate.
+/// Returns the fault of a line at which `left` tokens are left: after a `where` of the statement, an unknown token is
+/// `BadPredicate`.
 pub fn placed(refusal: Refusal, tokens: &[Token], left: usize) -> Refusal
     ensures { result ≡ refusal_as (λ kind. placed_kind tokens.now kind left) refusal }
 {

@@ -1,4 +1,4 @@
-//! Predicates, read from tokens.
+//! Parses conditions.
 
 ghost use Rattle.std.specs.Prelude.{◌≡◌, ◌≤◌, length, IfOk, MatchResult};
 ghost use Rattle.lab_table.specs.Predicate as predicate;
@@ -12,7 +12,7 @@ use lab_table::{NoMemory, Pred, PredKind, Word};
 use std::alloc::Global;
 
 impl Parser<'_> {
-    /// The predicate behind a `where`, if one stands here.
+    /// Parses a `where` and its condition, if the next token is `where`.
     #[tactic(auto, unfolding(crate::specs::Stopping::where_read))]
     pub fn where_clause(&mut self, alloc: Global) -> Result<Option<Pred>, Refusal>
         ensures { Comes (λ x. (x, self.new)) result self.new (where_read self.old) }

@@ -1,4 +1,4 @@
-//! Statements in printed form that are read again.
+//! Prints statements so that they can be parsed again.
 
 ghost use Rattle.std.specs.Prelude.{◌≡◌, ◌≢◌, ◌≤◌, ◌<◌, length, Some, IfOk, OnOk, Err};
 ghost use Rattle.lab_printing.specs.Printed.{printed_statement};
@@ -11,8 +11,8 @@ use lab_printing::{PrintFault, check_statement, put_statement};
 use lab_table::Statement;
 use std::alloc::Global;
 
-/// A statement in printed form, if that keeps the limits of a text.
-/// TooDeep comes before TooLong; NoMemory where an allocation was refused.
+/// Returns the printed form of a statement, if it keeps the limits of a text. Otherwise fails with `TooDeep`, or with
+/// `TooLong` if only the length exceeds its limit.
 pub fn print_statement(alloc: Global, statement: &Statement) -> Result<Vec<u8>, PrintFault>
     ensures text { IfOk result (λ text. text.items ≡ printed_statement statement.now) }
     // What is printed is read as the same statement again.

@@ -1,4 +1,4 @@
-//! A row of a statement with its value, read from tokens.
+//! Parses a row of a statement with its value.
 
 ghost use Rattle.std.specs.Prelude.{◌≤◌, length};
 ghost use Rattle.lab_statement.specs.Stopping.{Comes, positive_read, row_read};
@@ -9,7 +9,7 @@ use crate::token::Token;
 use lab_table::{RowId, Value};
 
 impl Parser<'_> {
-    /// A row's number, from 1 to 999,999. Digits behind a minus are a number that is out of this range.
+    /// Parses a row number, from 1 to 999,999. Digits after a minus are a number out of range.
     #[tactic(auto, unfolding(crate::specs::Stopping::positive_read))]
     pub fn id(&mut self) -> Result<RowId, Refusal>
         ensures reads { Comes (λ x. (x, self.new)) result self.new (positive_read 999999 self.old) }
@@ -23,7 +23,7 @@ impl Parser<'_> {
         RowId::new(number).ok_or(Refusal::Fault(ScriptFaultKind::NumberOutOfRange))
     }
 
-    /// A row's number with its value: both in parentheses, with a comma between them.
+    /// Parses a row number and a value, in parentheses and separated by a comma.
     #[tactic(auto, unfolding(crate::specs::Stopping::row_read))]
     pub fn row(&mut self) -> Result<(RowId, Value), Refusal>
         ensures reads { Comes (λ x. (x, self.new)) result self.new (row_read self.old) }

@@ -1,4 +1,4 @@
-//! Statements, read from tokens.
+//! Parses statements.
 
 ghost use Rattle.std.specs.Prelude.{◌≡◌, nat_le, true, false, length, OnOk, IfErr};
 ghost use Rattle.lab_statement.specs.Grammar.{over};
@@ -16,7 +16,7 @@ use lab_table::{Expr, Statement, StatementKind, TableName, Word};
 use std::alloc::Global;
 
 impl Parser<'_> {
-    /// One statement, which is all that is left, but for a semicolon.
+    /// Parses a statement that uses up all tokens, with or without a semicolon.
     #[tactic(auto, unfolding(crate::specs::FirstFaults::whole_statement_read))]
     pub fn whole_statement(&mut self, alloc: Global) -> Result<Statement, Refusal>
         ensures { Comes (λ x. x) result self.new (whole_statement_read self.old) }
@@ -34,7 +34,7 @@ impl Parser<'_> {
         self.nothing_left()
     }
 
-    /// One of the four kinds of statement.
+    /// Parses one of the four kinds of statement.
     #[tactic(auto, unfolding(crate::specs::FirstFaults::statement_read))]
     pub fn statement(&mut self, alloc: Global) -> Result<Statement, Refusal>
         ensures { Comes (λ x. (x, self.new)) result self.new (statement_read self.old) }
@@ -123,7 +123,7 @@ impl Parser<'_> {
         Ok(over(table, StatementKind::Delete { pred }))
     }
 
-    /// The end of a statement: a semicolon, or nothing is left.
+    /// Parses the end of a statement: a semicolon, or the end of the tokens.
     #[tactic(auto, unfolding(crate::specs::FirstFaults::end_read))]
     pub fn ended(&mut self) -> Result<(), Refusal>
         ensures { Comes (λ x. self.new) result self.new (end_read self.old) }
@@ -142,7 +142,7 @@ fn over(table: TableName, kind: StatementKind) -> Statement
     Statement { table, kind }
 }
 
-/// The printed form is as short as it must be.
+/// Checks that the printed form of a statement has at most 1,000 bytes; otherwise fails with `TooLong`.
 #[tactic(auto, using(crate::proofs::Bounds::same_test))]
 pub fn check_length(statement: &Statement) -> Result<(), Refusal>
     ensures short { OnOk result (nat_le (length (printed_statement statement.now)) max_statement_bytes ≡ true) }

@@ -1,4 +1,4 @@
-//! Reading the text of one statement.
+//! Parses the text of one statement.
 
 ghost use Rattle.std.specs.Prelude.{◌≡◌, ◌≢◌, Some, None, IfOk, IfErr, MatchResult};
 ghost use Rattle.lab_table.specs.declared.statement.Statement.{Statement as Spelled};
@@ -14,9 +14,8 @@ use lab_printing::MAX_LINE_BYTES;
 use lab_table::{NoMemory, Statement};
 use std::alloc::Global;
 
-/// The statement that a text spells, on its line 1, with or without a `;`.
-/// The text is code of at most 4,000 bytes, without newline or remark.
-/// What is wrong with it, or NoMemory where an allocation was refused.
+/// Parses a text of one statement, with or without a `;`. The text is code of at most 4,000 bytes, without a newline or
+/// a comment. Fails with what is wrong, on line 1.
 #[tactic(auto, using(crate::proofs::StatementRead::none_in))]
 pub fn parse_statement(alloc: Global, text: &[u8]) -> Result<Statement, ScriptFault>
     ensures found { IfOk result (λ statement. SpellsStatement text.now statement) }

@@ -15,9 +15,9 @@ pub enum Token {
     Word(Word),
     /// The name of a table, which is no reserved word.
     Name(TableName),
-    /// A word that is neither.
+    /// Any other word.
     OtherWord,
-    /// The number that digits spell, or one above the greatest number of any text.
+    /// The number that the digits spell, or any number above the greatest that a text may have.
     Digits(u32),
     Open,
     Close,
@@ -54,7 +54,7 @@ fn is_blank(byte: u8) -> bool
 }
 
 impl Token {
-    /// Whether it is a word.
+    /// Returns whether the token is a word.
     pub fn is_word(self) -> bool
         ensures { result ≡ is_word self }
     {
@@ -86,7 +86,7 @@ fn letters_len(bytes: &[u8]) -> usize
     bytes.iter().take_while(|b| is_letter(**b)).count()
 }
 
-/// How many blanks there are at the front.
+/// Returns the number of blanks at the start of `bytes`.
 pub fn blanks_len(bytes: &[u8]) -> usize
     ensures value { result ≡ prefix_len is_blank bytes.now }
     ensures within { result ≤ length bytes.now }
@@ -179,7 +179,7 @@ fn mark_at(first: u8, after: &[u8]) -> (Token, &[u8])
     }
 }
 
-/// Puts the tokens of a text in place of what was found before; NoMemory where an allocation was refused.
+/// Replaces the content of `found` by the tokens of `text`.
 #[tactic(auto, using(crate::proofs::Tokens::comma_begins))]
 pub fn tokens_into(found: &mut Vec<Token>, text: &[u8]) -> Result<(), NoMemory>
     ensures { OnOk result (found.new.items ≡ tokens text.now) }

@@ -1,27 +1,27 @@
-//! How runs end, and the program's exit statuses.
+//! How runs end, and the exit statuses of the program.
 
 ghost use Rattle.std.specs.Prelude.{◌≡◌, MatchResult};
 ghost use Rattle.lab_streams.specs.Status.{ending_status, fault_status};
 
 use std::alloc::AllocError;
 
-/// How a run ended whose text was written.
+/// The result of a run that wrote its whole output.
 #[derive(Clone, Copy, Debug, Drop, PartialEq, Eq)]
 pub enum Ending {
-    /// The text is the answer.
+    /// The text is the result.
     Done,
-    /// The text is the answer, and it doesn't meet what was required of it.
+    /// The text is the result, and a requirement isn't met.
     Unmet,
     /// The input was refused, and the text says why.
     Refused,
 }
 
-/// Why a run didn't write its text, or not all of it.
+/// Why a run didn't write its output, or not all of it.
 #[derive(Clone, Copy, Debug, Drop, PartialEq, Eq)]
 pub enum RunFault {
-    /// An allocation was refused; nothing was written.
+    /// An allocation failed; nothing was written.
     NoMemory,
-    /// A read failed, or the input didn't end in the calls that it has; nothing was written.
+    /// A read failed, or the input didn't end within the permitted number of calls; nothing was written.
     Unread,
     /// A write failed; a part of the text may have been written.
     Unwritten,
@@ -38,8 +38,12 @@ impl From<AllocError> for RunFault {
     }
 }
 
-/// The exit status of a run: 0 done, 1 done and a requirement isn't met, 2 input refused, 3 a read, an open or a write
-/// failed, 4 want of memory.
+/// Returns the exit status of a run:
+/// - 0: done
+/// - 1: done, but a requirement isn't met
+/// - 2: the input was refused
+/// - 3: a file couldn't be opened, or a read or a write failed
+/// - 4: out of memory
 pub fn status(run: Result<Ending, RunFault>) -> u8
     ensures { MatchResult run (λ ending. result ≡ ending_status ending) (λ fault. result ≡ fault_status fault) }
 {

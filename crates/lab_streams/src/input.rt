@@ -1,4 +1,4 @@
-//! Reading an input whole.
+//! Reads an input to its end.
 
 ghost use Rattle.std.specs.Prelude.{◌≡◌, ◌≢◌, ◌⊎◌, ◌≤◌, ◌<◌, length, IfOk, IfErr, OnOk, IfSome};
 ghost use Rattle.std.specs.Io.KnownBytes.{IsAtEnd};
@@ -60,10 +60,8 @@ fn read_turn<R: Read>(
     }
 }
 
-/// Reads an input to its end, or to 8,388,609 bytes, whichever comes first.
-///
-/// A call that was interrupted is made again. `Unread` where another call fails, or where 20,000,000 calls don't
-/// reach the end; `NoMemory` where an allocation was refused. What was read by then is given up.
+/// Reads the input to its end, but at most 8,388,609 bytes. Repeats interrupted calls. Fails with `Unread` if a call
+/// fails, or if 20,000,000 calls don't reach the end.
 #[tactic(auto, using(crate::proofs::Taken::takes_start, crate::proofs::Taken::takes_more))]
 pub fn read_input<R: Read>(alloc: Global, reader: &mut R) -> Result<Vec<u8>, RunFault>
     ensures bytes { IfOk result (λ bytes. IfSome (R.remaining reader.old) (λ input. bytes.items ≡ read_of input)) }

@@ -1,11 +1,11 @@
-//! What the subcommands of the program share: reading an input whole, writing a text whole, how a run ends, how a report is
-//! written, and what is told of a history file.
+//! Shared parts of the subcommands: reading an input, writing a text, the end of a run, and the formats of a report.
 //!
-//! A subcommand that reads an input is a [`Subcommand`], which [`answer_input`] runs on its streams. One that tells
-//! something of a history is a [`Teller`], and [`tell_history`] reads the file.
+//! A subcommand that reads an input implements [`Subcommand`]; [`answer_input`] runs it on its streams. A subcommand
+//! that prints something about a history implements [`Teller`]; [`tell_history`] reads its file.
 //!
-//! What is read is read before the first write, and one text is written whole. Where it was written the answer is an
-//! [`Ending`], and where it wasn't a [`RunFault`]. [`status`] is the exit status of either.
+//! The input is read completely before the first write, and one text is written. The result is an [`Ending`] if it was
+//! written, else a [`RunFault`]; [`status`] is the exit status of either. Functions that allocate return `NoMemory` if
+//! an allocation fails.
 #![tactic(auto)]
 
 mod ending;

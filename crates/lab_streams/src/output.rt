@@ -1,4 +1,4 @@
-//! Writing a text whole.
+//! Writes a text.
 
 ghost use Rattle.std.specs.Prelude.{◌≡◌, IfErr, OnOk};
 ghost use Rattle.std.specs.Io.KnownBytes.{Appends};
@@ -6,14 +6,14 @@ ghost use Rattle.std.specs.Io.KnownBytes.{Appends};
 use crate::ending::{Ending, RunFault};
 use std::io::Write;
 
-/// What a run has to say, and how it ends once that is written.
+/// The output of a run, and how the run ends once that is written.
 #[derive(Debug, Drop)]
 pub struct Answer {
     pub text: Vec<u8>,
     pub ending: Ending,
 }
 
-/// Writes a text whole and flushes the writer; `Unwritten` where either fails.
+/// Writes the whole text and flushes the writer. Fails with `Unwritten` if either fails.
 pub fn write_text<W: Write>(writer: &mut W, text: &[u8]) -> Result<(), RunFault>
     ensures written { OnOk result (Appends (W.contents writer.old) (W.contents writer.new) text.now) }
     ensures fault { IfErr result (λ fault. fault ≡ RunFault.Unwritten) }
@@ -24,7 +24,7 @@ pub fn write_text<W: Write>(writer: &mut W, text: &[u8]) -> Result<(), RunFault>
     Ok(())
 }
 
-/// Gives `notes` a text, if it isn't empty; what fails there is let go.
+/// Writes `text` to `notes` unless it is empty. Ignores write errors.
 pub fn note_text<N: Write>(text: &[u8], notes: &mut N) {
     if !text.is_empty() {
         let _ = write_text(notes, text);

@@ -1,4 +1,4 @@
-//! How a report is written, and what is required of it.
+//! The formats of a report, and requirements on it.
 
 ghost use Rattle.std.specs.Prelude.{◌≡◌, IfOk};
 ghost use Rattle.std.specs.Option.{option_copied};
@@ -11,23 +11,23 @@ use lab_reports::{Requirement, print_refusal_json, print_report_json, put_shortf
 use lab_table::NoMemory;
 use std::alloc::Global;
 
-/// How a report is written, or why there is none.
+/// The format of a report, or of the reason why there is none.
 #[derive(Clone, Copy, Debug, PartialEq, Eq)]
 pub enum Format {
-    /// As lines.
+    /// Lines of text.
     Lines,
-    /// As one line of JSON.
+    /// One line of JSON.
     Json,
 }
 
-/// How a report is written, and what is required of it.
+/// The format of a report, and the requirement on it.
 #[derive(Clone, Copy, Debug, PartialEq, Eq)]
 pub struct Wanted {
     pub format: Format,
     pub requirement: Option<Requirement>,
 }
 
-/// A report in a format; in JSON with the name of its file, where that is given. NoMemory where an allocation was refused.
+/// Returns a report in a format; in JSON with the name of its file, if it is given.
 pub fn print_said(
     alloc: Global,
     format: Format,
@@ -42,8 +42,8 @@ pub fn print_said(
     }
 }
 
-/// Why there is no report on a file, in a format; in JSON with the file's name, where that is given. NoMemory where an
-/// allocation was refused, and where the fault is that.
+/// Returns why there is no report on a file, in a format; in JSON with the name of the file, if it is given. Fails if
+/// the fault is itself `NoMemory`.
 pub fn print_refused(
     alloc: Global,
     format: Format,
@@ -58,7 +58,7 @@ pub fn print_refused(
     }
 }
 
-/// How a subcommand ends that wrote a report.
+/// Returns how a subcommand that wrote a report ends.
 pub fn ending_of(requirement: Option<Requirement>, report: &Report) -> Ending
     ensures { result ≡ ending_due requirement report.now }
 {
@@ -68,8 +68,8 @@ pub fn ending_of(requirement: Option<Requirement>, report: &Report) -> Ending
     }
 }
 
-/// A line with a file's name that says why its report doesn't meet what is required of it; nothing where it does.
-/// NoMemory where an allocation was refused.
+/// Returns a line with the name of a file that says why its report doesn't meet the requirement, or an empty text if it
+/// does.
 pub fn shortfall_line(
     alloc: Global,
     file: &str,

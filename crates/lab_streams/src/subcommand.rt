@@ -1,4 +1,4 @@
-//! What all subcommands share that read an input: it is read whole, one text is written whole, and a hint comes last.
+//! Subcommands that read an input: the input is read completely, one text is written, and hints come last.
 
 ghost use Rattle.std.specs.Prelude.{◌≡◌, ◌⊎◌, List, ℕ, IfOk, IfErr, IfSome, OnErr};
 ghost use Rattle.std.specs.Io.KnownBytes.{Appends, Keeps};
@@ -12,7 +12,7 @@ use lab_table::NoMemory;
 use std::alloc::Global;
 use std::io::{Read, Write};
 
-/// A subcommand that answers an input with one text.
+/// A subcommand that turns an input into one text.
 pub trait Subcommand: Drop {
     /// What is asked of its type, as that what it is lent may be shared between threads.
     ghost Needs: { Type 0 };
@@ -20,23 +20,21 @@ pub trait Subcommand: Drop {
     /// The text and the ending that are due of an input.
     ghost Says: { Self → List ℕ → List ℕ → Ends → Type 0 };
 
-    /// What there is to say of an input. NoMemory where an allocation was refused.
+    /// Returns the output for an input, and how the run ends.
     fn answer(&mut self, alloc: Global, input: &[u8]) -> Result<Answer, NoMemory>
         requires { Needs }
         ensures { IfOk result (λ answer. Says self.old input.now answer.text.items answer.ending) };
 
-    /// Gives `notes` a hint where the answer calls for one; what fails there is let go.
+    /// Writes a hint to `notes`, if the output calls for one. Ignores failures.
     fn note<N: Write>(&self, alloc: Global, input: &[u8], ending: Ending, notes: &mut N);
 
     /// What is due of as much of an input as is read is due of all of it.
     ghost whole: { (subcommand : Self) (input text : List ℕ) (ending : Ends) → Says subcommand (read_of input) text ending → Says subcommand input text ending };
 }
 
-/// Reads an input, and writes what a subcommand says of it.
-///
-/// The input is read before the first write. `Unread` where it can't be read, `NoMemory` where an allocation was
-/// refused, and then nothing is written; `Unwritten` where a write fails. Behind the answer `notes` is given a hint
-/// where there is one; what fails there is let go.
+/// Reads an input, and writes the output of a subcommand for it. The input is read before the first write. Fails with
+/// `Unread` if it can't be read, and with `NoMemory`, before anything is written; fails with `Unwritten` if a write
+/// fails. After the output, a hint may be written to `notes`, without regard to failures.
 pub fn answer_input<S: Subcommand, R: Read, W: Write, N: Write>(
     alloc: Global,
     mut subcommand: S,

@@ -1,4 +1,4 @@
-//! Subcommands that tell something of the history of a file.
+//! Subcommands that read one history file and print something about it.
 
 ghost use Rattle.std.specs.Prelude.{◌≡◌, ◌⊎◌, ⊤, List, ℕ, IfOk, IfErr, IfSome, OnErr};
 ghost use Rattle.std.specs.Io.KnownBytes.{Appends, Keeps};
@@ -19,16 +19,16 @@ use lab_table::NoMemory;
 use std::alloc::{AllocError, Global};
 use std::io::{Read, Write};
 
-/// What tells something of a history.
+/// A subcommand that prints something about a history.
 pub trait Teller: Drop {
     /// The text and the ending that are due of a history.
     ghost Tells: { Self → Held → List ℕ → Ends → Type 0 };
 
-    /// What there is to tell of a history. NoMemory where an allocation was refused.
+    /// Returns the output for a history, and how the run ends.
     fn tell(&mut self, alloc: Global, history: &History) -> Result<Answer, NoMemory>
         ensures { IfOk result (λ answer. Tells self.old history.now answer.text.items answer.ending) };
 
-    /// Gives `notes` a hint where what was told calls for one; what fails there is let go.
+    /// Writes a hint to `notes`, if the output calls for one. Ignores failures.
     fn note<N: Write>(&self, notes: &mut N);
 }
 
@@ -68,10 +68,9 @@ impl<T: Teller> Subcommand for OfFile<T> {
     ghost whole = { λ s. told_whole s.format (T.Tells s.teller) };
 }
 
-/// Reads a history file, and writes what there is to tell of its history; or the file's first fault in this format. A file
-/// of more than 8,388,608 bytes is refused, whatever it holds.
-///
-/// It reads, writes and ends as [`answer_input`] does; `notes` is given a hint where the file is refused, too.
+/// Reads a history file, and writes the output for its history, or the first fault of the file in this format. A file
+/// of more than 8,388,608 bytes is refused, whatever its content. Reads, writes and ends as `answer_input` does. A
+/// refused file may also get a hint.
 pub fn tell_history<T: Teller, R: Read, W: Write, N: Write>(
     alloc: Global,
     teller: T,

@@ -1,4 +1,4 @@
-//! Values that are kept sorted by their rows.
+//! A map from rows to values, kept sorted by row.
 
 ghost use Rattle.std.specs.Prelude.{◌≡◌, T, ◌≤◌, true, length, option_map, IfOk, OnErr};
 ghost use Rattle.std.specs.Option.{option_copied};
@@ -16,7 +16,7 @@ use std::alloc::Global;
 use std::marker::Model;
 use std::mem;
 
-/// A finite map from rows to values. It is kept sorted, so a row is found by halving.
+/// A finite map from rows to values. Entries are sorted by row, and found by binary search.
 #[derive(Debug, Drop)]
 pub struct ByRow<V: Copy> {
     entries: Vec<(RowName, V)>,
@@ -37,7 +37,7 @@ impl<V: Copy> Model for ByRow<V> {
 }
 
 impl<V: Copy> ByRow<V> {
-    /// Values of no row; it takes no memory.
+    /// Returns an empty map. Allocates nothing.
     pub fn new(alloc: Global) -> ByRow<V>
         ensures { result ≡ map.empty }
     {
@@ -46,7 +46,7 @@ impl<V: Copy> ByRow<V> {
         }
     }
 
-    /// The values of these rows, which rise strictly; it takes no memory.
+    /// Returns the map with these entries, whose rows must ascend strictly. Allocates nothing.
     pub fn from_rising(entries: Vec<(RowName, V)>) -> ByRow<V>
         requires { T (map.is_sorted row_cmp entries.items) }
         ensures { result ≡ map.from_sorted entries.items }
@@ -54,22 +54,21 @@ impl<V: Copy> ByRow<V> {
         ByRow { entries }
     }
 
-    /// The value of a row, or None where the row has none.
+    /// Returns the value of `row`, or `None` if it has none.
     pub fn get(&self, row: RowName) -> Option<V>
         ensures { result ≡ map.get self.now row }
     {
         value_of(&self.entries, row).copied()
     }
 
-    /// The rows with their values, by rising row.
+    /// Returns the entries, in ascending order of rows.
     pub fn entries(&self) -> &[(RowName, V)]
         ensures { result.now ≡ map.entries self.now }
     {
         &self.entries
     }
 
-    /// Gives a row this value, in the place of the one that it has, if any.
-    /// The one refusal is want of memory, and leaves all as it was.
+    /// Sets the value of `row`, and replaces an old one. On failure, nothing has changed.
     pub fn put(&mut self, row: RowName, value: V) -> Result<(), NoMemory>
         ensures ok { IfOk result (λ _. self.new ≡ map.insert self.old row value) }
         ensures err { OnErr result (self.new ≡ self.old) }
@@ -78,7 +77,7 @@ impl<V: Copy> ByRow<V> {
         Ok(())
     }
 
-    /// Takes all entries out, by rising row, and leaves none.
+    /// Removes all entries and returns them, in ascending order of rows.
     pub fn take(&mut self, alloc: Global) -> Vec<(RowName, V)>
         ensures entries { result.items ≡ map.entries self.old }
         ensures left { self.new ≡ map.empty }
@@ -86,7 +85,7 @@ impl<V: Copy> ByRow<V> {
         mem::replace(&mut self.entries, Vec::new(alloc))
     }
 
-    /// A copy. Its one refusal is want of memory, and changes nothing.
+    /// Returns a copy of the map.
     pub fn copy(&self, alloc: Global) -> Result<ByRow<V>, NoMemory>
         ensures { IfOk result (λ copy. copy ≡ self.now) }
     {
@@ -96,7 +95,7 @@ impl<V: Copy> ByRow<V> {
     }
 }
 
-/// The value of a row in a list whose rows rise strictly.
+/// Returns the value of `row` in a list sorted by row, or `None` if it has none.
 pub fn value_of<V>(entries: &[(RowName, V)], row: RowName) -> Option<&V>
     requires { T (map.is_sorted row_cmp entries.now) }
     ensures { option_copied result ≡ map.find row_cmp row entries.now }
@@ -105,8 +104,8 @@ pub fn value_of<V>(entries: &[(RowName, V)], row: RowName) -> Option<&V>
     if row == entry.0 { Some(&entry.1) } else { None }
 }
 
-/// The entry of the row of this number and table in a list whose rows rise strictly. No row has a number that isn't from
-/// 1 to 999,999.
+/// Returns the entry of row `number` of `table` in a list sorted by row, or `None` if there is none. Row numbers range
+/// from 1 to 999,999; any other number has no entry.
 pub fn entry_numbered<V>(
     entries: &[(RowName, V)],
     table: TableName,
@@ -130,7 +129,7 @@ fn is_numbered(row: RowName, table: TableName, number: u32) -> bool
     number == row.id.number() && table == row.table
 }
 
-/// Whether the row of this number and table comes after a row. No row has a number that isn't from 1 to 999,999.
+/// Returns whether row `number` of `table` comes after `row`. Row numbers range from 1 to 999,999.
 #[inline(always)]
 pub fn is_behind(table: TableName, number: u32, row: RowName) -> bool
     ensures { result ≡ is_gt (row_cmp (numbered table number) row) }
@@ -142,7 +141,7 @@ pub fn is_behind(table: TableName, number: u32, row: RowName) -> bool
     }
 }
 
-/// How many entries stand before a row, of a list whose rows rise strictly.
+/// Returns how many entries of a list sorted by row come before `row`.
 pub fn place_of<V>(entries: &[(RowName, V)], row: RowName) -> usize
     requires { T (map.is_sorted row_cmp entries.now) }
     ensures value { result ≡ prefix_len (comes_after row) entries.now }

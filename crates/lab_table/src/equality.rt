@@ -1,4 +1,4 @@
-//! Whether two commands are the same.
+//! Equality of commands.
 
 ghost use Rattle.std.specs.Prelude.{◌≡◌, ◌↔◌, IsTrue};
 
@@ -9,7 +9,7 @@ use crate::statement::{Command, Expr, Statement, StatementKind};
 impl Command {
     ghost use Rattle.std.specs.Prelude.{◌≡◌, ◌↔◌, IsTrue};
 
-    /// Whether the other command is the same.
+    /// Returns whether both commands are equal.
     pub fn equals(&self, other: &Command) -> bool
         ensures { IsTrue result ↔ (self.now ≡ other.now) }
     {

@@ -1,4 +1,4 @@
-//! The rows that a statement may match, where it names them by their numbers.
+//! The rows that a statement names by their numbers.
 
 ghost use Rattle.std.specs.Prelude.{◌≡◌, ◌≢◌, ℕ, pos, true, None, IfSome};
 ghost use Rattle.lab_table.specs.Row.{Row};
@@ -18,8 +18,8 @@ impl Statement {
     ghost use Rattle.lab_table.specs.Statement.{may_match};
     ghost use Rattle.lab_table.specs.NamedRow.{StatementNames, StatementNamesIds, has_number};
 
-    /// A row such that no other may match the statement, where the statement names one: the row of an insert, or that
-    /// of `id = 3`, also as a part of an `and`.
+    /// Returns the only row that can match the statement, if the statement names one: the row of an insert, or that of
+    /// `id = 3`, which may be one side of an `and`.
     pub fn named_row(&self) -> Option<RowName>
         ensures named { (row : Row) → StatementNames self.now row → result ≢ None }
         ensures only { IfSome result (λ row. (other : Row) → may_match self.now other ≡ true → other ≡ row) }
@@ -32,8 +32,8 @@ impl Statement {
         }
     }
 
-    /// Numbers such that no row of another number may match the statement, where the statement lists them: those of
-    /// `id in (3, 5)`, also as a part of an `and`.
+    /// Returns the only row numbers that can match the statement, if the statement lists them: the numbers of
+    /// `id in (3, 5)`, which may be one side of an `and`.
     pub fn named_ids(&self) -> Option<&[Value]>
         ensures named { StatementNamesIds self.now → result ≢ None }
         ensures only { IfSome result (λ numbers. (row : Row) → may_match self.now row ≡ true → has_number numbers.now row ≡ true) }

@@ -1,4 +1,4 @@
-//! What a statement does to one row.
+//! The effect of a statement on one row.
 
 ghost use Rattle.std.specs.Prelude.{◌≡◌, cond, Some, None};
 ghost use Rattle.lab_table.specs.Statement.{picks, may_pick, where_holds, where_may_hold};
@@ -21,8 +21,8 @@ impl Statement {
         row == self.row(id)
     }
 
-    /// Whether a row in this state, None where it is absent, matches the statement. An absent row matches none, and an
-    /// insert matches the row that it adds.
+    /// Returns whether a row in this state matches the statement; `None` is an absent row, which matches no statement.
+    /// An insert matches the row that it adds, if that is present.
     #[inline(always)]
     pub fn matches(&self, row: RowName, state: Option<Value>) -> bool
         ensures { result ≡ matches self.now row state }
@@ -38,7 +38,8 @@ impl Statement {
         }
     }
 
-    /// Whether the row may match the statement in some state: false only where the row's own number rules that out.
+    /// Returns whether the row can match the statement in some state. `false` means that the row's number alone
+    /// excludes it.
     pub fn may_match(&self, row: RowName) -> bool
         ensures { result ≡ may_match self.now row }
     {
@@ -50,7 +51,7 @@ impl Statement {
         }
     }
 
-    /// What the statement lists of a row in this state: its value, if any.
+    /// Returns what the statement lists of a row in this state: its value, or `None` if the row isn't listed.
     #[inline(always)]
     pub fn listed(&self, row: RowName, state: Option<Value>) -> Option<Value>
         ensures { result ≡ listed self.now row state }
@@ -64,8 +65,8 @@ impl Statement {
         }
     }
 
-    /// What the statement leaves of a row that it lists with this value: Some(None) where it removes the row. It is None
-    /// where it writes no row that it lists, or the result is out of range.
+    /// Returns what the statement leaves of a listed row with this value: `Some(None)` if it removes the row. `None`
+    /// means that the statement doesn't write the rows that it lists, or that the result is out of range.
     pub fn rewritten(&self, value: Value) -> Option<Option<Value>>
         ensures { result ≡ rewritten self.now value }
     {
@@ -79,7 +80,7 @@ impl Statement {
         }
     }
 
-    /// Whether the statement would write a row that it sees in this state, also where it would be refused.
+    /// Returns whether the statement would write a row that it sees in this state, even if it would fail.
     pub fn would_write(&self, row: RowName, state: Option<Value>) -> bool
         ensures { result ≡ would_write self.now row state }
     {
@@ -91,8 +92,8 @@ impl Statement {
         }
     }
 
-    /// The state that the statement would leave of a row that it sees in this state, None where that is absent.
-    /// It is None too where the statement doesn't write the row, or the result is out of range.
+    /// Returns the state that the statement would leave of a row that it sees in this state; `None` is an absent row.
+    /// The result is also `None` if the statement doesn't write the row, or if the new value is out of range.
     pub fn new_state(&self, row: RowName, state: Option<Value>) -> Option<Value>
         ensures { result ≡ new_state self.now row state }
     {
@@ -119,7 +120,7 @@ impl Statement {
         }
     }
 
-    /// Whether a row in this state keeps the statement from running: the result of an update is out of range, or the
+    /// Returns whether a row in this state makes the statement fail: the new value of an update is out of range, or the
     /// row that an insert adds is present.
     pub fn fails_at(&self, row: RowName, state: Option<Value>) -> bool
         ensures { result ≡ fails self.now row state }

@@ -9,7 +9,7 @@ use std::marker::Model;
 /// A value for each session.
 #[derive(Drop)]
 pub struct PerSession<V: Copy> {
-    /// By rising session.
+    /// In ascending order of sessions.
     values: [V; 9],
 }
 
@@ -27,7 +27,7 @@ impl<V: Copy> Model for PerSession<V> {
 }
 
 impl<V: Copy> PerSession<V> {
-    /// The same value for each session.
+    /// Returns the same value for each session.
     pub fn all(value: V) -> PerSession<V>
         ensures values { result ≡ replicate 9 value }
         ensures each { (session : ℕ) → 1 ≤ session → session ≤ 9 → of_session result session ≡ Some value }
@@ -35,7 +35,7 @@ impl<V: Copy> PerSession<V> {
         PerSession { values: [value; 9] }
     }
 
-    /// The value of a session.
+    /// Returns the value of `session`.
     pub fn get(&self, session: Session) -> V
         ensures value { of_session self.now session ≡ Some result }
         ensures low { 1 ≤ session }
@@ -44,7 +44,7 @@ impl<V: Copy> PerSession<V> {
         self.values[session.place()]
     }
 
-    /// Gives a session this value in the place of the one that it has.
+    /// Replaces the value of `session`.
     pub fn set(&mut self, session: Session, value: V)
         ensures values { self.new ≡ slice_set self.old (session - 1) value }
         ensures each { (other : ℕ) → of_session self.new other ≡ cond (other == session) (Some value) (of_session self.old other) }
@@ -54,7 +54,7 @@ impl<V: Copy> PerSession<V> {
         self.values[session.place()] = value;
     }
 
-    /// The same values once more.
+    /// Returns a copy.
     pub fn copy(&self) -> PerSession<V>
         ensures { result ≡ self.now }
     {

@@ -12,8 +12,7 @@ use std::cmp::Ordering;
 use std::hash::{Hash, Hasher};
 use std::marker::Model;
 
-/// The name of a row: its table's, and its number in that table.
-/// Rows are ordered by table, and in a table by number.
+/// The name of a row: the name of its table, and its number there. Rows are ordered by table, then by number.
 #[derive(Clone, Copy, Debug)]
 pub struct RowName {
     pub table: TableName,
@@ -35,7 +34,7 @@ impl Model for RowName {
 impl RowName {
     ghost use Rattle.lab_table.specs.Row.{in_test};
 
-    /// The row of this number in the table `test`.
+    /// Returns row `id` of the table `test`.
     pub fn in_test(id: RowId) -> RowName
         ensures { result ≡ in_test id }
     {
@@ -45,7 +44,7 @@ impl RowName {
         }
     }
 
-    /// The same name.
+    /// Returns a copy of the name.
     pub fn copy(&self) -> RowName
         ensures { result ≡ self.now }
     {

@@ -1,4 +1,4 @@
-//! Values in an order.
+//! Values in order.
 
 ghost use Rattle.std.specs.Prelude.{◌≡◌, ◌∷◌, ◌++◌, [], IfOk, OnOk, OnErr};
 
@@ -6,7 +6,7 @@ use crate::memory::NoMemory;
 use std::alloc::Global;
 use std::marker::Model;
 
-/// Values in an order; contracts see their list.
+/// A list of values. In contracts it is the list.
 #[derive(Debug, Drop)]
 pub struct Sequence<T: Drop> {
     items: Vec<T>,
@@ -24,21 +24,21 @@ impl<T: Drop> Model for Sequence<T> {
 }
 
 impl<T: Drop> Sequence<T> {
-    /// These values; it takes no memory of its own.
+    /// Returns the sequence of these values. Allocates nothing.
     pub fn new(items: Vec<T>) -> Sequence<T>
         ensures { result ≡ items.items }
     {
         Sequence { items }
     }
 
-    /// The values, in order.
+    /// Returns the values, in order.
     pub fn as_slice(&self) -> &[T]
         ensures { result.now ≡ self.now }
     {
         &self.items
     }
 
-    /// Adds a value at the end; NoMemory where an allocation was refused, and then all is as it was.
+    /// Appends a value. On failure, nothing has changed.
     pub fn push(&mut self, item: T) -> Result<(), NoMemory>
         ensures ok { OnOk result (self.new ≡ self.old ++ item ∷ []) }
         ensures err { OnErr result (self.new ≡ self.old) }
@@ -49,7 +49,7 @@ impl<T: Drop> Sequence<T> {
 }
 
 impl<T: Copy> Sequence<T> {
-    /// The same values again. Its one refusal is want of memory, and changes nothing.
+    /// Returns a copy of the sequence.
     pub fn copy(&self, alloc: Global) -> Result<Sequence<T>, NoMemory>
         ensures { IfOk result (λ copy. copy ≡ self.now) }
     {

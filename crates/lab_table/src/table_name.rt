@@ -18,11 +18,11 @@ use std::hash::{Hash, Hasher};
 use std::marker::Model;
 use std::simd::prelude::*;
 
-/// The name of a table: 1 to 16 ASCII letters and `_`, in lower case, that aren't a word of scripts.
-/// Names are ordered by their bytes.
+/// The name of a table: 1 to 16 ASCII letters and `_`, in lower case, but not a reserved word of scripts. Names are
+/// ordered by their bytes.
 #[derive(Clone, Copy, Debug)]
 pub struct TableName {
-    /// The name, and zeros behind it.
+    /// The name, followed by zeros.
     bytes: [u8; 16],
 }
 
@@ -46,8 +46,8 @@ impl Model for TableName {
 }
 
 impl TableName {
-    /// The name that a text spells in either case, or None where it spells none. It takes no memory, so it is never
-    /// refused.
+    /// Returns the table name that `text` spells, in upper or lower case, or `None` if it isn't a table name. Allocates
+    /// nothing, so it never fails.
     pub fn new(_alloc: Global, text: &[u8]) -> Result<Option<TableName>, NoMemory>
         ensures ok { IsOk result }
         ensures some { IfOk result (λ made. is_some made ≡ is_table_name (in_lower_case text.now)) }
@@ -56,7 +56,8 @@ impl TableName {
         Ok(TableName::spelled(text))
     }
 
-    /// What `new` answers, without the refusal that never comes.
+    /// Returns the table name that `text` spells, in upper or lower case, or `None` if it isn't a table name. Like
+    /// `new`, without the `Result`.
     pub fn spelled(text: &[u8]) -> Option<TableName>
         ensures some { is_some result ≡ is_table_name (in_lower_case text.now) }
         ensures value { IfSome result (λ name. name ≡ in_lower_case text.now) }
@@ -76,7 +77,7 @@ impl TableName {
         }
     }
 
-    /// The table that a row without a name is in.
+    /// Returns the name `test`: the table of rows that are written without a table.
     pub fn test() -> TableName
         ensures { result ≡ codes "test" }
     {
@@ -85,7 +86,7 @@ impl TableName {
         }
     }
 
-    /// The name's bytes, which are in lower case.
+    /// Returns the bytes of the name, in lower case.
     pub fn as_bytes(&self) -> &[u8]
         ensures value { result.now ≡ self.now }
         ensures name { is_table_name result.now ≡ true }
@@ -93,7 +94,7 @@ impl TableName {
         &self.bytes[..nonzero_len(&self.bytes)]
     }
 
-    /// The same name.
+    /// Returns a copy of the name.
     pub fn copy(&self) -> TableName
         ensures { result ≡ self.now }
     {

@@ -1,4 +1,4 @@
-//! Sets of names of tables.
+//! Sets of table names.
 
 ghost use Rattle.std.specs.Prelude.{◌≡◌, ◌<◌, [], length, MatchBool};
 ghost use Rattle.lab_table.specs.TableSet.{max_tables, is_among, with_name};
@@ -9,10 +9,10 @@ use std::marker::Model;
 /// The most tables that a script or a history may name.
 pub const MAX_TABLES: usize = 4;
 
-/// Distinct names of tables, in the order in which they came: at most [`MAX_TABLES`], and so in no memory of their own.
+/// Distinct table names, in the order of insertion: at most `MAX_TABLES`, stored inline.
 #[derive(Debug, Drop)]
 pub struct TableSet {
-    /// The names, and anything behind them.
+    /// The names; entries after the first `count` have no meaning.
     names: [TableName; MAX_TABLES],
     /// How many names there are.
     count: usize,
@@ -30,7 +30,7 @@ impl Model for TableSet {
 }
 
 impl TableSet {
-    /// No names.
+    /// Returns the empty set.
     pub fn new() -> TableSet
         ensures { result.names ≡ [] }
     {
@@ -40,14 +40,14 @@ impl TableSet {
         }
     }
 
-    /// Whether a name is one of these.
+    /// Returns whether `name` is in the set.
     pub fn has(&self, name: TableName) -> bool
         ensures { result ≡ is_among self.now.names name }
     {
         self.names[..self.count].iter().any(|other| name == *other)
     }
 
-    /// Adds a name, where it is new; false where there are as many as may be.
+    /// Adds `name` unless the set has it. Returns `false` if the set is full and doesn't have it.
     pub fn add(&mut self, name: TableName) -> bool
         ensures { MatchBool result (self.new.names ≡ with_name self.old.names name) (max_tables < length (with_name self.old.names name)) }
     {

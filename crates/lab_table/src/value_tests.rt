@@ -1,4 +1,4 @@
-//! Whether a statement tests values, or rows' numbers alone.
+//! Whether a statement tests values, or only row numbers.
 
 ghost use Rattle.std.specs.Prelude.{◌≡◌};
 ghost use Rattle.lab_table.specs.ValueTests.{where_tests};
@@ -10,8 +10,8 @@ impl Statement {
     ghost use Rattle.std.specs.Prelude.{◌≡◌, false};
     ghost use Rattle.lab_table.specs.ValueTests.{kind_tests, IsBlind};
 
-    /// Whether the condition, or a part of it, is a test of the column value. Where none is, as in `id in (3, 5)`, without
-    /// a `where` and in an insert, a row that is present matches the statement whatever its value, or doesn't.
+    /// Returns whether any part of the condition tests the column value. If not, as in `id in (3, 5)`, without a
+    /// `where` and in an insert, whether a present row matches the statement doesn't depend on its value.
     pub fn tests_values(&self) -> bool
         ensures exact { result ≡ kind_tests self.now.kind }
         ensures blind { result ≡ false → IsBlind self.now }

@@ -5,7 +5,7 @@ ghost use Rattle.std.specs.Str.{bytes_eq};
 ghost use Rattle.lab_table.specs.TableName.{in_lower_case};
 ghost use Rattle.lab_table.specs.Words.{word_named};
 
-/// A word of scripts that no table is named by.
+/// A reserved word of scripts. It can't be the name of a table.
 #[derive(Clone, Copy, Debug, PartialEq, Eq)]
 pub enum Word {
     Select,
@@ -34,7 +34,7 @@ pub enum Word {
 }
 
 impl Word {
-    /// The word that a text spells in either case, if it spells one.
+    /// Returns the reserved word that `text` spells, in upper or lower case, or `None` if it isn't one.
     pub fn named(text: &[u8]) -> Option<Word>
         ensures { result ≡ word_named (in_lower_case text.now) }
     {

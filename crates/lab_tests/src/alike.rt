@@ -1,4 +1,4 @@
-//! Whether what is given back is what was given, throughout.
+//! Compares a returned value with the given one, part by part.
 
 use lab_history::{Installed, Op, Parts, Txn};
 use lab_statement::print_statement;

@@ -1,4 +1,4 @@
-//! Histories of parts.
+//! Tests of building histories from parts.
 
 use crate::alike::alike_parts;
 use lab_history::{

@@ -1,6 +1,7 @@
-//! Tests of the libraries below the engines: what no contract says, and what the program can't show.
+//! Tests of the libraries below the engines: properties that no contract states and the program can't show.
 //!
-//! Calls that are refused memory, and what stands after them; and calls that no word of the program makes.
+//! They test calls whose allocations fail, the state after such a failure, and calls that no argument of the program
+//! reaches.
 #![tactic(auto)]
 
 #[cfg(test)]

@@ -1,4 +1,4 @@
-//! Values that no text can spell: what is said of them instead of their printed form.
+//! Values that no text can spell, and the faults that printing them returns.
 
 use lab_printing::{PrintFault, check_statement};
 use lab_script::{Line, Lines, Script, print_script, print_transcript, run_serial};

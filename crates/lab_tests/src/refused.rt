@@ -1,5 +1,5 @@
-//! Calls with each of their allocations refused in turn: they answer want of memory, and what they would change is as
-//! it was; or, where they could do without, they answer as ever.
+//! Calls with each of their allocations failing in turn. They return `NoMemory`, and what they would change is
+//! unchanged; or, if they can do without the allocation, they return the usual result.
 
 use crate::alike::alike_operations;
 use lab_history::{FileFault, History, Op};

@@ -1,4 +1,4 @@
-//! Texts of one statement, and the fault that each has; and values built by hand.
+//! Texts of one statement with their faults, and statements built in code.
 
 use lab_statement::{ScriptFault, parse_statement, print_script_fault};
 use lab_table::{NoMemory, RowId, RowName, TableFault, TableName};

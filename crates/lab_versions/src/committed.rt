@@ -1,11 +1,12 @@
-//! The engine in which a statement sees what has committed by now.
+//! The engine at read committed: a statement sees what has committed before it.
 
 ghost use Rattle.lab_engine.specs.declared.event.Level.TheVariants.{Committed};
 
 use lab_engine::{Asker, Conflict, Journal, Level, Rules, SessionSet};
 use lab_table::Statement;
 
-/// A statement is blocked by those that have written a row that it would write; each commit is let through.
+/// The rules of read committed. A statement is blocked by the transactions with uncommitted writes of a row that it
+/// would write. No commit conflicts.
 #[derive(Clone, Copy, Debug, Default, PartialEq, Eq)]
 pub struct CommittedRules {}
 

@@ -1,10 +1,10 @@
-//! The two engines that keep versions of rows: nobody waits for a reader.
+//! The two engines that keep versions of rows. Reads never wait.
 //!
-//! [`SnapshotEngine`] lets each transaction see what had committed at its begin, and of two that wrote a row since
-//! then refuses the second one's commit. [`CommittedEngine`] lets each statement see what has committed by now, and
-//! makes it wait for those that have written a row that it would write.
+//! At [`SnapshotEngine`], a transaction sees what had committed at its begin. Of two transactions that wrote a row
+//! since then, the second commit fails. At [`CommittedEngine`], a statement sees what has committed before it, and
+//! waits for the transactions with uncommitted writes of a row that it would write.
 //!
-//! Each is a `lab_engine::Journal` over its rules: make one of a table by `new`, and hand it commands as any
+//! Each is a `lab_engine::Journal` over its rules: make one with `new` from a table, and pass it commands as to any
 //! `lab_engine::Engine`.
 #![tactic(auto)]
 

@@ -1,11 +1,12 @@
-//! The engine in which a transaction sees what had committed at its begin.
+//! The engine at snapshot isolation: a transaction sees what had committed at its begin.
 
 ghost use Rattle.lab_engine.specs.declared.event.Level.TheVariants.{Snapshot};
 
 use lab_engine::{Asker, Conflict, Journal, Level, Rules, SessionSet};
 use lab_table::Statement;
 
-/// Nobody blocks a statement; a commit conflicts where a row that it wrote was installed by another since its begin.
+/// The rules of snapshot isolation. No statement is blocked. A commit conflicts if another transaction has installed a
+/// row that it wrote, since its begin.
 #[derive(Clone, Copy, Debug, Default, PartialEq, Eq)]
 pub struct SnapshotRules {}
 

@@ -21,8 +21,7 @@ use lab_deps::{Dependencies, Edge, Kinds};
 use lab_order::{Graph, NoMemory, Ordered, Ways, order, path};
 use std::alloc::Global;
 
-/// The cycle of dependencies of allowed kinds, round the cycle of their graph. NoMemory where an allocation was
-/// refused.
+/// The cycle of dependencies of allowed kinds, round the cycle of their graph.
 pub(crate) fn find_circle(
     alloc: Global,
     net: &Dependencies<'_>,
@@ -42,8 +41,7 @@ pub(crate) fn find_circle(
 }
 
 /// The cycle of the first dependency of an opening kind from which a path of allowed kinds leads back, and of that
-/// path. It begins with the least transaction. The ways are those of the graph. NoMemory where an allocation was
-/// refused.
+/// path. It begins with the least transaction. The ways are those of the graph.
 pub(crate) fn find_opened(
     alloc: Global,
     net: &Dependencies<'_>,
@@ -68,8 +66,7 @@ pub(crate) fn find_opened(
     Ok(Finding::Walk(Walk::new(with_least_first(walk))))
 }
 
-/// The least of the shortest paths from one node to another, with the least edges between neighbours. NoMemory where an
-/// allocation was refused.
+/// The least of the shortest paths from one node to another, with the least edges between neighbours.
 fn way_back(
     alloc: Global,
     net: &Dependencies<'_>,
