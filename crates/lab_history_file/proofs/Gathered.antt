@@ -1,7 +1,7 @@
 -- The members of an object, read in any order.
-use Rattle.std.proofs.Common.{◌≡◌, ℕ, suc, ◌<◌, List, [], ◌∷◌, ◌++◌, length, refl, sym, ap, subst, ◌∙◌, arith, append_assoc, append-nil}
+use Rattle.std.proofs.Common.{◌≡◌, ℕ, suc, ◌<◌, List, [], ◌∷◌, ◌++◌, length, refl, sym, ap, subst, arith, append_assoc, append-nil}
 use Rattle.json.specs.Token.{Token}
-use Rattle.serde_json.specs.Data.{Data, object, Members, no_members, put}
+use Rattle.serde_json.specs.Data.{Data, Members, no_members, put}
 use Rattle.lab_history_file.specs.{Gathered.{TakesMember, TakesObject}, Spelled.{Spells, SpellMembers, put_all, PassesMembers}}
 use Rattle.lab_history_file.proofs.TokensSpell.{shorter, one_member_more, no_members_more, object_spelled}
 

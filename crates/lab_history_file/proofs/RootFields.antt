@@ -1,9 +1,9 @@
 -- The fields of the whole hold its members.
-use Rattle.std.{proofs.Common.{◌≡◌, ℕ, ℤ, ◌≤◌, Bool, true, false, List, [], ◌∷◌, length, Option, Some, None, IfSome, Result, Ok, Err, IfOk, option_and_then, codes, refl, sym, ap, subst, ◌∙◌, arith}, specs.{FinMap.{FinMap}, Prelude.{IsUtf8}}}
+use Rattle.std.{proofs.Common.{◌≡◌, ℕ, ℤ, ◌≤◌, Bool, true, false, List, [], ◌∷◌, length, Option, Some, None, IfSome, Result, Ok, Err, IfOk, codes, refl, sym, ap, subst, ◌∙◌, arith}, specs.{FinMap.{FinMap}, Prelude.{IsUtf8}}}
 use Rattle.std.specs.Result.{result_ok}
 use Rattle.json.specs.{Token.{Token}, Lex.{tokens}}
 use Rattle.serde_json.specs.Data.{Data, Members, no_members, string, object, put, unsigned}
-use Rattle.lab_table.specs.Row.{Row, row_cmp}
+use Rattle.lab_table.specs.Row.{row_cmp}
 use Rattle.lab_history.specs.{History.{History}, declared.transaction.Txn.{Txn}}
 use Rattle.lab_history_file.specs.{Behind.{AllStand, Stands}, Fields.{HoldRoot, IsFormat, IsNumberOf, IsMark, AreTransactions}, FileOf.{IsListOf, IsMapOf, IsPair, IsValue, IsInstalled, IsTransaction, HoldsIn}, FileVersion.{version_number}, Format.{parts_in}, Gathered.{TakesMember, TakesObject}, Keys.{root_keys}, Numbers.{IsWhole}, Reads.{PartsIn}, Slots.{slots, IsSlot}, Spelled.{Spelled}}
 use Rattle.lab_history_file.specs.declared.{file_version.FileVersion.{FileVersion}, reading.stream.RootFields.{RootFields}}

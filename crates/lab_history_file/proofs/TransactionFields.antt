@@ -1,7 +1,7 @@
 -- The fields of a transaction hold its members.
-use Rattle.std.proofs.Common.{◌≡◌, ℕ, List, [], ◌∷◌, Option, Some, None, codes, refl, sym, ap, subst, ◌∙◌, arith}
+use Rattle.std.proofs.Common.{◌≡◌, ℕ, List, [], ◌∷◌, Some, None, codes, refl, sym, ap, subst, ◌∙◌, arith}
 use Rattle.json.specs.Token.{Token}
-use Rattle.serde_json.specs.Data.{Data, Members, no_members, string, object, put}
+use Rattle.serde_json.specs.Data.{Members, no_members, string, object, put}
 use Rattle.lab_history.specs.declared.{operation.Op.{Op}, transaction.{Outcome.{Outcome}, Txn.{Txn}}}
 use Rattle.lab_history_file.specs.{Fields.{HoldTxn, IsTxnNo, IsOutcome}, FileOf.{IsListOf, IsOperation, IsTransaction, outcome_text}, Gathered.{TakesMember, TakesObject}, Keys.{txn_keys}, Reads.{WholeTo}, Slots.{slots, IsSlot}, Spelled.{Spelled}}
 use Rattle.lab_history_file.specs.declared.{file_version.FileVersion.{FileVersion}, reading.stream.transaction.TxnFields.{TxnFields}}

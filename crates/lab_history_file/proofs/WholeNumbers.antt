@@ -1,5 +1,5 @@
 -- What digits are read as.
-use Rattle.std.{proofs.{Common.{◌⊎◌, inl, ◌≡◌, ◌≢◌, ℕ, zero, suc, ◌+◌, ◌-◌, ◌*◌, ◌^◌, ◌<◌, ◌≤◌, ◌==◌, Bool, true, false, List, [], ◌∷◌, ◌++◌, length, Option, Some, None, IfSome, option_and_then, pos, negsuc, ◌-ℤ◌, to_z, of_z, w64, if◌then◌else◌, refl, sym, ap, subst, ◌∙◌, arith, lt-ltb, le-leb, ne_eqb, append-nil}, lemmas.{Float.Parse.{scan_numeral-text_of}, Int.{ints, to_z_pos}}}, specs.{Char.{digit_value, is_ascii_digit}, Float.Numeral.{Parts, scan_numeral, IsWellFormed}, Str.Parse.{AllDigits, digits_value, digits_value_after}}}
+use Rattle.std.{proofs.{Common.{◌≡◌, ◌≢◌, ℕ, zero, suc, ◌+◌, ◌-◌, ◌*◌, ◌^◌, ◌<◌, ◌≤◌, ◌==◌, Bool, true, false, List, [], ◌∷◌, ◌++◌, length, Option, Some, None, IfSome, option_and_then, pos, negsuc, ◌-ℤ◌, to_z, of_z, w64, if◌then◌else◌, refl, sym, ap, subst, ◌∙◌, arith, lt-ltb, le-leb, append-nil}, lemmas.{Float.Parse.{scan_numeral-text_of}, Int.{ints, to_z_pos}}}, specs.{Char.{digit_value, is_ascii_digit}, Float.Numeral.{Parts, scan_numeral, IsWellFormed}, Str.Parse.{AllDigits, digits_value, digits_value_after}}}
 use Rattle.serde_json.specs.{Data.{unsigned, negative}, Read.{number_of, number_from}}
 use Rattle.serde_json.specs.Find.{as_i64}
 use Rattle.lab_history_file.specs.Numbers.{digits_on}

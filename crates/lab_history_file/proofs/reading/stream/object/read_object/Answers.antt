@@ -1,4 +1,4 @@
-use Rattle.std.proofs.Common.{◌≡◌, ◌∷◌, rules, arith}
+use Rattle.std.proofs.Common.{◌≡◌, ◌∷◌, rules}
 use Rattle.json.specs.Token.{Token}
 use Rattle.lab_history_file.proofs.Gathered.{gathering_begins, gathering_goes_on, member_shortens, gathering_ends}
 use Rattle.lab_history_file.proofs.reading.stream.object.read_object.Goals as goal
