@@ -101,8 +101,7 @@ fn parts_in_value(alloc: Global, bytes: &[u8]) -> Result<Parts, FileFault>
     }
 }
 
-/// The parts of the history that a file holds. Most files need no value: it is made only where a file is written otherwise
-/// than this product writes it, and says what is wrong with one that isn't of the format.
+/// The parts of the history that a file holds. A value is made only of a file with a fault, to find the first one.
 fn parts_in_file(alloc: Global, bytes: &[u8]) -> Result<Parts, FileFault>
     ensures { ReadsAs parts_in bytes.now result }
 {

@@ -1,6 +1,6 @@
 //! Operations of a history file, read from its tokens.
 
-ghost use Rattle.std.specs.Prelude.{◌≡◌, ◌≤◌, Some, IfOk, IfSome, length, option_and_then};
+ghost use Rattle.std.specs.Prelude.{◌≡◌, Some, IfOk, IfSome, option_and_then};
 ghost use Rattle.lab_history_file.specs.FileOf.{IsListOf, IsOperation};
 ghost use Rattle.lab_history_file.specs.Format.{only_in};
 ghost use Rattle.lab_history_file.specs.Spelled.{Spelled};
