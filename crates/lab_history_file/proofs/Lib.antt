@@ -39,7 +39,10 @@ pub mod Keys
 pub mod TextFaults
 pub mod OneFile
 pub mod TokensSpell
-pub mod NumberBytes
-pub mod MarkBytes
+pub mod Slots
+pub mod Gathered
+pub mod WholeNumbers
 pub mod MembersSpell
-pub mod PartsSpell
+pub mod OperationFields
+pub mod TransactionFields
+pub mod RootFields

@@ -4,7 +4,7 @@ use Rattle.json.specs.Token.{Token}
 use Rattle.serde_json.specs.{Data.{Data, null, number, string, array, unsigned}, Find.{as_i64}, Read.{number_of}, View.{items_of}}
 use Rattle.lab_table.specs.{Row.{Row, in_test, numbered}, TableName.{is_table_name}}
 use Rattle.lab_history.{specs.declared.operation.{State.{TheVariants.{Absent, Present}}, VersionName.{TheVariants.{Of}}}, proofs.Steps.{both_some}}
-use Rattle.lab_history_file.specs.{Bytes.{IsWhole, IsInteger}, Entries.{txn_in_number, value_in, state_in}, FileOf.{IsListOf, IsPair, IsValue, IsVersion, IsInstalled}, Reads.{WholeTo, KeyTaken, IsWritten}, Spelled.{Spells, SpellItems, Spelled}}
+use Rattle.lab_history_file.specs.{Entries.{txn_in_number, value_in, state_in}, FileOf.{IsListOf, IsPair, IsValue, IsVersion, IsInstalled}, Numbers.{IsWhole, IsInteger}, Reads.{WholeTo, KeyTaken, IsWritten}, Spelled.{Spells, SpellItems, Spelled}}
 use Rattle.lab_history_file.specs.declared.file_version.FileVersion.{FileVersion, TheVariants.{One, Two}}
 use Rattle.lab_history_file.proofs.TokensSpell.{number_spelled, string_spelled, null_spelled, deeper, no_items_more, one_item_more, list_spelled}
 

@@ -48,7 +48,7 @@ begins_value depth (Token.null ∷ ts) p e = refl
 begins_value depth (Token.bad ∷ ts) p e = refl
 
 -- a value takes tokens
-shorter : (levels : ℕ) (old new : List Token) (d : Data) → Spells levels old new d → length new < length old
+pub shorter : (levels : ℕ) (old new : List Token) (d : Data) → Spells levels old new d → length new < length old
 shorter levels old new d s = skip_value-shorter levels old new (ap left (s.taken levels (omega arith)))
 
 -- a list ends

@@ -13,7 +13,9 @@ pub mod Tree
 pub mod FileRead
 pub mod HistoryFile
 pub mod Spelled
-pub mod Bytes
-pub mod Place
+pub mod Slots
+pub mod Gathered
+pub mod Fields
+pub mod Numbers
 pub mod Reads
 pub mod Behind

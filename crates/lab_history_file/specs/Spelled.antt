@@ -44,3 +44,7 @@ Passes old new ds = (levels : ℕ) (end : List Token) (more : List Data) → Spe
 -- they are items that stand for these one by one, and then `new`, in which a list goes on
 abbrev pub PassesEach : {X : Type 0} → ℕ → (Data → X → Type 0) → List Token → List Token → List X → Type 0
 PassesEach levels Is old new xs = (ds : List Data) × AreEach Is (items_of ds) xs × ((end : List Token) (more : List Data) → SpellItems levels new end more → SpellItems levels old end (ds ++ more))
+
+-- they are these members and then `new`, in which an object goes on
+abbrev pub PassesMembers : ℕ → List Token → List Token → List (List ℕ × Data) → Type 0
+PassesMembers levels old new ms = (end : List Token) (more : List (List ℕ × Data)) → SpellMembers levels new end more → SpellMembers levels old end (ms ++ more)

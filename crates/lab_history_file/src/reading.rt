@@ -8,13 +8,14 @@ ghost use Rattle.lab_history_file.specs.FileRead.{ReadsAs};
 ghost use Rattle.lab_history_file.specs.Format.{format_in, version_in, parts_in, history_in};
 ghost use Rattle.lab_history_file.specs.HistoryFile.{HoldsHistory, IsFileFault};
 
-mod bytes;
+mod cursor;
 mod earlier;
 mod keys;
 mod lists;
+mod number;
 mod operation;
-mod straight;
-mod tokens;
+mod stop;
+mod stream;
 mod transaction;
 
 use crate::fault::wrong;
@@ -25,7 +26,7 @@ use lab_table::Table;
 use lists::entries_at;
 use serde_json::Value as Json;
 use std::alloc::Global;
-use tokens::Stop;
+use stop::Stop;
 use transaction::txns_of;
 
 /// Whether a value is an object that says it is a history file.
@@ -100,15 +101,14 @@ fn parts_in_value(alloc: Global, bytes: &[u8]) -> Result<Parts, FileFault>
     }
 }
 
-/// The parts of the history that a file holds. Most files need no value: it is made only where a file is written otherwise
-/// than this product writes it, and says what is wrong with one that isn't of the format.
+/// The parts of the history that a file holds. A value is made only of a file with a fault, to find the first one.
 fn parts_in_file(alloc: Global, bytes: &[u8]) -> Result<Parts, FileFault>
     ensures { ReadsAs parts_in bytes.now result }
 {
-    match straight::parts_in(alloc, bytes) {
+    match stream::parts_in(alloc, bytes) {
         Ok(parts) => Ok(parts),
         Err(Stop::NoMemory) => Err(FileFault::NoMemory),
-        Err(Stop::Other) => parts_in_value(alloc, bytes),
+        Err(Stop::Fault) => parts_in_value(alloc, bytes),
     }
 }
 

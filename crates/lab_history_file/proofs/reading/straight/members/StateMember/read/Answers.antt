@@ -1,8 +1,0 @@
-use Rattle.std.proofs.Common.{arith}
-use Rattle.lab_history_file.specs.Reads.{IsWritten}
-use Rattle.lab_history_file.proofs.MembersSpell.{pair_spelled}
-use Rattle.lab_history_file.proofs.reading.straight.members.StateMember.read.Goals as goal
-
-pub returns : goal.returns
-returns c =
-    pair_spelled c.args.version c.in_ok-row.row c.args.tokens.now c.open_list.new.self c.row_of.new.tokens c.in_ok-open_list.ensures c.in_ok-row.ensures IsWritten 0 c.state_of.new.tokens c.close_list.new.self c.in_ok-state.state (omega arith) c.in_ok-state.ensures c.in_ok-close_list.ensures

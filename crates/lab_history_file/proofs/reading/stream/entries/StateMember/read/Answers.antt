@@ -1,0 +1,8 @@
+use Rattle.std.proofs.Common.{arith}
+use Rattle.lab_history_file.specs.Reads.{IsWritten}
+use Rattle.lab_history_file.proofs.MembersSpell.{pair_spelled}
+use Rattle.lab_history_file.proofs.reading.stream.entries.StateMember.read.Goals as goal
+
+pub returns : goal.returns
+returns c =
+    pair_spelled c.args.version c.in_ok-row.row c.args.cursor.now c.open_list.new.self c.row_of.new.cursor c.in_ok-open_list.ensures c.in_ok-row.ensures IsWritten 0 c.state_of.new.cursor c.close_list.new.self c.in_ok-state.state (omega arith) c.in_ok-state.ensures c.in_ok-close_list.ensures
