@@ -57,4 +57,3 @@ pub mod Overlaid
 pub mod OneRecording
 mod LeastTaken
 pub mod TakenRows
-pub mod KeptCommits

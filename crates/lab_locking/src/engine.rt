@@ -26,10 +26,6 @@ impl Rules for LockRules {
         true
     }
 
-    fn keeps_commits(&self) -> bool {
-        false
-    }
-
     fn blockers(&self, asker: &Asker, statement: &Statement) -> SessionSet {
         match_holders(asker, statement)
             .with(asker.writers_in_way(statement))

@@ -8,21 +8,52 @@ ghost use Rattle.lab_engine.specs.Rules.{HasRead};
 ghost use Rattle.lab_engine.specs.SessionBits.{has};
 ghost use Rattle.lab_locking.specs.Reads as spec;
 
-use lab_engine::{Asker, SessionSet};
+use lab_engine::{Asker, RunningTxn, SessionSet};
 use lab_table::{RowName, Statement, Value};
 
-/// Whether one of some statements matches a row in one of two states.
-fn any_reads(ran: &[Statement], row: RowName, old: Option<Value>, new: Option<Value>) -> bool
-    ensures { result ≡ spec.any_reads row old new ran.now }
+/// Whether a transaction has run a statement that matches a row in one of two states.
+fn has_read_either(
+    holder: &RunningTxn,
+    row: RowName,
+    old: Option<Value>,
+    new: Option<Value>,
+) -> bool
+    ensures { result ≡ spec.has_read_either row old new holder.now }
 {
-    ran.iter().any(|statement| statement.matches(row, old) || statement.matches(row, new))
+    holder.statements.has_read(row, old) || holder.statements.has_read(row, new)
 }
 
-/// The other sessions that have run a statement that matches a row in one of two states.
-fn row_readers(asker: &Asker, row: RowName, old: Option<Value>, new: Option<Value>) -> SessionSet
-    ensures { (n : ℕ) → has result n ≡ spec.is_reader asker.now row old new n }
+/// The sessions of a set, and the other sessions that have run a statement that matches a row in one of two states. A
+/// session of the set isn't asked.
+fn with_row_readers(
+    asker: &Asker,
+    known: SessionSet,
+    row: RowName,
+    old: Option<Value>,
+    new: Option<Value>,
+) -> SessionSet
+    ensures { (n : ℕ) → has result n ≡ (has known n || spec.is_reader asker.now row old new n) }
 {
-    asker.others_that(|_, holder| any_reads(&holder.statements, row, old, new))
+    known.with(asker.others_that(|other, holder| !known.has(other)
+        && has_read_either(holder, row, old, new)))
+}
+
+/// The sessions of a set, and the other sessions that have read a row in this state, where the statement would write it,
+/// or as the row would then be.
+fn with_readers_of(
+    asker: &Asker,
+    known: SessionSet,
+    statement: &Statement,
+    row: RowName,
+    state: Option<Value>,
+) -> SessionSet
+    ensures { (n : ℕ) → has result n ≡ (has known n || spec.reads_seen asker.now statement.now n row state) }
+{
+    if !statement.would_write(row, state) {
+        return known;
+    }
+    let new = statement.new_state(row, state);
+    with_row_readers(asker, known, row, state, new)
 }
 
 /// The other sessions that have read a row, where the statement would write it: as it is seen, or as it would then be.
@@ -30,25 +61,23 @@ fn readers_of(asker: &Asker, statement: &Statement, row: RowName) -> SessionSet
     ensures { (n : ℕ) → has result n ≡ spec.reads_row asker.now statement.now n row }
 {
     let seen = asker.row_seen(row);
-    if statement.would_write(row, seen.state) {
-        let new = statement.new_state(row, seen.state);
-        row_readers(asker, row, seen.state, new)
-    } else {
-        SessionSet::none()
-    }
+    with_readers_of(asker, SessionSet::none(), statement, row, seen.state)
 }
 
-/// The same of all rows that are there: those of the setup, and those that transactions have written.
+/// The same of all rows that are there: those of the setup that no transaction has written, and those that one has.
 fn all_readers(asker: &Asker, statement: &Statement) -> SessionSet
-    ensures { (n : ℕ) → has result n ≡ (spec.reads_of_setup asker.now statement.now n || spec.reads_of_written asker.now statement.now n) }
+    ensures { (n : ℕ) → has result n ≡ (spec.reads_of_untouched asker.now statement.now n || spec.reads_of_written asker.now statement.now n) }
 {
     let mut readers = SessionSet::none();
     let entries = asker.setup.rows();
     for entry in entries {
-        readers = readers.with(readers_of(asker, statement, entry.0));
+        if asker.situation.rows.get(entry.0).is_none() {
+            readers = with_readers_of(asker, readers, statement, entry.0, Some(entry.1));
+        }
     }
     for (row, _) in asker.situation.rows.by_row() {
-        readers = readers.with(readers_of(asker, statement, *row));
+        let seen = asker.row_seen(*row);
+        readers = with_readers_of(asker, readers, statement, *row, seen.state);
     }
     readers
 }

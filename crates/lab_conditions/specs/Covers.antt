@@ -1,0 +1,6 @@
+-- STUB.
+use Rattle.std.specs.Prelude.{◌≡◌, ℕ, List}
+use Rattle.lab_table.specs.declared.statement.Statement.{Statement}
+
+abbrev pub Covers : ℕ → List Statement → Type 0
+Covers index statements = index ≡ 0
