@@ -62,4 +62,5 @@ pub use session_set::SessionSet;
 pub use session_state::{RunningTxn, SessionState};
 pub use situation::Situation;
 pub use statements_run::StatementsRun;
+pub use taken::is_before;
 pub use version::{Version, value_of};

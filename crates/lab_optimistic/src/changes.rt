@@ -32,16 +32,16 @@ fn first_back(asker: &Asker, row: RowName, installed: &[Installed]) -> Option<Tx
 {
     let mut first = None;
     let mut left = installed;
-    let mut then = has_read_last(asker, row, left);
+    let mut after_it = has_read_last(asker, row, left);
     while let Some((last, rest)) = left.split_last() {
         if last.place < asker.running.before {
             return first;
         }
         let before = has_read_last(asker, row, rest);
-        if before || then {
+        if before || after_it {
             first = Some(last.by);
         }
-        then = before;
+        after_it = before;
         left = rest;
     }
     first

@@ -11,8 +11,9 @@ ghost use Rattle.lab_optimistic.specs.Reads as spec;
 ghost use Rattle.lab_optimistic.specs.Reads.{IsFirstRead, IsLeastRead};
 
 use crate::changes::first_change;
-use lab_engine::{Asker, Conflict, ConflictKind};
+use lab_engine::{Asker, Conflict, ConflictKind, RowState, is_before};
 use lab_table::{RowName, TxnNo};
+use std::collections::BTreeMap;
 
 /// The transaction that was the first since the begin of the asker's to change a row that the asker's has read.
 fn change_at(asker: &Asker, row: RowName) -> Option<TxnNo>
@@ -29,10 +30,8 @@ fn change_at(asker: &Asker, row: RowName) -> Option<TxnNo>
 fn nearer(asker: &Asker, row: RowName, found: Option<Conflict>) -> Option<Conflict>
     ensures { result ≡ spec.nearer asker.now row found }
 {
-    if let Some(conflict) = found {
-        if row >= conflict.row {
-            return found;
-        }
+    if !is_before(row, &found) {
+        return found;
     }
     match change_at(asker, row) {
         Some(by) => Some(Conflict {
@@ -44,12 +43,13 @@ fn nearer(asker: &Asker, row: RowName, found: Option<Conflict>) -> Option<Confli
     }
 }
 
-/// The conflict at the least row that the asker's transaction has read and that another has changed since its begin. Each
-/// row that a transaction has written is looked at, by rising row.
-fn least_written(asker: &Asker) -> Option<Conflict>
-    ensures { IsLeastRead asker.now result }
+/// The conflict at the first of some rows that the asker's transaction has read and that another has changed since its
+/// begin.
+fn first_of(asker: &Asker, rows: &BTreeMap<RowName, RowState>) -> Option<Conflict>
+    ensures ordered { IsOrdered row_cmp rows.now }
+    ensures first { result ≡ spec.first_in asker.now rows.now.entries }
 {
-    for (row, kept) in asker.situation.rows.by_row() {
+    for (row, kept) in rows {
         if let Some(by) = first_change(asker, *row, kept.installed()) {
             return Some(Conflict {
                 kind: ConflictKind::Read,
@@ -59,6 +59,14 @@ fn least_written(asker: &Asker) -> Option<Conflict>
         }
     }
     None
+}
+
+/// The conflict at the least row that the asker's transaction has read and that another has changed since its begin. Each
+/// row that a transaction has written is looked at.
+fn least_written(asker: &Asker) -> Option<Conflict>
+    ensures { IsLeastRead asker.now result }
+{
+    first_of(asker, asker.situation.rows.by_row())
 }
 
 /// The conflict at the least row that the asker's transaction has read and that another has changed since its begin. Where
