@@ -29,7 +29,7 @@ use std::marker::Model;
 
 /// An engine of some rules. Beside its setup and its log it keeps where the log leaves sessions and rows, and who waits
 /// for whom, so no call looks through the log. A call decides on its event, makes room for it, and then appends it, which
-/// takes no memory. The log keeps a place for the end of each active transaction. Whom a session waits for is asked anew
+/// can't fail. The log keeps a place for the end of each active transaction. Whom a session waits for is asked anew
 /// only after an event that may have changed it.
 #[derive(Drop)]
 pub struct Journal<R: Rules> {

@@ -12,7 +12,7 @@
 //! leaves sessions and rows, and calls ask that: of each session its active transaction, the statement that it waits
 //! with and those that block this, so who waits for whom; and of each row the versions that commits installed and those
 //! that transactions have pending. A call decides on its event, then makes room for it, and then goes on by it, which
-//! takes no memory. The rules of each level, and the engines as journals over them, are in `lab_locking`, `lab_versions`
+//! can't fail. The rules of each level, and the engines as journals over them, are in `lab_locking`, `lab_versions`
 //! and `lab_optimistic`.
 #![tactic(auto)]
 

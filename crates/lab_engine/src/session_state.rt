@@ -1,6 +1,6 @@
 //! What is kept of a session.
 
-ghost use Rattle.std.specs.Prelude.{◌≡◌, ◌==◌, ◌<◌, ◌≤◌, ◌+◌, ◌++◌, ℕ, [], None, Some, Option, true, cond, is_some, length, OnOk};
+ghost use Rattle.std.specs.Prelude.{◌≡◌, ◌==◌, ◌<◌, ◌≤◌, ◌+◌, ◌++◌, ◌∷◌, ℕ, [], None, Some, Option, true, cond, is_some, length, OnOk};
 ghost use Rattle.std.specs.Option.{option_or, option_to_list};
 ghost use Rattle.std.specs.Vec.{vec_capacity};
 ghost use Rattle.std.specs.FinMap as map;
@@ -79,7 +79,7 @@ impl SessionState {
     }
 
     /// Goes on by one event of the session, with so many events before it, and so do the rows. What is kept of its
-    /// statement is taken. It takes no memory.
+    /// statement is taken. It can't fail: only the index of the statements may take memory.
     pub(crate) fn take_in(
         &mut self,
         alloc: Global,

@@ -140,7 +140,7 @@ impl Situation {
     }
 
     /// Goes on by one event, for which there is room, and of whose statement this is kept, but for who waits for whom.
-    /// It takes no memory.
+    /// It can't fail: only the index of the statements may take memory.
     pub(crate) fn take_in(
         &mut self,
         alloc: Global,
