@@ -1,1 +1,1 @@
-pub mod Covers
+pub mod Index

@@ -4,7 +4,7 @@ ghost use Rattle.std.specs.Prelude.{◌≡◌, ◌++◌, ◌∷◌, List, []};
 ghost use Rattle.std.specs.List.{list_any};
 ghost use Rattle.lab_table.specs.Statement.{matches};
 ghost use Rattle.lab_table.specs.declared.statement.Statement.{Statement as Asked};
-ghost use Rattle.lab_conditions.specs.Covers.{Covers};
+ghost use Rattle.lab_conditions.specs.Index.{Covers};
 
 use lab_table::{RowName, Statement, Value};
 use std::alloc::Global;

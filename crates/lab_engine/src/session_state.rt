@@ -194,11 +194,7 @@ fn reserve_one(statements: &mut StatementsRun, keeps: bool) -> Result<(), NoMemo
     ensures items { statements.new.items ≡ statements.old.items }
     ensures place { OnOk result (keeps ≡ true → length statements.new.items + 1 ≤ statements.new.places) }
 {
-    if keeps {
-        statements.reserve()
-    } else {
-        Ok(())
-    }
+    if keeps { statements.reserve() } else { Ok(()) }
 }
 
 /// Puts a statement, if there is one, behind others.

@@ -88,7 +88,6 @@ impl Situation {
     }
 
     /// Whether a statement of a session waits.
-    #[tactic(auto, using(crate::proofs::Describing::some_made))]
     pub fn is_waiting(&self, session: Session) -> bool
         ensures { (level : Kind) (past : Past) → Describes level past self.now → result ≡ is_some (waiting past session) }
     {
@@ -141,12 +140,7 @@ impl Situation {
 
     /// Goes on by one event, for which there is room, and of whose statement this is kept, but for who waits for whom.
     /// It can't fail: only the index of the statements may take memory.
-    pub(crate) fn take_in(
-        &mut self,
-        alloc: Global,
-        event: &LogEvent,
-        kept: &mut Option<Statement>,
-    )
+    pub(crate) fn take_in(&mut self, alloc: Global, event: &LogEvent, kept: &mut Option<Statement>)
         requires few { (level : Kind) × (past : Past) × Describes level past self.old × (length past < max_events) }
         requires room { HoldsOutcome (is_some kept.old) event.now.outcome (running_of self.old.sessions event.now.session) self.old.rows }
         ensures waits { self.new.waits ≡ self.old.waits }
