@@ -7,7 +7,7 @@ pub loop-statement-preserved : goal.loop-statement-preserved
 loop-statement-preserved c =
     let asker = c.args.asker.now in
     let i = c.loop-statement.statement-index in
-    let all = c.statements.result.now in
+    let all = c.statements-statement-items.result.now in
     let s = c.statement-item.result in
     subst (IsLeastOf asker (any_may_match (take (i + 1) all))) (sym c.nearer-least.ensures)
     (least_fewer asker (λ row. any_may_match (take i all) row || may_match s row) (any_may_match (take (i + 1) all)) _
@@ -18,4 +18,4 @@ pub returns : goal.returns
 returns c =
     named_all c.args.asker.now c.loop-statement.least
     (subst (λ ss. IsLeastOf c.args.asker.now (any_may_match ss) c.loop-statement.least)
-    (take_all c.loop-statement.statement-index c.statements.result.now (omega (arith, c.loop-statement-test.false)) ∙ c.statements.ensures) c.loop-statement.invariant)
+    (take_all c.loop-statement.statement-index c.statements-statement-items.result.now (omega (arith, c.loop-statement-test.false)) ∙ c.statements-statement-items.ensures) c.loop-statement.invariant)

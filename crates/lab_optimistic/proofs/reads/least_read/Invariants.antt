@@ -4,4 +4,4 @@ use Rattle.lab_optimistic.proofs.reads.least_read.Given as goal
 
 -- the conflict at the least of the rows that the statements so far may match
 abbrev pub invariant-loop-statement : goal.invariant-loop-statement
-invariant-loop-statement l = IsLeastOf l.asker (any_may_match (take l.statement-index l.statements)) l.least
+invariant-loop-statement l = IsLeastOf l.asker (any_may_match (take l.statement-index l.statement-items)) l.least
