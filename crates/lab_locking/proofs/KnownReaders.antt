@@ -1,7 +1,7 @@
 -- Sessions that needn't be asked, since they are in a set already.
 use Rattle.std.proofs.Common.{◌≡◌, ◌∙◌, ℕ, refl, sym, ap, Bool, true, false, not, ◌==◌, ◌||◌, ◌&&◌, List, [], ◌∷◌, eqb-true}
-use Rattle.lab_engine.proofs.Common.{has, RunningTxn, SessionState, Option, Some, None}
-use Rattle.lab_engine.specs.Chosen.{has_passing, is_chosen, is_passing_other}
+use Rattle.lab_engine.proofs.Common.{has, Option, Some, None}
+use Rattle.lab_engine.specs.{Chosen.{has_passing, is_chosen, is_passing_other}, declared.session_state.{RunningTxn.{RunningTxn}, SessionState.{SessionState}}}
 
 module _ (test : ℕ → RunningTxn → Bool) (session known n : ℕ) where
   -- whether a session that isn't in the set passes
@@ -17,13 +17,13 @@ module _ (test : ℕ → RunningTxn → Bool) (session known n : ℕ) where
 
   same_unknown : has known n ≡ false → (states : List SessionState) → is_chosen asked session states n ≡ is_chosen test session states n
   same_unknown off [] = refl
-  same_unknown off (state ∷ states) = at (n == state.session) refl
+  same_unknown off (state ∷ states) = at (same_unknown off states) (n == state.session) refl
     where
-      at : (b : Bool) → (n == state.session) ≡ b → ((b && is_passing_other asked session state) || is_chosen asked session states n) ≡ ((b && is_passing_other test session state) || is_chosen test session states n)
-      at true same =
+      at : is_chosen asked session states n ≡ is_chosen test session states n → (b : Bool) → (n == state.session) ≡ b → ((b && is_passing_other asked session state) || is_chosen asked session states n) ≡ ((b && is_passing_other test session state) || is_chosen test session states n)
+      at rest true same =
           ap (λ c. c || is_chosen asked session states n) (passing_unknown state (ap (has known) (sym (eqb-true n state.session same)) ∙ off))
-          ∙ ap (λ c. is_passing_other test session state || c) (same_unknown off states)
-      at false apart = same_unknown off states
+          ∙ ap (λ c. is_passing_other test session state || c) rest
+      at rest false apart = rest
 
   -- with the set they are those that pass, whether in the set or not
   pub all_asked : (states : List SessionState) → (has known n || is_chosen asked session states n) ≡ (has known n || is_chosen test session states n)

@@ -1,5 +1,5 @@
 -- What the tests of statements that ran say of other transactions.
-use Rattle.std.{proofs.{Common.{◌≡◌, ◌∙◌, ℕ, refl, sym, ap, subst, Bool, true, false, cond, ◌||◌, inl, inr, List, [], ◌∷◌}, lemmas.List.Folds.{Any-from_list_any}}, specs.Prelude.{◌↔◌, ℤ, Option, Some, None, unwrap_or, IsTrue}}
+use Rattle.std.{proofs.{Common.{◌≡◌, ◌∙◌, ℕ, refl, sym, ap, subst, Bool, true, false, cond, ◌&&◌, ◌||◌, inl, inr, List, [], ◌∷◌}, lemmas.List.Folds.{Any-from_list_any}}, specs.Prelude.{◌↔◌, ℤ, Option, Some, None, unwrap_or, IsTrue}}
 use Rattle.lab_engine.proofs.Common.{is_none, same_Some, none_some, list_any, option_or, find, get, entries, get-entries, and_parts, and_from, or_cases, or_left, or_right, true≢false, State, Statement, same_row, last_before, Kept, kept_at, chain_kept, pending_kept, Past, Txn, initial_version, seen, has_read, IsOther, IsRunning, statements_of}
 use Rattle.lab_engine.specs.{declared.{event.Level.TheVariants.{Locking}, session_state.RunningTxn.{RunningTxn}, asker.Asker.{Asker}}, KeptRows.{entries_in}, Rules.{HasRead}, Asker.{IsAsker, seen_in}}
 use Rattle.lab_table.specs.{Row.{Row, row_cmp, row_eq, numbered}, NamedRow.{KindNames, StatementNames}, Statement.{matches, may_match, would_write, new_state, kind_would_write}, declared.statement.StatementKind.{StatementKind, TheVariants.{Insert}}}
@@ -119,7 +119,7 @@ module _ (past : Past) (txn : Txn) (asker : Asker) (asks : IsAsker Locking past 
   untouched_seen row v there nothing =
       ap (λ (o : Option Kept). (unwrap_or (option_or (pending_kept o asker.session) (last_before asker.sees_before (chain_kept o))) (initial_version asker.setup.now row)).state) nothing ∙ there
 
-  test : Row × ℤ → Bool
+  abbrev test : Row × ℤ → Bool
   test entry = is_none (kept_at asker.situation.now.rows entry.0) && reads_seen asker s n entry.0 (Some entry.1)
 
   -- whoever has read a row that the statement would write has read one of the setup's that nobody has written, or one that somebody has

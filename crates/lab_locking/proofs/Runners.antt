@@ -1,8 +1,8 @@
 -- A session that has run no statement has read nothing.
-use Rattle.std.proofs.{Common.{◌≡◌, ◌∙◌, ℕ, sym, ap, arith, Bool, true, not, ◌==◌, ◌||◌, inl, inr, List, [], ◌∷◌, length, map, is_some}, lemmas.List.{length-map, length-reverse}}
+use Rattle.std.proofs.{Common.{◌≡◌, ◌∙◌, ℕ, sym, ap, arith, Bool, true, false, not, ◌==◌, ◌||◌, inl, inr, List, [], ◌∷◌, length, map, is_some}, lemmas.List.{length-map, length-reverse}}
 use Rattle.std.specs.Prelude.{◌↔◌, ◌⊎◌, IsTrue}
-use Rattle.lab_engine.proofs.Common.{has, has_read, is_read_only, IsOther, ne_eqb, Op, or_cases, or_left, or_right, Past, reader_writes_none, Row, RunningTxn, SessionState, State, Statement, statements_of, true≢false, Txn}
-use Rattle.lab_engine.specs.{declared.{event.Level.TheVariants.{Locking}, asker.Asker.{Asker}}, Asker.{IsAsker}, Chosen.{is_chosen}, Rules.{HasRead}}
+use Rattle.lab_engine.proofs.Common.{has, has_read, is_read_only, IsOther, ne_eqb, Op, or_cases, or_left, or_right, Past, reader_writes_none, Row, State, Statement, statements_of, true≢false, Txn}
+use Rattle.lab_engine.specs.{declared.{event.Level.TheVariants.{Locking}, session_state.{RunningTxn.{RunningTxn}, SessionState.{SessionState}}, asker.Asker.{Asker}}, Asker.{IsAsker}, Chosen.{is_chosen}, Rules.{HasRead}}
 use Rattle.lab_engine.proofs.Choosing.{Tells, chosen_is}
 use Rattle.lab_locking.{specs.Reads.{has_run, is_other_runner}, proofs.KnownReaders.{all_asked}}
 

@@ -46,15 +46,15 @@ fn with_readers_of(
     known: SessionSet,
     statement: &Statement,
     row: RowName,
-    state: Option<Value>,
+    state: &Option<Value>,
 ) -> SessionSet
-    ensures { (n : ℕ) → has result n ≡ (has known n || spec.reads_seen asker.now statement.now n row state) }
+    ensures { (n : ℕ) → has result n ≡ (has known n || spec.reads_seen asker.now statement.now n row state.now) }
 {
-    if !statement.would_write(row, state) {
+    if !statement.would_write(row, *state) {
         return known;
     }
-    let new = statement.new_state(row, state);
-    with_row_readers(asker, known, row, state, new)
+    let new = statement.new_state(row, *state);
+    with_row_readers(asker, known, row, *state, new)
 }
 
 /// The sessions of a set, and the other sessions that have read a row, where the statement would write it: as it is seen,
@@ -68,7 +68,7 @@ fn with_seen_readers(
     ensures { (n : ℕ) → has result n ≡ (has known n || spec.reads_row asker.now statement.now n row) }
 {
     let seen = asker.row_seen(row);
-    with_readers_of(asker, known, statement, row, seen.state)
+    with_readers_of(asker, known, statement, row, &seen.state)
 }
 
 /// The same of all rows that are there: those of the setup that no transaction has written, and those that one has.
@@ -79,7 +79,7 @@ fn with_all_readers(asker: &Asker, known: SessionSet, statement: &Statement) -> 
     let entries = asker.setup.rows();
     for entry in entries {
         if asker.situation.rows.get(entry.0).is_none() {
-            readers = with_readers_of(asker, readers, statement, entry.0, Some(entry.1));
+            readers = with_readers_of(asker, readers, statement, entry.0, &Some(entry.1));
         }
     }
     for (row, _) in asker.situation.rows.by_row() {

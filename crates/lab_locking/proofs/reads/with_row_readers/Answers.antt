@@ -1,5 +1,5 @@
 use Rattle.std.proofs.Common.{◌∙◌, ℕ, Bool, ap, ◌||◌, rules}
-use Rattle.lab_engine.proofs.Common.{has, RunningTxn}
+use Rattle.lab_engine.{proofs.Common.{has}, specs.declared.session_state.RunningTxn.{RunningTxn}}
 use Rattle.lab_locking.{specs.Reads.{has_read_either}, proofs.KnownReaders.{asked, all_asked}}
 use Rattle.lab_locking.proofs.reads.with_row_readers.Goals as goal
 
