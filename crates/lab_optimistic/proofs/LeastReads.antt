@@ -27,26 +27,38 @@ module _ (asker : Asker) where
       | inl old ↦ h q old
       | inr may ↦ ap (change_at asker) (only q may) ∙ none
     ]
-    unchanged none (Some c) h = (h.0, h.1, λ q below any. elim (or_cases (passes q) (may_match s q) any) [
-      | inl old ↦ h.2 q below old
-      | inr may ↦ ap (change_at asker) (only q may) ∙ none
-    ])
+    unchanged none (Some c) h = (
+      h.0,
+      h.1,
+      λ q below any. elim (or_cases (passes q) (may_match s q) any) [
+        | inl old ↦ h.2 q below old
+        | inr may ↦ ap (change_at asker) (only q may) ∙ none
+      ],
+    )
 
     after : (found : Option Conflict) → IsLeastOf asker passes found → comes_before row found ≡ false → IsLeastOf asker or_named found
     after None h behind = absurd (true≢false behind)
-    after (Some c) h behind = (h.0, h.1, λ q below any. elim (or_cases (passes q) (may_match s q) any) [
-      | inl old ↦ h.2 q below old
-      | inr may ↦ absurd (true≢false (sym (ap is_lt (subst (λ r. IsBelow r c.row) (only q may) below)) ∙ behind))
-    ])
+    after (Some c) h behind = (
+      h.0,
+      h.1,
+      λ q below any. elim (or_cases (passes q) (may_match s q) any) [
+        | inl old ↦ h.2 q below old
+        | inr may ↦ absurd (true≢false (sym (ap is_lt (subst (λ r. IsBelow r c.row) (only q may) below)) ∙ behind))
+      ],
+    )
 
     pub least_nearer : (found : Option Conflict) → IsLeastOf asker passes found → IsLeastOf asker or_named (nearer asker row found)
     least_nearer found h = at (comes_before row found) refl (change_at asker row) refl
       where
         at : (b : Bool) → comes_before row found ≡ b → (o : Option ℕ) → change_at asker row ≡ o → IsLeastOf asker or_named (cond b (conflict_at row o found) found)
-        at true before (Some by) is = (refl, is, λ q below any. elim (or_cases (passes q) (may_match s q) any) [
-          | inl old ↦ below_found found h before q below old
-          | inr may ↦ absurd (not_below q row below (only q may))
-        ])
+        at true before (Some by) is = (
+          refl,
+          is,
+          λ q below any. elim (or_cases (passes q) (may_match s q) any) [
+            | inl old ↦ below_found found h before q below old
+            | inr may ↦ absurd (not_below q row below (only q may))
+          ],
+        )
         at true before None none = unchanged none found h
         at false behind o is = after found h behind
 
