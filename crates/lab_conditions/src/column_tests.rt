@@ -3,6 +3,7 @@
 ghost use Rattle.std.specs.Prelude.{◌≡◌, ◌||◌, ℤ, int_lt};
 ghost use Rattle.lab_conditions.specs.Column.{is_below, is_above};
 
+use crate::remainders::Remainders;
 use lab_table::{Cmp, Modulus, NoMemory, Value};
 use std::alloc::Global;
 use std::collections::HashSet;
@@ -17,24 +18,19 @@ pub(crate) struct ColumnTests {
     above: Option<i64>,
     /// Each of these numbers passes.
     numbers: HashSet<i64>,
-    /// A number passes that leaves one of these rests by its modulus.
-    remainders: HashSet<(u32, i64)>,
-    /// Each modulus of `remainders` once.
-    moduli: HashSet<u32>,
+    /// Each number passes that leaves the rest of a pair.
+    remainders: Remainders,
 }
 
 impl Model for ColumnTests {
-    ghost use Rattle.std.specs.Prelude.{◌≡◌, false};
     ghost use Rattle.std.specs.HashSet.{keys};
-    ghost use Rattle.lab_conditions.specs.Column.{Tests, coded_tests, lacks_a_modulus};
+    ghost use Rattle.lab_conditions.specs.Column.{Tests, coded_tests};
 
     ghost Value = { Tests };
 
     ghost coded = { coded_tests };
 
-    ghost view = { λ t. record { below = t.below; above = t.above; numbers = keys t.numbers; remainders = keys t.remainders } };
-
-    ghost invariant = { λ t. lacks_a_modulus (keys t.moduli) (keys t.remainders) ≡ false };
+    ghost view = { λ t. record { below = t.below; above = t.above; numbers = keys t.numbers; remainders = t.remainders } };
 }
 
 impl ColumnTests {
@@ -52,8 +48,7 @@ impl ColumnTests {
             below: None,
             above: None,
             numbers: HashSet::new(alloc),
-            remainders: HashSet::new(alloc),
-            moduli: HashSet::new(alloc),
+            remainders: Remainders::new(alloc),
         }
     }
 
@@ -64,16 +59,7 @@ impl ColumnTests {
         is_below(self.below, number)
             || is_above(self.above, number)
             || self.numbers.contains(&number)
-            || self.leaves_rest(number)
-    }
-
-    /// Whether a number leaves one of the rests by its modulus.
-    fn leaves_rest(&self, number: i64) -> bool
-        ensures { result ≡ list_any (leaves number) self.now.remainders }
-    {
-        self.moduli.iter().any(|modulus| self
-            .remainders
-            .contains(&(*modulus, number % i64::from(*modulus))))
+            || self.remainders.any_left_by(number)
     }
 
     /// Adds a comparison with a number.
@@ -129,11 +115,9 @@ impl ColumnTests {
 
     /// Lets each number pass that leaves this rest by this modulus.
     pub(crate) fn add_remainder(&mut self, modulus: Modulus, rest: Value) -> Result<(), NoMemory>
-        ensures { OnOk result ((n : ℤ) → passes self.new n ≡ (passes self.old n || int_eq (int_rem n (pos modulus)) rest)) }
+        ensures { OnOk result ((n : ℤ) → passes self.new n ≡ (passes self.old n || leaves n (modulus, rest))) }
     {
-        self.moduli.insert(modulus.number())?;
-        self.remainders.insert((modulus.number(), rest.number()))?;
-        Ok(())
+        self.remainders.add(modulus, rest)
     }
 }
 

@@ -24,5 +24,6 @@
 mod column_tests;
 mod condition_index;
 mod conditions;
+mod remainders;
 
 pub use condition_index::ConditionIndex;

@@ -1,0 +1,3 @@
+pub mod Ors
+pub mod Sets
+pub mod Pairs
