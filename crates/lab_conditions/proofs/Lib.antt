@@ -1,3 +1,4 @@
 pub mod Ors
+pub mod Sides
 pub mod Sets
 pub mod Pairs
