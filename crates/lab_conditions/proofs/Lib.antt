@@ -2,3 +2,5 @@ pub mod Ors
 pub mod Sides
 pub mod Sets
 pub mod Pairs
+pub mod More
+pub mod Tables

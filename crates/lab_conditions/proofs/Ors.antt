@@ -1,5 +1,5 @@
 -- Alternatives in another order.
-use Rattle.std.proofs.Common.{◌≡◌, Bool, true, false, ◌&&◌, ◌||◌, List, [], ◌∷◌, refl, sym, ap, ◌∙◌}
+use Rattle.std.proofs.Common.{◌≡◌, Bool, true, false, not, ◌&&◌, ◌||◌, List, [], ◌∷◌, refl, sym, ap, ◌∙◌}
 use Rattle.std.specs.List.{list_any}
 
 pub or_comm : (a b : Bool) → (a || b) ≡ (b || a)
@@ -37,6 +37,10 @@ or_third false b c x d = or_second b c x d
 pub and_none : (a : Bool) → (a && false) ≡ false
 and_none true = refl
 and_none false = refl
+
+pub not_and : (a b : Bool) → not (a && b) ≡ (not a || not b)
+not_and true b = refl
+not_and false b = refl
 
 -- ---- of a list
 

@@ -1,9 +1,10 @@
 //! The conditions of statements on several tables.
 
-ghost use Rattle.std.specs.Prelude.{◌≡◌, ◌||◌, ℤ, OnOk};
+ghost use Rattle.std.specs.Prelude.{◌≡◌, ◌<◌, ◌||◌, ℕ, ℤ, List, length, get_or, OnOk, IfSome};
 ghost use Rattle.lab_table.specs.Row.{Row};
 ghost use Rattle.lab_table.specs.Statement.{selects};
-ghost use Rattle.lab_conditions.specs.Index.{any_selects, table_selects};
+ghost use Rattle.lab_conditions.specs.Index.{any_selects, any_matches, table_selects};
+ghost use Rattle.lab_conditions.specs.Conditions.{Conditions as Plain};
 
 use crate::conditions::Conditions;
 use lab_table::{NoMemory, RowName, Statement, TableName, Value};
@@ -63,16 +64,38 @@ impl ConditionIndex {
         requires { Covers self.now statements.now }
         ensures { result ≡ list_any (λ s. matches s row state) statements.now }
     {
-        let Some(value) = state else {
-            return false;
-        };
-        match &self.tables {
-            Some(tables) => tables.iter().any(|table| selects(table, row, value)),
-            None => statements
-                .iter()
-                .any(|statement| statement.matches(row, state)),
+        match state {
+            Some(value) => self.selects_any(statements, row, value),
+            None => false,
         }
     }
+
+    /// Whether one of the statements, which the index covers, matches a row with this value.
+    fn selects_any(&self, statements: &[Statement], row: RowName, value: Value) -> bool
+        requires { Covers self.now statements.now }
+        ensures { result ≡ any_matches statements.now row value }
+    {
+        match &self.tables {
+            Some(tables) => any_selects(tables, row, value),
+            None => any_matches(statements, row, value),
+        }
+    }
+}
+
+/// Whether one of some statements matches a row with this value.
+fn any_matches(statements: &[Statement], row: RowName, value: Value) -> bool
+    ensures { result ≡ any_matches statements.now row value }
+{
+    statements
+        .iter()
+        .any(|statement| statement.matches(row, Some(value)))
+}
+
+/// Whether a condition of one of the tables is true of a row with this value.
+fn any_selects(tables: &[(TableName, Conditions)], row: RowName, value: Value) -> bool
+    ensures { result ≡ any_selects tables.now row value }
+{
+    tables.iter().any(|table| selects(table, row, value))
 }
 
 /// Whether a row with this value is one of the table, and one of the table's conditions is true of it.
@@ -90,14 +113,24 @@ fn add_to(
 ) -> Result<(), NoMemory>
     ensures { OnOk result ((row : Row) (value : ℤ) → any_selects tables.new.items row value ≡ (any_selects tables.old.items row value || selects statement.now row value)) }
 {
-    for place in 0..tables.len() {
-        if tables[place].0 == statement.table {
-            let table = &mut tables[place];
-            return table.1.add(alloc, &statement.kind);
-        }
+    if let Some(place) = place_of(tables, statement.table) {
+        let table = &mut tables[place];
+        return table.1.add(alloc, &statement.kind);
     }
     let mut conditions = Conditions::new(alloc);
     conditions.add(alloc, &statement.kind)?;
     tables.push((statement.table, conditions))?;
     Ok(())
+}
+
+/// Where a table's conditions are.
+fn place_of(tables: &[(TableName, Conditions)], table: TableName) -> Option<usize>
+    ensures { IfSome result (λ place. (place < length tables.now) × ((d : List ℕ × Plain) → (get_or tables.now place d).0 ≡ table)) }
+{
+    for (place, other) in tables.iter().enumerate() {
+        if other.0 == table {
+            return Some(place);
+        }
+    }
+    None
 }

@@ -1,10 +1,12 @@
 //! The conditions on the rows of one table.
 
 ghost use Rattle.std.specs.Prelude.{◌≡◌, ℤ, not};
+ghost use Rattle.std.specs.List.{list_any};
 ghost use Rattle.lab_table.specs.Predicate.{compares};
+ghost use Rattle.lab_conditions.specs.Conditions.{is_true_of};
 
 use crate::column_tests::ColumnTests;
-use lab_table::{Cmp, Col, NoMemory, Pred, PredKind, RowId, StatementKind, Value};
+use lab_table::{Cmp, Col, Modulus, NoMemory, Pred, PredKind, RowId, StatementKind, Value};
 use std::alloc::Global;
 use std::marker::Model;
 
@@ -32,9 +34,12 @@ impl Model for Conditions {
 }
 
 impl Conditions {
-    ghost use Rattle.std.specs.Prelude.{◌≡◌, ◌||◌, ℕ, ℤ, false, not, Option, OnOk, IfOk, List};
+    ghost use Rattle.std.specs.Prelude.{◌≡◌, ◌||◌, ℕ, ℤ, pos, false, not, Option, OnOk, IfOk, List};
     ghost use Rattle.lab_table.specs.Predicate.{Predicate, holds, column, compares};
     ghost use Rattle.lab_table.specs.Statement.{where_holds};
+    ghost use Rattle.std.specs.List.{list_any};
+    ghost use Rattle.std.specs.Ordering.{int_eq};
+    ghost use Rattle.lab_conditions.specs.Column.{leaves};
     ghost use Rattle.lab_conditions.specs.Conditions.{any_holds, kind_holds};
 
     /// No condition. It takes no memory.
@@ -56,7 +61,7 @@ impl Conditions {
         self.whole
             || self.ids.passes(i64::from(id.number()))
             || self.values.passes(value.number())
-            || self.others.iter().any(|pred| pred.matches(id, value))
+            || any_of(&self.others, id, value)
     }
 
     /// Adds what a statement on the table matches.
@@ -66,9 +71,16 @@ impl Conditions {
         match kind {
             StatementKind::Select { pred } => self.add_where(alloc, pred),
             StatementKind::Update { pred, .. } => self.add_where(alloc, pred),
-            StatementKind::Insert { id, .. } => self.ids.add_number(i64::from(id.number())),
+            StatementKind::Insert { id, .. } => self.add_id(*id),
             StatementKind::Delete { pred } => self.add_where(alloc, pred),
         }
+    }
+
+    /// Adds that the id is this one.
+    fn add_id(&mut self, own: RowId) -> Result<(), NoMemory>
+        ensures { OnOk result ((id : ℕ) (value : ℤ) → any_holds self.new id value ≡ (any_holds self.old id value || int_eq (pos id) (pos own))) }
+    {
+        self.ids.add_number(i64::from(own.number()))
     }
 
     /// Adds what stands behind `where`; without it, every row passes.
@@ -91,14 +103,10 @@ impl Conditions {
     {
         match &pred.kind {
             PredKind::Compare { col, cmp, number } => self.add_comparison(*col, *cmp, *number),
-            PredKind::Remainder { col, modulus, rest } => match col {
-                Col::Id => self.ids.add_remainder(*modulus, *rest),
-                Col::Value => self.values.add_remainder(*modulus, *rest),
-            },
-            PredKind::OneOf { col, numbers } => match col {
-                Col::Id => self.ids.add_numbers(numbers.as_slice()),
-                Col::Value => self.values.add_numbers(numbers.as_slice()),
-            },
+            PredKind::Remainder { col, modulus, rest } => {
+                self.add_remainder(*col, *modulus, *rest)
+            }
+            PredKind::OneOf { col, numbers } => self.add_numbers(*col, numbers.as_slice()),
             PredKind::Not(p) => self.add_opposite(alloc, p),
             PredKind::And(..) => self.add_other(pred.copy(alloc)?),
             PredKind::Or(p, q) => {
@@ -141,6 +149,26 @@ impl Conditions {
         }
     }
 
+    /// Adds a test of what a column leaves when it is divided.
+    fn add_remainder(&mut self, col: Col, modulus: Modulus, rest: Value) -> Result<(), NoMemory>
+        ensures { OnOk result ((id : ℕ) (value : ℤ) → any_holds self.new id value ≡ (any_holds self.old id value || leaves (column col id value) (modulus, rest))) }
+    {
+        match col {
+            Col::Id => self.ids.add_remainder(modulus, rest),
+            Col::Value => self.values.add_remainder(modulus, rest),
+        }
+    }
+
+    /// Adds that a column is one of some numbers.
+    fn add_numbers(&mut self, col: Col, numbers: &[Value]) -> Result<(), NoMemory>
+        ensures { OnOk result ((id : ℕ) (value : ℤ) → any_holds self.new id value ≡ (any_holds self.old id value || list_any (int_eq (column col id value)) numbers.now)) }
+    {
+        match col {
+            Col::Id => self.ids.add_numbers(numbers),
+            Col::Value => self.values.add_numbers(numbers),
+        }
+    }
+
     /// Adds a condition that is tested for itself.
     fn add_other(&mut self, pred: Pred) -> Result<(), NoMemory>
         ensures { OnOk result ((id : ℕ) (value : ℤ) → any_holds self.new id value ≡ (any_holds self.old id value || holds pred id value)) }
@@ -148,6 +176,13 @@ impl Conditions {
         self.others.push(pred)?;
         Ok(())
     }
+}
+
+/// Whether one of these conditions is true of the row `id` with this value.
+fn any_of(others: &[Pred], id: RowId, value: Value) -> bool
+    ensures { result ≡ list_any (is_true_of id value) others.now }
+{
+    others.iter().any(|pred| pred.matches(id, value))
 }
 
 /// The comparison that is true exactly where this one is false.

@@ -69,7 +69,9 @@ impl Remainders {
 fn any_left(moduli: &BTreeSet<Modulus>, pairs: &HashSet<(u32, i64)>, number: i64) -> bool
     ensures { result ≡ list_any (leaves_by number pairs.now.keys) moduli.now.keys }
 {
-    moduli.iter().any(|modulus| leaves_by(pairs, number, *modulus))
+    moduli
+        .iter()
+        .any(|modulus| leaves_by(pairs, number, *modulus))
 }
 
 /// Whether a number leaves the rest of a pair by this modulus.
