@@ -1,5 +1,5 @@
 -- Pairs of a modulus and a rest, and the list of their moduli.
-use Rattle.std.proofs.{Common.{◌≡◌, ℕ, ℤ, pos, Bool, true, false, not, ◌&&◌, ◌||◌, List, [], ◌∷◌, refl, sym, ap, ◌∙◌, nat_eq, int_rem}, lemmas.Bool.{or_parts, or_from, or_left, or_right, not-false}}
+use Rattle.std.proofs.{Common.{◌≡◌, ℕ, ℤ, pos, Bool, true, false, not, ◌&&◌, ◌||◌, List, [], ◌∷◌, refl, ap, ◌∙◌, nat_eq, int_rem}, lemmas.Bool.{or_parts, or_from, or_left, or_right, not-false}}
 use Rattle.std.specs.{List.{list_any}, Ordering.{int_eq, nat_cmp}, BTreeSet.{insert_key}, FinMap.{nat_cmp-IsAntisymmetric}, Cmp.{unsigned_Decides, signed_Decides, first_so, second_so}}
 use Rattle.lab_conditions.specs.Column.{leaves, leaves_by, is_pair, is_modulus_of, lacks_a_modulus}
 use Rattle.lab_conditions.proofs.Ors.{and_none, any_none, any_or}

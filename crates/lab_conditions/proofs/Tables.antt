@@ -1,9 +1,9 @@
 -- What the conditions of several tables select.
-use Rattle.std.proofs.Common.{◌≡◌, ◌<◌, ℕ, zero, suc, ℤ, pos, Bool, true, false, ◌&&◌, ◌||◌, nat_eq, List, [], ◌∷◌, ◌++◌, length, get_or, set, slice_set, refl, sym, ap, ◌∙◌, arith}
+use Rattle.std.proofs.Common.{◌≡◌, ◌<◌, ℕ, zero, suc, ℤ, pos, Bool, true, false, ◌&&◌, ◌||◌, nat_eq, List, [], ◌∷◌, length, get_or, slice_set, refl, sym, ap, ◌∙◌, arith}
 use Rattle.std.specs.{List.{list_any}, Ordering.{int_eq}}
-use Rattle.lab_table.specs.{Row.{Row, row_eq, numbered, is_in, rows_tested}, Statement.{kind_selects}, declared.statement.StatementKind.{StatementKind, TheVariants.{Select, Update, Insert, Delete}}}
+use Rattle.lab_table.specs.{Row.{Row, numbered, is_in, rows_tested}, Statement.{kind_selects}, declared.statement.StatementKind.{StatementKind, TheVariants.{Select, Update, Insert, Delete}}}
 use Rattle.lab_conditions.specs.{Conditions.{Conditions, any_holds, kind_holds}, Index.{any_selects, table_selects}}
-use Rattle.lab_conditions.proofs.Ors.{or_assoc, or_comm, or_first}
+use Rattle.lab_conditions.proofs.Ors.{or_assoc, or_first}
 
 same_number : (a b : ℕ) → nat_eq a b ≡ int_eq (pos a) (pos b)
 same_number a b = search (arith)

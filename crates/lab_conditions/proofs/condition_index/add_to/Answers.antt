@@ -1,4 +1,4 @@
-use Rattle.std.proofs.{Common.{◌≡◌, ◌<◌, ◌||◌, ℕ, List, false, [], ◌∷◌, length, get_or, sym, ap, subst, ◌∙◌}, lemmas.{Result.{on_ok_weaker}, List.Folds.{list_any-append}}}
+use Rattle.std.proofs.{Common.{◌≡◌, ◌<◌, ◌||◌, ℕ, List, false, [], ◌∷◌, length, get_or, ap, subst, ◌∙◌}, lemmas.{Result.{on_ok_weaker}, List.Folds.{list_any-append}}}
 use Rattle.lab_conditions.specs.{Conditions.{Conditions}, Index.{any_selects, table_selects}}
 use Rattle.lab_conditions.proofs.{Ors.{or_comm}, Tables.{any_more, first_of_table}}
 use Rattle.lab_conditions.proofs.condition_index.add_to.Goals as goal

@@ -1,4 +1,4 @@
-use Rattle.std.proofs.{Common.{◌≡◌, ℤ, Bool, ◌||◌, int_lt, not, w64, of_z, to_z, sym, ap, ◌∙◌}, Math.Facts.{to_z-of_z}}
+use Rattle.std.proofs.{Common.{◌≡◌, ◌||◌, int_lt, w64, of_z, to_z, sym, ap, ◌∙◌}, Math.Facts.{to_z-of_z}}
 use Rattle.lab_table.specs.Predicate.{compares}
 use Rattle.lab_table.specs.declared.predicate.Cmp.TheVariants.{Ne}
 use Rattle.lab_conditions.specs.Column.{passes}

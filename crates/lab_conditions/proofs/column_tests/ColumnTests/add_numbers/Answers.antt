@@ -1,4 +1,4 @@
-use Rattle.std.{proofs.{Common.{◌≡◌, ℤ, ◌||◌, take, w64, of_z, to_z, sym, ap, ◌∙◌}, Math.Facts.{to_z-of_z}, lemmas.List.Folds.{list_any_more}}, specs.{List.{list_any}, Ordering.{int_eq}}}
+use Rattle.std.{proofs.{Common.{◌≡◌, ◌||◌, take, w64, of_z, to_z, sym, ap, ◌∙◌}, Math.Facts.{to_z-of_z}, lemmas.List.Folds.{list_any_more}}, specs.{List.{list_any}, Ordering.{int_eq}}}
 use Rattle.lab_conditions.specs.Column.{passes}
 use Rattle.lab_conditions.proofs.Ors.{or_assoc}
 use Rattle.lab_conditions.proofs.column_tests.ColumnTests.add_numbers.Goals as goal

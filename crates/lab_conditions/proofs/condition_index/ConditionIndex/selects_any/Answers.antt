@@ -1,5 +1,4 @@
-use Rattle.std.proofs.Common.{◌≡◌, Some, sym, ap, subst, ◌∙◌}
-use Rattle.std.specs.Prelude.{option_map}
+use Rattle.std.proofs.Common.{Some, sym, ap, subst, ◌∙◌}
 use Rattle.lab_conditions.specs.Index.{Covers, any_selects}
 use Rattle.lab_conditions.specs.contracts.condition_index.ConditionIndex.{the_view}
 use Rattle.lab_conditions.proofs.condition_index.ConditionIndex.selects_any.Goals as goal

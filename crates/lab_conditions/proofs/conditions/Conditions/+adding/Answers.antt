@@ -1,4 +1,4 @@
-use Rattle.std.proofs.{Common.{◌≡◌, ◌||◌, not, sym, ap, ◌∙◌}, lemmas.Result.{on_ok_weaker}}
+use Rattle.std.proofs.{Common.{◌||◌, not, sym, ap, ◌∙◌}, lemmas.Result.{on_ok_weaker}}
 use Rattle.lab_table.specs.{Predicate.{holds}, PredKinds.{predicate_of}}
 use Rattle.lab_conditions.specs.Conditions.{any_holds}
 use Rattle.lab_conditions.proofs.Ors.{or_assoc, not_and}

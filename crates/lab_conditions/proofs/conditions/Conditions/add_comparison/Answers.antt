@@ -1,4 +1,4 @@
-use Rattle.std.proofs.{Common.{◌≡◌, ℤ, Bool, ◌||◌, ap, ◌∙◌}, lemmas.Result.{on_ok_weaker}}
+use Rattle.std.proofs.{Common.{ℤ, Bool, ◌||◌, ap, ◌∙◌}, lemmas.Result.{on_ok_weaker}}
 use Rattle.lab_table.specs.Predicate.{compares, column}
 use Rattle.lab_conditions.specs.Conditions.{any_holds}
 use Rattle.lab_conditions.specs.contracts.conditions.Conditions.{the_view}

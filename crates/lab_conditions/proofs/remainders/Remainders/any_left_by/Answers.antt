@@ -1,4 +1,4 @@
-use Rattle.std.{proofs.{Common.{◌≡◌, w64, ap, ◌∙◌}, Math.Facts.{to_z-of_z}}, specs.List.{list_any}}
+use Rattle.std.{proofs.{Common.{w64, ap, ◌∙◌}, Math.Facts.{to_z-of_z}}, specs.List.{list_any}}
 use Rattle.lab_conditions.specs.Column.{leaves, leaves_by}
 use Rattle.lab_conditions.proofs.Pairs.{any_left}
 use Rattle.lab_conditions.proofs.remainders.Remainders.any_left_by.Goals as goal
