@@ -15,10 +15,10 @@ pub use Rattle.lab_table.specs.declared.statement.StatementKind.{StatementKind}
 pub use Rattle.lab_history.specs.{FirstPartsFault.{checked, installed_checked, listed_from, op_checked, ops_checked, statement_prints, txn_checked, txns_checked}, History.{History}}
 pub use Rattle.lab_history.specs.{HistoryRules.{AllDistinct, distinct_rows, distinct_tables, has_installer, is_listed, named_rows, named_tables, op_entries, operations}, VersionName.{new_states, state_value, View}, declared.operation.{Op.{Op}, State.{State as Written}, VersionName.{VersionName}}}
 pub use Rattle.lab_history.specs.declared.{operation.VersionName.TheVariants.{Initial, Of}, transaction.Txn.{Txn as Recorded}}
-pub use Rattle.lab_engine.specs.{Answer.{active_among, Answers, conflict_fault, HasPlacesOfCommits, HasPlacesOfEnds, IsRetryChoice, Keeps, MayGive}, Asker.{AreOthers, IsAsker, seen_in, sees_as_of_begin}, Chains.{chain, chain_after, first_since, installed_by, last_before, longer}}
+pub use Rattle.lab_engine.specs.{Answer.{active_among, Answers, conflict_fault, HasPlacesOfEnds, IsRetryChoice, Keeps, MayGive}, Asker.{AreOthers, IsAsker, seen_in, sees_as_of_begin}, Chains.{chain, chain_after, first_since, installed_by, last_before, longer}}
 pub use Rattle.lab_engine.specs.{EachRow.{each_row, first_failing, stored, value_rewritten, with_row}, Effect.{IsEffectFault, IsRefusalOn, IsResultOn}, Engine.{Appends, IsRetry, IsStep}, EventQuery.{is_ending, is_over}}
 pub use Rattle.lab_engine.specs.{Gathered.{AreActive, changed, changed_by, committed, Gathers, IsWithin, new_txn, number_after, number_of, recorded, txns_after, with_ops}, Journal.{EngineRun}, Kept.{count, IsReady, IsRoomy, Kept, pending_of}}
-pub use Rattle.lab_engine.specs.{KeptCommits.{AreCommits, AreInstalled, AreWritten, commits_by, installs, kept_rows}, KeptRows.{chain_in, chain_kept, entries_in, IsReadyAt, IsSame, kept_at, pending_in, pending_kept}}
+pub use Rattle.lab_engine.specs.KeptRows.{chain_in, chain_kept, entries_in, IsReadyAt, IsSame, kept_at, pending_in, pending_kept}
 pub use Rattle.lab_engine.specs.Laws.{AllApart, AllDone, AllNumbered, AllRan, AllRecorded, AreNumbered, AreRecorded, Began, BeginsHold, CommitsHold, IsDone, IsNumber, IsRecorded, LocksHold, NoneHas, NumbersHold, RanAt, RanBy, RecordsHold, Untouched, UntouchedAt}
 pub use Rattle.lab_engine.specs.LeastCircle.{IsLeastCircle, NamesLeastOf, NamesLeastOfWaiting, NotAfter}
 pub use Rattle.lab_engine.specs.Log.{active, active_after, asked, begun, begun_after, commits, commits_after, committed_version, has_read, initial_version, installers, is_fatal, last_installed, last_version, ops_after, Past, past_of, seen, sight, Txn, Version, version_by, version_or, waiting, waiting_after, writers}
@@ -27,7 +27,7 @@ pub use Rattle.lab_engine.specs.Overlay.{AreMatching, laid_over, matching_entrie
 pub use Rattle.lab_engine.specs.{Recording.{end_of, has_number, if_any, IsLeastRetryable, IsLegalRecording, IsRecording, IsRetryable, NoneRetryable, numbers_from, op_of, ops_of, recorded_txn, recorded_txns}, RuleTable.{If, rules_of, Where}}
 pub use Rattle.lab_engine.specs.Rules.{Asks, BlockedBy, Blocks, ChangesRead, ComesFirst, Conflicts, ConflictsBy, ConflictsRead, Gives, HasRead, HoldsMatch, HoldsWrite, in_view, IsBelow, IsChain, IsCircle, IsEffect, IsEffectOn, IsFirstCommitter, IsFirstConflict, IsFree, IsInsertOf, IsLegal, IsUpdate, MayAsk, MayCommit, NoneChangesRead, Permitted, ReadsStand, state_after}
 pub use Rattle.lab_engine.specs.{SessionBits.{AreSessions}, Sight.{comes_after, initially}}
-pub use Rattle.lab_engine.specs.Situation.{Agree, all_sessions, Describes, DescribesAll, DescribesDoing, DescribesRows, DescribesSession, grown, has_written, HasPlaces, HasRoom, HoldsOutcome, IsRunning, keeps_commits, keeps_statements, kept_by, kept_of, running_of, statements_of, waiting_of, written_by}
+pub use Rattle.lab_engine.specs.Situation.{Agree, all_sessions, Describes, DescribesAll, DescribesDoing, DescribesRows, DescribesSession, grown, has_written, HasPlaces, HasRoom, HoldsOutcome, IsRunning, keeps_statements, kept_by, kept_of, running_of, statements_of, waiting_of, written_by}
 pub use Rattle.lab_engine.specs.{WaitsFor.{AreBlockers, AreWaits, is_session, IsRound, IsWalk, WaitsForOne, WaitsOn}, declared.{asker.Asker.{Asker}, event.EngineFault.{EngineFault, TheVariants.{AlreadyBegun, Busy, Deadlock, DuplicateKey, NoTransaction, OutOfRange, ReadConflict, WriteConflict}}}}
 pub use Rattle.lab_engine.specs.declared.{event.{Level.{Level}, LogEvent.{LogEvent}, Outcome.{Outcome, TheVariants.{Aborted, Begun, Committed, Refused, Rows as Listed, Waits}}}, gathering.{GatheredTxn.{GatheredTxn}, Gathering.{Gathering}}, row_states.RowStates.{RowStates}, rules.Conflict.{Conflict}}
 pub use Rattle.lab_engine.specs.declared.{rules.ConflictKind.{ConflictKind, TheVariants.{Read, Write}}, session_state.{RunningTxn.{RunningTxn}, SessionState.{SessionState}}, situation.Situation.{Situation}}

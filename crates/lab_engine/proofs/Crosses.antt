@@ -5,7 +5,7 @@ use Rattle.std.{specs.declared.default.Default.{Ghosts as Defaults}, proofs.Cros
 use Rattle.lab_table.proofs.{number.{TxnNo.TheSendSync.{the_send as number}, Session.TheSendSync.{the_send as session}}, predicate.Pred.TheLaws.TheKnot.{crosses as predicate}, row_name.RowName.TheSendSync.{the_send as row_name}, table.Table.TheSendSync.{the_send as table}}
 use Rattle.lab_table.specs.contracts.statement.Statement.{the_row as statement_row}
 use Rattle.lab_engine.proofs.{row_states.RowStates.TheSendSync.{the_send as row_states}, wait_graph.WaitGraph.TheSendSync.{the_send as wait_graph}}
-use Rattle.lab_engine.specs.{declared.rules.Rules.{Ghosts}, contracts.{committed_rows.CommittedRows.{the_row as commit_row}, event.LogEvent.{the_row as event_row}, session_state.{RunningTxn.{the_row as running_row}, SessionState.{the_row as state_row}}}}
+use Rattle.lab_engine.specs.{declared.rules.Rules.{Ghosts}, contracts.{event.LogEvent.{the_row as event_row}, session_state.{RunningTxn.{the_row as running_row}, SessionState.{the_row as state_row}}}}
 use Rattle.lab_engine.specs.contracts.{journal.Journal.{the_row as journal_row, TheInside.{the_row as inside_row, the_type as inside_type}}, situation.Situation.{the_row as situation_row, the_type as situation_type}}
 
 pub statement : IsSend statement_row
@@ -20,15 +20,12 @@ running = search (sendable, crosses, number, row_name, statement) depth 40 fits 
 state : IsSend state_row
 state = search (sendable, crosses, session, statement, running) depth 40 fits 20000
 
-commit : IsSend commit_row
-commit = search (sendable, crosses, row_name) depth 40 fits 20000
-
 pub situation : IsSend situation_row
 situation = declared_send situation_type (
   search (sendable, crosses, state) depth 40,
   (
     search (sendable, row_states),
-    (search (sendable, crosses, commit) depth 40 fits 20000, (search (sendable, wait_graph), (search sendable, (search sendable, tt)))),
+    (search (sendable, wait_graph), (search sendable, (search sendable, tt))),
   ),
 )
 

@@ -1,5 +1,5 @@
 -- What a situation says of sessions, rows and numbers.
-use Rattle.lab_engine.proofs.{States.{none_kept}, Common.{is_none, Where, active, active_after, Agree, all_sessions, ap, AreCommits, arith, begun_after, cond, Contains, Describes, DescribesAll, DescribesDoing, DescribesRows, eqb_tells, inl, inr, is_some, IsRunning, IsSame, IsSome, IsTrue, keeps_commits, kept_rows, Level, list_all, LogEvent, map as each, None, Option, option_map, Past, refl, reverse, RowStates, RunningTxn, Situation, Some, Statement, subst, sym, Txn, waiting, waiting_after, ℕ, ◌+◌, ◌==◌, ◌∙◌, ◌∷◌, ◌≡◌}}
+use Rattle.lab_engine.proofs.{States.{none_kept}, Common.{is_none, active, active_after, Agree, all_sessions, ap, arith, begun_after, cond, Contains, Describes, DescribesAll, DescribesDoing, DescribesRows, eqb_tells, inl, inr, is_some, IsRunning, IsSame, IsSome, IsTrue, Level, list_all, LogEvent, map as each, None, Option, option_map, Past, refl, RowStates, RunningTxn, Situation, Some, Statement, subst, sym, Txn, waiting, waiting_after, ℕ, ◌+◌, ◌==◌, ◌∙◌, ◌∷◌, ◌≡◌}}
 
 pub kept_txn : (level : Level) (txn : Option Txn) (running : RunningTxn) → Agree level txn (Some running) → (t : Txn) × (txn ≡ Some t) × IsRunning level t running
 kept_txn level None running agree = absurd agree
@@ -38,29 +38,27 @@ still_sessions own after before there are session some = elim (eqb_tells own ses
 
 -- a situation goes on by an event where its parts do
 pub goes_on : {level : Level} (past : Past) (event : LogEvent) (old new : Situation) → Describes level past old → Contains all_sessions event.session → each (λ state. state.session) new.sessions ≡ all_sessions
-    → DescribesAll level (event ∷ past) new.sessions → DescribesRows (event ∷ past) new.rows → Where (keeps_commits level) (AreCommits (event ∷ past) (reverse (kept_rows new.commits.items)))
+    → DescribesAll level (event ∷ past) new.sessions → DescribesRows (event ∷ past) new.rows
     → new.begun ≡ begun_after event.outcome old.begun → new.events ≡ old.events + 1 → Describes level (event ∷ past) new
-goes_on past event old new is own sessions states rows commits begins counted = record {
+goes_on past event old new is own sessions states rows begins counted = record {
   sessions = sessions;
   states = states;
   active_is = still_sessions event.session (λ s. active_after event.command event.outcome past (active past s)) (active past) own is.active_is;
   waiting_is = still_sessions event.session (λ s. waiting_after event.command event.outcome (waiting past s)) (waiting past) own is.waiting_is;
   rows = rows;
-  commits = commits;
   begun = begins ∙ ap (begun_after event.outcome) is.begun;
   events = omega (arith, counted, is.events);
 }
 
 -- the parts of a situation that agree with a log may be others that do
 pub same_log : {level : Level} (past : Past) (old new : Situation) → Describes level past old → each (λ state. state.session) new.sessions ≡ all_sessions → DescribesAll level past new.sessions
-    → DescribesRows past new.rows → new.commits.items ≡ old.commits.items → new.begun ≡ old.begun → new.events ≡ old.events → Describes level past new
-same_log {level} past old new is sessions states rows commits begins counted = record {
+    → DescribesRows past new.rows → new.begun ≡ old.begun → new.events ≡ old.events → Describes level past new
+same_log {level} past old new is sessions states rows begins counted = record {
   sessions = sessions;
   states = states;
   active_is = is.active_is;
   waiting_is = is.waiting_is;
   rows = rows;
-  commits = subst (λ items. Where (keeps_commits level) (AreCommits past (reverse (kept_rows items)))) (sym commits) is.commits;
   begun = begins ∙ is.begun;
   events = counted ∙ is.events;
 }

@@ -12,7 +12,7 @@ none_failing s (e ∷ es) h =
     ] h
 
 -- a row that is found behind a row that is below all comes after that
-after_found : (x : Row) (es : List (Row × ℤ)) (q : Row) (v : ℤ) → T (below_all row_cmp x es) → find row_cmp q es ≡ Some v → row_cmp x q ≡ Less
+pub after_found : {A : Type 0} (x : Row) (es : List (Row × A)) (q : Row) (v : A) → T (below_all row_cmp x es) → find row_cmp q es ≡ Some v → row_cmp x q ≡ Less
 after_found x [] q v below h = none_some _ h
 after_found x (e ∷ es) q v below h =
     let parts = both (is_lt (row_cmp x e.0)) (below_all row_cmp x es) below in
@@ -22,7 +22,7 @@ after_found x (e ∷ es) q v below h =
     ] refl h
 
 -- two rows aren't each below the other
-not_both_ways : {P : Type 0} (a b : Row) → row_cmp a b ≡ Less → row_cmp b a ≡ Less → P
+pub not_both_ways : {P : Type 0} (a b : Row) → row_cmp a b ≡ Less → row_cmp b a ≡ Less → P
 not_both_ways a b p q = let clash : Less ≡ Greater = sym q ∙ turned_back a b p in cc
 
 -- the first row that fails is found

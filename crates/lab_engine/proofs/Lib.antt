@@ -55,6 +55,6 @@ mod AfterReads
 mod WaitsAfter
 pub mod Overlaid
 pub mod OneRecording
+mod Indexed
 mod LeastTaken
 pub mod TakenRows
-pub mod KeptCommits

@@ -1,6 +1,5 @@
 -- What an engine decides before it changes anything.
 use Rattle.std.specs.Prelude.{◌≡◌, ◌≢◌, ◌+◌, ◌≤◌, ℕ, Option, Some, None, is_some, List, length, count_by, ◌⊎◌, MatchOption}
-use Rattle.std.specs.Vec.{vec_capacity}
 use Rattle.lab_table.specs.Row.{Row}
 use Rattle.lab_table.specs.Table.{Table}
 use Rattle.lab_table.specs.declared.statement.Statement.{Statement}
@@ -17,9 +16,8 @@ use Rattle.lab_engine.specs.Log.{Past, active, waiting}
 use Rattle.lab_engine.specs.Rules.{Permitted, IsLegal}
 use Rattle.lab_engine.specs.WaitsFor.{AreWaits}
 use Rattle.lab_engine.specs.Recording.{NoneRetryable, IsLeastRetryable}
-use Rattle.lab_engine.specs.RuleTable.{Where}
 use Rattle.lab_engine.specs.Sessions.{all_sessions}
-use Rattle.lab_engine.specs.Situation.{Describes, keeps_commits}
+use Rattle.lab_engine.specs.Situation.{Describes}
 use Rattle.lab_engine.specs.LeastCircle.{NamesLeastOf}
 use Rattle.lab_engine.specs.declared.situation.Situation.{Situation}
 
@@ -49,15 +47,10 @@ active_among past sessions = count_by (λ session. is_some (active past session)
 abbrev pub HasPlacesOfEnds : Past → ℕ → Type 0
 HasPlacesOfEnds past places = length past + active_among past all_sessions ≤ places
 
--- among so many places for commits there is one for each of these, and one for that of each active transaction
-abbrev pub HasPlacesOfCommits : Past → ℕ → ℕ → Type 0
-HasPlacesOfCommits past kept places = kept + active_among past all_sessions ≤ places
-
--- what is kept beside a legal log agrees with it: the session that is retryable, where the log leaves its sessions and rows, who waits for whom, and the room for events and commits
+-- what is kept beside a legal log agrees with it: the session that is retryable, where the log leaves its sessions and rows, who waits for whom, and the room for events
 pub record Keeps (level : Level) (setup : Table) (past : Past) (choice : Option ℕ) (kept : Situation) (places : ℕ) : Type 0 where
   pub legal : IsLegal level setup past
   pub retryable : IsRetryChoice level setup past choice
   pub situation : Describes level past kept
   pub waits : AreWaits level setup past kept.waits
   pub places_of_ends : HasPlacesOfEnds past places
-  pub places_of_commits : Where (keeps_commits level) (HasPlacesOfCommits past (length kept.commits.items) (vec_capacity kept.commits))

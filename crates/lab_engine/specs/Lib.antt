@@ -32,4 +32,4 @@ pub mod RecordedLog
 pub mod Gathered
 pub mod OverLimit
 pub mod Taken
-pub mod KeptCommits
+pub mod StatementsRun

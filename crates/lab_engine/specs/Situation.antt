@@ -19,18 +19,13 @@ use Rattle.lab_engine.specs.declared.situation.Situation.{Situation}
 use Rattle.lab_engine.specs.Chains.{chain}
 use Rattle.lab_engine.specs.KeptRows.{chain_in, pending_in, AreReady}
 use Rattle.lab_engine.specs.Limits.{max_events}
-use Rattle.lab_engine.specs.KeptCommits.{AreCommits, kept_rows}
-use Rattle.lab_engine.specs.RuleTable.{rules_of, keeps_reads, Where}
+use Rattle.lab_engine.specs.RuleTable.{rules_of, keeps_reads}
 use Rattle.lab_engine.specs.Log.{Past, Version, Txn, active, waiting, asked, begun, version_by}
 pub use Rattle.lab_engine.specs.Sessions.{all_sessions}
 
 -- whether a level asks for the statements that its active transactions have run
 abbrev pub keeps_statements : Level → Bool
 keeps_statements level = keeps_reads (rules_of level)
-
--- whether it asks for the rows that each commit installed
-abbrev pub keeps_commits : Level → Bool
-keeps_commits level = (rules_of level).read_clashes
 
 -- those of these operations that are kept then, in order: all or none
 abbrev pub kept_statements : Level → List Op → List Statement
@@ -109,7 +104,6 @@ pub record Describes (level : Level) (past : Past) (situation : Situation) : Typ
   pub active_is : (session : ℕ) → IsSome (active past session) → Contains all_sessions session
   pub waiting_is : (session : ℕ) → IsSome (waiting past session) → Contains all_sessions session
   pub rows : DescribesRows past situation.rows
-  pub commits : Where (keeps_commits level) (AreCommits past (reverse (kept_rows situation.commits.items)))
   pub begun : situation.begun ≡ begun past
   pub events : situation.events ≡ length past
 
@@ -124,7 +118,7 @@ kept_of keeps command other = None
 -- an active transaction, if one is kept, has room for these rows and, where it is kept, one more statement
 abbrev pub HasPlaces : Bool → Option RunningTxn → Writes → Type 0
 HasPlaces keeps None writes = ⊤
-HasPlaces keeps (Some running) writes = (keeps ≡ true → length running.statements.items + 1 ≤ vec_capacity running.statements)
+HasPlaces keeps (Some running) writes = (keeps ≡ true → length running.statements.items + 1 ≤ running.statements.places)
     × (length running.written.items + length (map.entries writes) ≤ vec_capacity running.written)
 
 -- there is room for what an outcome writes

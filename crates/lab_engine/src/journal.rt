@@ -4,8 +4,7 @@ ghost use Rattle.std.specs.Prelude.{◌≡◌, ◌<◌, ◌+◌, ◌∷◌, ◌+
 ghost use Rattle.std.specs.Vec.{vec_capacity};
 ghost use Rattle.lab_engine.specs.declared.event.EngineFault.TheVariants.{Busy};
 ghost use Rattle.lab_engine.specs.declared.event.Outcome.TheVariants.{Refused};
-ghost use Rattle.lab_engine.specs.Answer.{HasPlacesOfCommits, HasPlacesOfEnds};
-ghost use Rattle.lab_engine.specs.KeptCommits.{commits_by};
+ghost use Rattle.lab_engine.specs.Answer.{HasPlacesOfEnds};
 ghost use Rattle.lab_engine.specs.Engine.{Ends};
 ghost use Rattle.lab_engine.specs.EventQuery.{is_ending};
 ghost use Rattle.lab_engine.specs.Journal.{IsRetried};
@@ -16,7 +15,6 @@ ghost use Rattle.lab_engine.specs.Rules.{Permitted};
 ghost use Rattle.lab_engine.specs.Sessions.{all_sessions};
 
 use crate::answer::answer_to;
-use crate::committed_rows::{CommittedRows, reserve_commits};
 use crate::decision::{copy_of, step_outcome, waiting_command};
 use crate::engine::Engine;
 use crate::event::{Level, LogEvent, Outcome};
@@ -31,7 +29,7 @@ use std::marker::Model;
 
 /// An engine of some rules. Beside its setup and its log it keeps where the log leaves sessions and rows, and who waits
 /// for whom, so no call looks through the log. A call decides on its event, makes room for it, and then appends it, which
-/// takes no memory. The log keeps a place for the end of each active transaction. Whom a session waits for is asked anew
+/// can't fail. The log keeps a place for the end of each active transaction. Whom a session waits for is asked anew
 /// only after an event that may have changed it.
 #[derive(Drop)]
 pub struct Journal<R: Rules> {
@@ -140,18 +138,11 @@ impl<R: Rules> Journal<R> {
         ensures setup { self.new.setup ≡ self.old.setup }
         ensures level { self.new.level ≡ self.old.level }
     {
-        let keeps_commits = self.rules.keeps_commits();
-        reserve_place(
-            &mut self.log,
-            &mut self.situation.commits,
-            &event,
-            keeps_commits,
-        )?;
+        reserve_place(&mut self.log, &event)?;
         let mut kept = self
             .situation
             .reserve(alloc, &event, self.rules.keeps_statements())?;
-        self.situation
-            .take_in(alloc, &event, &mut kept, keeps_commits);
+        self.situation.take_in(alloc, &event, &mut kept);
         self.situation.waits = waits_after(&self.rules, &self.setup, &self.situation, &event);
         self.retryable = retryable(&self.situation);
         self.log.push_reserved(event);
@@ -159,30 +150,20 @@ impl<R: Rules> Journal<R> {
     }
 }
 
-/// Makes room for an event, and for what its commit installs if `keeps`: that of a transaction's end has its place, and any
-/// other leaves one for the end of each session's transaction. NoMemory where an allocation was refused.
-fn reserve_place(
-    log: &mut Vec<LogEvent>,
-    commits: &mut Vec<CommittedRows>,
-    event: &LogEvent,
-    keeps: bool,
-) -> Result<(), NoMemory>
+/// Makes room for an event: that of a transaction's end has its place, and any other leaves one for the end of each
+/// session's transaction. NoMemory where an allocation was refused.
+fn reserve_place(log: &mut Vec<LogEvent>, event: &LogEvent) -> Result<(), NoMemory>
     requires active { is_ending event.now.outcome ≡ true → IsSome (active (past_of log.old.items) event.now.session) }
     requires session { is_ending event.now.outcome ≡ true → Contains all_sessions event.now.session }
     requires places { HasPlacesOfEnds (past_of log.old.items) (vec_capacity log.old) }
-    requires commits { keeps ≡ true → HasPlacesOfCommits (past_of log.old.items) (length commits.old.items) (vec_capacity commits.old) }
     ensures log { log.new.items ≡ log.old.items }
     ensures places { HasPlacesOfEnds (past_of log.old.items) (vec_capacity log.new) }
     ensures next { OnOk result (HasPlacesOfEnds (event.now ∷ past_of log.old.items) (vec_capacity log.new)) }
-    ensures items { commits.new.items ≡ commits.old.items }
-    ensures commits { keeps ≡ true → HasPlacesOfCommits (past_of log.old.items) (length commits.new.items) (vec_capacity commits.new) }
-    ensures next_commits { OnOk result (keeps ≡ true → HasPlacesOfCommits (event.now ∷ past_of log.old.items) (length commits.new.items + commits_by event.now.outcome) (vec_capacity commits.new)) }
     ensures end { OnErr result (is_ending event.now.outcome ≡ false) }
 {
     if ends_transaction(&event.outcome) {
         return Ok(());
     }
-    reserve_commits(commits, keeps)?;
     log.try_reserve(10)
 }
 

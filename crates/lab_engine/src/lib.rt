@@ -10,17 +10,16 @@
 //! A [`Journal`] is an engine of any [`Rules`], which say of each [`Asker`] which commits it sees, who blocks its
 //! statement and whether its commit conflicts. Beside its setup and its log it keeps the [`Situation`] in which the log
 //! leaves sessions and rows, and calls ask that: of each session its active transaction, the statement that it waits
-//! with and those that block this, so who waits for whom; of each row the versions that commits installed and those
-//! that transactions have pending; and of each commit, where the rules ask for it, the rows that it installed. A call
-//! decides on its event, then makes room for it, and then goes on by it, which takes no memory. The rules of each level,
-//! and the engines as journals over them, are in `lab_locking`, `lab_versions` and `lab_optimistic`.
+//! with and those that block this, so who waits for whom; and of each row the versions that commits installed and those
+//! that transactions have pending. A call decides on its event, then makes room for it, and then goes on by it, which
+//! can't fail. The rules of each level, and the engines as journals over them, are in `lab_locking`, `lab_versions`
+//! and `lab_optimistic`.
 #![tactic(auto)]
 
 mod answer;
 mod answer_laws;
 mod asker;
 mod circle;
-mod committed_rows;
 mod decision;
 mod effect;
 mod engine;
@@ -41,6 +40,7 @@ mod rules;
 mod session_set;
 mod session_state;
 mod situation;
+mod statements_run;
 mod taken;
 mod version;
 mod wait_graph;
@@ -49,7 +49,6 @@ mod writers;
 
 pub use answer_laws::{least_circle_unique, one_outcome};
 pub use asker::Asker;
-pub use committed_rows::CommittedRows;
 pub use engine::{Engine, MAX_EVENTS};
 pub use event::{EngineFault, Level, LogEvent, Outcome, Sessions};
 pub use journal::Journal;
@@ -62,4 +61,6 @@ pub use rules::{Conflict, ConflictKind, Rules};
 pub use session_set::SessionSet;
 pub use session_state::{RunningTxn, SessionState};
 pub use situation::Situation;
+pub use statements_run::StatementsRun;
+pub use taken::is_before;
 pub use version::{Version, value_of};

@@ -51,10 +51,6 @@ pub trait Rules: Default {
     fn keeps_statements(&self) -> bool
         ensures { result ≡ kept.keeps_statements kind };
 
-    /// Whether the rows that each commit installs are kept, for `conflict` to ask.
-    fn keeps_commits(&self) -> bool
-        ensures { result ≡ kept.keeps_commits kind };
-
     /// The sessions that block a statement.
     fn blockers(&self, asker: &Asker, statement: &Statement) -> SessionSet
         ensures { (past : Past) (txn : Txn) → IsAsker kind past txn asker.now

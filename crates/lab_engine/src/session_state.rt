@@ -1,6 +1,6 @@
 //! What is kept of a session.
 
-ghost use Rattle.std.specs.Prelude.{◌≡◌, ◌==◌, ◌<◌, ◌≤◌, ◌+◌, ◌++◌, ◌∷◌, ℕ, [], None, Some, Option, option_map, true, cond, is_some, length, OnOk};
+ghost use Rattle.std.specs.Prelude.{◌≡◌, ◌==◌, ◌<◌, ◌≤◌, ◌+◌, ◌++◌, ◌∷◌, ℕ, [], None, Some, Option, true, cond, is_some, length, OnOk};
 ghost use Rattle.std.specs.Option.{option_or, option_to_list};
 ghost use Rattle.std.specs.Vec.{vec_capacity};
 ghost use Rattle.std.specs.FinMap as map;
@@ -12,9 +12,8 @@ ghost use Rattle.lab_history.specs.declared.operation.VersionName.TheVariants.{O
 ghost use Rattle.lab_engine.specs.declared.event.Level.{Level as Kind};
 ghost use Rattle.lab_engine.specs.declared.event.Outcome.TheVariants.{Committed, Rows as Listed};
 ghost use Rattle.lab_engine.specs.Limits.{max_events};
-ghost use Rattle.lab_engine.specs.Log.{Past, Txn, active, active_after, asked, version_by};
+ghost use Rattle.lab_engine.specs.Log.{Past, Txn, active_after, asked, version_by};
 ghost use Rattle.lab_engine.specs.Chains.{chain_after};
-ghost use Rattle.lab_engine.specs.KeptCommits.{AreInstalled};
 ghost use Rattle.lab_engine.specs.KeptRows.{chain_in, pending_in, AreReady};
 ghost use Rattle.lab_engine.specs.Merging.{written_version};
 ghost use Rattle.lab_engine.specs.Situation.{DescribesSession, DescribesRows, Agree, IsRunning, HasRoom, HasPlaces, HoldsOutcome, grown, keeps_statements, kept_of, written_by};
@@ -22,6 +21,7 @@ ghost use Rattle.lab_engine.specs.Situation.{DescribesSession, DescribesRows, Ag
 use crate::event::{LogEvent, Outcome};
 use crate::event_query::{is_busy, is_over};
 use crate::row_states::RowStates;
+use crate::statements_run::StatementsRun;
 use lab_history::{VersionName, Writes};
 use lab_table::{Command, NoMemory, RowName, Session, Statement, TxnNo};
 use std::alloc::Global;
@@ -36,7 +36,7 @@ pub struct RunningTxn {
     /// How many operations it has run.
     pub operations: u32,
     /// The statements that it ran, in order, where the level asks for them; else none.
-    pub statements: Vec<Statement>,
+    pub statements: StatementsRun,
     /// The rows that it wrote, each once.
     pub written: Vec<RowName>,
 }
@@ -79,7 +79,7 @@ impl SessionState {
     }
 
     /// Goes on by one event of the session, with so many events before it, and so do the rows. What is kept of its
-    /// statement is taken. The answer is the rows that its commit installs, if it is one. It takes no memory.
+    /// statement is taken. It can't fail: only the index of the statements may take memory.
     pub(crate) fn take_in(
         &mut self,
         alloc: Global,
@@ -87,28 +87,26 @@ impl SessionState {
         event: &LogEvent,
         kept: &mut Option<Statement>,
         before: usize,
-    ) -> Option<Vec<RowName>>
+    )
         requires few { HasRoom self.old.running }
         requires room { HoldsOutcome (is_some kept.old) event.now.outcome self.old.running rows.old }
         ensures session { self.new.session ≡ self.old.session }
         ensures goes_on { (level : Kind) (past : Past) → kept.old ≡ kept_of (keeps_statements level) event.now.command event.now.outcome
             → event.now.session ≡ self.old.session → before ≡ length past → DescribesSession level past self.old × DescribesRows past rows.old
             → DescribesSession level (event.now ∷ past) self.new × DescribesRows (event.now ∷ past) rows.new }
-        ensures installed { (level : Kind) (past : Past) → event.now.session ≡ self.old.session → DescribesSession level past self.old
-            → AreInstalled event.now.outcome (active past event.now.session) (option_map (λ rows. rows.items) result) }
     {
         if is_busy(&event.outcome) {
-            return None;
+            return;
         }
         self.waits = None;
         match &event.outcome {
             Outcome::Begun(number) => {
                 give_up(rows, self.session, &self.running);
                 self.running = Some(RunningTxn::begin(alloc, *number, before));
-                None
             }
             Outcome::Rows { writes, .. } => {
                 run_in(
+                    alloc,
                     rows,
                     self.session,
                     &mut self.running,
@@ -116,36 +114,21 @@ impl SessionState {
                     kept,
                     writes,
                 );
-                None
             }
             Outcome::Waits { .. } => {
                 self.waits = kept.take();
-                None
             }
             Outcome::Committed => {
                 install(rows, self.session, &self.running, before);
-                written_of(self.running.take())
+                self.running = None;
             }
             other => {
                 if is_over(other) {
                     give_up(rows, self.session, &self.running);
                     self.running = None;
-                    None
-                } else {
-                    None
                 }
             }
         }
-    }
-}
-
-/// The rows that an active transaction, if there is one, has written; it is given up.
-fn written_of(running: Option<RunningTxn>) -> Option<Vec<RowName>>
-    ensures { option_map (λ rows. rows.items) result ≡ option_map (λ r. r.written.items) running }
-{
-    match running {
-        Some(running) => Some(running.written),
-        None => None,
     }
 }
 
@@ -158,7 +141,7 @@ impl RunningTxn {
             number,
             before,
             operations: 0,
-            statements: Vec::new(alloc),
+            statements: StatementsRun::new(alloc),
             written: Vec::new(alloc),
         }
     }
@@ -180,6 +163,7 @@ impl RunningTxn {
     /// Goes on by an operation of its session, of whose statement this is kept, and so do the rows.
     fn run(
         &mut self,
+        alloc: Global,
         rows: &mut RowStates,
         session: Session,
         kept: Option<Statement>,
@@ -201,35 +185,32 @@ impl RunningTxn {
         };
         rows.note_new(session, writes, &mut self.written);
         rows.hold_each(session, name, writes);
-        keep(&mut self.statements, kept);
+        keep(alloc, &mut self.statements, kept);
     }
 }
 
 /// Makes room for one more statement, if it is kept. NoMemory where an allocation was refused.
-fn reserve_one(statements: &mut Vec<Statement>, keeps: bool) -> Result<(), NoMemory>
+fn reserve_one(statements: &mut StatementsRun, keeps: bool) -> Result<(), NoMemory>
     ensures items { statements.new.items ≡ statements.old.items }
-    ensures place { OnOk result (keeps ≡ true → length statements.new.items + 1 ≤ vec_capacity statements.new) }
+    ensures place { OnOk result (keeps ≡ true → length statements.new.items + 1 ≤ statements.new.places) }
 {
-    if keeps {
-        statements.try_reserve(1)
-    } else {
-        Ok(())
-    }
+    if keeps { statements.reserve() } else { Ok(()) }
 }
 
 /// Puts a statement, if there is one, behind others.
-fn keep(statements: &mut Vec<Statement>, kept: Option<Statement>)
-    requires { is_some kept ≡ true → length statements.old.items + 1 ≤ vec_capacity statements.old }
+fn keep(alloc: Global, statements: &mut StatementsRun, kept: Option<Statement>)
+    requires { is_some kept ≡ true → length statements.old.items + 1 ≤ statements.old.places }
     ensures { statements.new.items ≡ statements.old.items ++ option_to_list kept }
 {
     if let Some(statement) = kept {
-        statements.push_reserved(statement);
+        statements.add(alloc, statement);
     }
 }
 
 /// An active transaction, if there is one, goes on by an operation of its session, and so do the rows. What is kept of
 /// its statement is taken.
 fn run_in(
+    alloc: Global,
     rows: &mut RowStates,
     session: Session,
     running: &mut Option<RunningTxn>,
@@ -250,7 +231,7 @@ fn run_in(
         return;
     };
     if let Some(running) = running {
-        running.run(rows, session, kept.take(), writes);
+        running.run(alloc, rows, session, kept.take(), writes);
     }
 }
 

@@ -4,24 +4,21 @@ ghost use Rattle.std.specs.Prelude.{◌≡◌, ◌<◌, ◌≤◌, ◌+◌, ℕ,
 ghost use Rattle.std.specs.Prelude as list;
 ghost use Rattle.std.specs.List.{list_all};
 ghost use Rattle.std.specs.Option.{is_none};
-ghost use Rattle.std.specs.Vec.{vec_capacity};
 ghost use Rattle.lab_engine.specs.declared.event.Level.{Level as Kind};
 ghost use Rattle.lab_engine.specs.declared.event.Level.TheVariants.{Committed as ReadCommitted};
 ghost use Rattle.lab_engine.specs.Limits.{max_events};
 ghost use Rattle.lab_engine.specs.Log.{Past, past_of, active, waiting, begun_after};
 ghost use Rattle.lab_engine.specs.EventQuery.{is_ending};
-ghost use Rattle.lab_engine.specs.KeptCommits.{AreInstalled, commits_by};
 ghost use Rattle.lab_engine.specs.WaitsFor.{waits_for};
-ghost use Rattle.lab_engine.specs.Situation.{Describes, DescribesAll, DescribesRows, HoldsOutcome, HasPlaces, all_sessions, keeps_commits, keeps_statements, kept_of, running_of, waiting_of};
+ghost use Rattle.lab_engine.specs.Situation.{Describes, DescribesAll, DescribesRows, HoldsOutcome, HasPlaces, all_sessions, keeps_statements, kept_of, running_of, waiting_of};
 
-use crate::committed_rows::{CommittedRows, keep_commit};
 use crate::event::{LogEvent, Outcome};
 use crate::kept_statement::kept_copy;
 use crate::row_states::RowStates;
 use crate::session_state::{RunningTxn, SessionState};
 use crate::wait_graph::WaitGraph;
 use lab_history::Writes;
-use lab_table::{NoMemory, RowName, Session, Statement};
+use lab_table::{NoMemory, Session, Statement};
 use std::alloc::Global;
 
 /// Where a log leaves its sessions and rows.
@@ -31,8 +28,6 @@ pub struct Situation {
     pub sessions: [SessionState; 9],
     /// The versions of the rows, installed and pending.
     pub rows: RowStates,
-    /// What each commit installed, in order, where the level asks for it.
-    pub commits: Vec<CommittedRows>,
     /// For each session those that block the statement that it waits with.
     pub(crate) waits: WaitGraph,
     /// How many transactions have begun.
@@ -46,19 +41,17 @@ impl Situation {
     pub(crate) fn new(alloc: Global) -> Situation
         ensures is { (level : Kind) → Describes level [] result }
         ensures waits { (session other : ℕ) → waits_for result.waits session other ≡ false }
-        ensures commits { result.commits.items ≡ [] }
     {
         Situation {
             sessions: idle_sessions(),
             rows: RowStates::new(alloc),
-            commits: Vec::new(alloc),
             waits: WaitGraph::none(),
             begun: 0,
             events: 0,
         }
     }
 
-    /// Where these events leave sessions and rows, the oldest first; of who waits for whom and of commits it keeps nothing.
+    /// Where these events leave sessions and rows, the oldest first; of who waits for whom it keeps nothing.
     /// NoMemory where an allocation was refused.
     pub(crate) fn after(alloc: Global, log: &[LogEvent]) -> Result<Situation, NoMemory>
         requires { length log.now ≤ max_events }
@@ -67,7 +60,7 @@ impl Situation {
         let mut situation = Situation::new(alloc);
         for event in log {
             let mut kept = situation.reserve(alloc, event, false)?;
-            situation.take_in(alloc, event, &mut kept, false);
+            situation.take_in(alloc, event, &mut kept);
         }
         Ok(situation)
     }
@@ -95,7 +88,6 @@ impl Situation {
     }
 
     /// Whether a statement of a session waits.
-    #[tactic(auto, using(crate::proofs::Describing::some_made))]
     pub fn is_waiting(&self, session: Session) -> bool
         ensures { (level : Kind) (past : Past) → Describes level past self.now → result ≡ is_some (waiting past session) }
     {
@@ -120,7 +112,6 @@ impl Situation {
         requires { (level : Kind) × (past : Past) × Describes level past self.old }
         ensures same { (level : Kind) (past : Past) → Describes level past self.old → Describes level past self.new }
         ensures waits { self.new.waits ≡ self.old.waits }
-        ensures commits { self.new.commits ≡ self.old.commits }
         ensures copy { IfOk result (λ kept. kept ≡ kept_of keeps event.now.command event.now.outcome) }
         ensures room { IfOk result (λ kept. HoldsOutcome (is_some kept) event.now.outcome (running_of self.new.sessions event.now.session) self.new.rows) }
         ensures err { OnErr result (is_ending event.now.outcome ≡ false) }
@@ -135,7 +126,6 @@ impl Situation {
         requires { (level : Kind) × (past : Past) × Describes level past self.old }
         ensures same { (level : Kind) (past : Past) → Describes level past self.old → Describes level past self.new }
         ensures waits { self.new.waits ≡ self.old.waits }
-        ensures commits { self.new.commits ≡ self.old.commits }
         ensures room { OnOk result (HoldsOutcome keeps event.now.outcome (running_of self.new.sessions event.now.session) self.new.rows) }
         ensures err { OnErr result (is_ending event.now.outcome ≡ false) }
     {
@@ -149,24 +139,15 @@ impl Situation {
     }
 
     /// Goes on by one event, for which there is room, and of whose statement this is kept, but for who waits for whom.
-    /// What a commit installed is kept if `keeps`. It takes no memory.
-    pub(crate) fn take_in(
-        &mut self,
-        alloc: Global,
-        event: &LogEvent,
-        kept: &mut Option<Statement>,
-        keeps: bool,
-    )
+    /// It can't fail: only the index of the statements may take memory.
+    pub(crate) fn take_in(&mut self, alloc: Global, event: &LogEvent, kept: &mut Option<Statement>)
         requires few { (level : Kind) × (past : Past) × Describes level past self.old × (length past < max_events) }
         requires room { HoldsOutcome (is_some kept.old) event.now.outcome (running_of self.old.sessions event.now.session) self.old.rows }
-        requires commits { keeps ≡ true → length self.old.commits.items + commits_by event.now.outcome ≤ vec_capacity self.old.commits }
         ensures waits { self.new.waits ≡ self.old.waits }
-        ensures capacity { vec_capacity self.new.commits ≡ vec_capacity self.old.commits }
-        ensures count { length self.new.commits.items ≤ length self.old.commits.items + commits_by event.now.outcome }
         ensures is { (level : Kind) (past : Past) → kept.old ≡ kept_of (keeps_statements level) event.now.command event.now.outcome
-            → keeps ≡ keeps_commits level → Describes level past self.old → Describes level (event.now ∷ past) self.new }
+            → Describes level past self.old → Describes level (event.now ∷ past) self.new }
     {
-        let installed = advance_session(
+        advance_session(
             alloc,
             &mut self.sessions,
             &mut self.rows,
@@ -174,7 +155,6 @@ impl Situation {
             kept,
             self.events,
         );
-        keep_commit(&mut self.commits, keeps, self.events, installed);
         self.begun = begun_next(&event.outcome, self.begun);
         self.events += 1;
     }
@@ -246,8 +226,7 @@ fn reserve_places(
     states[session.place()].reserve(keeps, writes)
 }
 
-/// Goes on by one event in its session and in the rows, with so many events before it. The answer is the rows that its
-/// commit installs, if it is one.
+/// Goes on by one event in its session and in the rows, with so many events before it.
 fn advance_session(
     alloc: Global,
     states: &mut [SessionState; 9],
@@ -255,7 +234,7 @@ fn advance_session(
     event: &LogEvent,
     kept: &mut Option<Statement>,
     before: usize,
-) -> Option<Vec<RowName>>
+)
     requires sessions { list.map (λ state. state.session) states.old ≡ all_sessions }
     requires few { (level : Kind) × (past : Past) × DescribesAll level past states.old × (length past < max_events) }
     requires room { HoldsOutcome (is_some kept.old) event.now.outcome (running_of states.old event.now.session) rows.old }
@@ -263,10 +242,8 @@ fn advance_session(
     ensures sessions { list.map (λ state. state.session) states.new ≡ all_sessions }
     ensures goes_on { (level : Kind) (past : Past) → kept.old ≡ kept_of (keeps_statements level) event.now.command event.now.outcome → before ≡ length past
         → DescribesAll level past states.old → DescribesRows past rows.old → DescribesAll level (event.now ∷ past) states.new × DescribesRows (event.now ∷ past) rows.new }
-    ensures installed { (level : Kind) (past : Past) → DescribesAll level past states.old
-        → AreInstalled event.now.outcome (active past event.now.session) (option_map (λ rows. rows.items) result) }
 {
-    states[event.session.place()].take_in(alloc, rows, event, kept, before)
+    states[event.session.place()].take_in(alloc, rows, event, kept, before);
 }
 
 fn begun_next(outcome: &Outcome, begun: u32) -> u32

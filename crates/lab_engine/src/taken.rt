@@ -13,8 +13,8 @@ use crate::row_states::RowStates;
 use crate::rules::{Conflict, ConflictKind};
 use lab_table::RowName;
 
-/// Whether a row comes before the one that was found, if one was.
-fn is_before(row: RowName, found: &Option<Conflict>) -> bool
+/// Whether a row comes before that of the conflict that was found, if one was.
+pub fn is_before(row: RowName, found: &Option<Conflict>) -> bool
     ensures { result ≡ comes_before row found.now }
 {
     match found {

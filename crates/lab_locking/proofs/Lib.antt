@@ -1,3 +1,5 @@
 mod HeldMatches
+mod KnownReaders
+mod Runners
 mod RowReaders
 mod Blocking

@@ -3,7 +3,7 @@
 ghost use Rattle.lab_engine.specs.declared.event.Level.TheVariants.{Locking};
 
 use crate::matches::match_holders;
-use crate::reads::readers_in_way;
+use crate::reads::with_readers_in_way;
 use lab_engine::{Asker, Conflict, Journal, Level, Rules, SessionSet};
 use lab_table::Statement;
 
@@ -26,14 +26,9 @@ impl Rules for LockRules {
         true
     }
 
-    fn keeps_commits(&self) -> bool {
-        false
-    }
-
     fn blockers(&self, asker: &Asker, statement: &Statement) -> SessionSet {
-        match_holders(asker, statement)
-            .with(asker.writers_in_way(statement))
-            .with(readers_in_way(asker, statement))
+        let holders = match_holders(asker, statement).with(asker.writers_in_way(statement));
+        with_readers_in_way(asker, holders, statement)
     }
 
     fn conflict(&self, asker: &Asker) -> Option<Conflict> {

@@ -1,6 +1,6 @@
 mod LeastRows
+mod LeastReads
 mod ChangedRows
 mod ReadConflicts
 mod FirstReads
 mod Decided
-mod LastReads

@@ -5,12 +5,17 @@ use Rattle.std.specs.Option.{option_or}
 use Rattle.lab_table.specs.Row.{Row}
 use Rattle.lab_table.specs.Table.{State}
 use Rattle.lab_table.specs.Statement.{matches}
-use Rattle.lab_table.specs.declared.statement.Statement.{Statement}
+use Rattle.lab_engine.specs.declared.asker.Asker.{Asker}
 use Rattle.lab_engine.specs.declared.row_state.Installed.{Installed}
+use Rattle.lab_engine.specs.Situation.{statements_of}
 
--- whether one of some statements matches a row in one of two states
-abbrev pub any_reads : List Statement → Row → State → State → Bool
-any_reads statements row old new = list_any (λ s. matches s row old || matches s row new) statements
+-- whether the asker's transaction has run a statement that matches a row in a state
+abbrev pub has_read : Asker → Row → State → Bool
+has_read asker row state = list_any (λ s. matches s row state) (statements_of asker.running.now)
+
+-- whether it has run one that matches the row in one of two states
+abbrev pub has_read_either : Asker → Row → State → State → Bool
+has_read_either asker row old new = has_read asker row old || has_read asker row new
 
 -- the state in which the newest left the row, else that at the start
 abbrev pub state_of : State → List Installed → State

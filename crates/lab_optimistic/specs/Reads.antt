@@ -1,60 +1,58 @@
 -- Which rows that a transaction has read were changed by others since its begin.
-use Rattle.std.specs.Prelude.{◌≡◌, ◌==◌, ◌&&◌, ℕ, Bool, true, false, reverse, cond, is_some, Option, Some, None, List, [], ◌∷◌}
+use Rattle.std.specs.Prelude.{◌≡◌, ℕ, Bool, true, cond, Option, Some, None, List, [], ◌∷◌}
 use Rattle.std.specs.List.{list_any}
 use Rattle.std.specs.Ordering.{is_lt}
 use Rattle.std.specs.FinMap as map
-use Rattle.lab_table.specs.Row.{Row, row_cmp, row_eq}
+use Rattle.lab_table.specs.Row.{Row, row_cmp}
+use Rattle.lab_table.specs.Statement.{may_match}
 use Rattle.lab_table.specs.Table.{Table}
 use Rattle.lab_table.specs.declared.statement.Statement.{Statement}
 use Rattle.lab_engine.specs.declared.asker.Asker.{Asker}
 use Rattle.lab_engine.specs.declared.row_state.Installed.{Installed}
 use Rattle.lab_engine.specs.declared.rules.Conflict.{Conflict}
 use Rattle.lab_engine.specs.declared.rules.ConflictKind.TheVariants.{Read}
-use Rattle.lab_engine.specs.KeptCommits.{commits_since, kept_rows}
+use Rattle.lab_engine.specs.Kept.{Kept}
 use Rattle.lab_engine.specs.KeptRows.{chain_in}
 use Rattle.lab_engine.specs.Log.{Past, Txn, commits}
 use Rattle.lab_engine.specs.Rules.{IsBelow, ConflictsRead, ReadsStand}
-use Rattle.lab_optimistic.specs.Changes.{any_reads, first_change}
+use Rattle.lab_engine.specs.Taken.{comes_before}
+use Rattle.lab_optimistic.specs.Changes.{first_change, has_read_either}
 
--- who was the first since the begin of the asker's transaction to install a row that one of some statements matches before or then
-abbrev pub change_at : Asker → List Statement → Row → Option ℕ
-change_at asker statements row = first_change (any_reads statements row) (map.get asker.setup.now row) asker.running.now.before (chain_in asker.situation.now.rows row)
+-- who was the first since the begin of the asker's transaction to change a row of this chain that the transaction has read
+abbrev pub change_of : Asker → Row → List Installed → Option ℕ
+change_of asker row chain = first_change (has_read_either asker row) (map.get asker.setup.now row) asker.running.now.before chain
 
--- whether somebody did, of one statement
-abbrev pub changes_at : Asker → Statement → Row → Bool
-changes_at asker s row = is_some (change_at asker (s ∷ []) row)
+-- the same by the row's chain
+abbrev pub change_at : Asker → Row → Option ℕ
+change_at asker row = change_of asker row (chain_in asker.situation.now.rows row)
 
--- whether the newest install of a chain has this place
-abbrev pub ends_at : ℕ → List Installed → Bool
-ends_at place [] = false
-ends_at place (i ∷ older) = i.place == place
+-- the conflict of a row with who changed it, if somebody did, else another
+abbrev pub conflict_at : Row → Option ℕ → Option Conflict → Option Conflict
+conflict_at row None other = other
+conflict_at row (Some by) other = Some (record { kind = Read; row = row; by = by })
 
--- whether a commit with so many events before it was the last to install a row
-abbrev pub is_last : Asker → ℕ → Row → Bool
-is_last asker place row = ends_at place (chain_in asker.situation.now.rows row)
+-- the conflict of a row that comes before the one that was found, if it has one, else what was found
+abbrev pub nearer : Asker → Row → Option Conflict → Option Conflict
+nearer asker row found = cond (comes_before row found) (conflict_at row (change_at asker row) found) found
 
--- whether a row is this one, which such a commit was the last to install, and a statement reads a change of it
-abbrev pub is_last_read : Asker → Statement → ℕ → Row → Row → Bool
-is_last_read asker s place last row = row_eq row last && (is_last asker place last && changes_at asker s last)
+-- the conflict of the first of some rows that has one
+abbrev pub first_in : Asker → List (Row × Kept) → Option Conflict
+first_in asker [] = None
+first_in asker (e ∷ es) = conflict_at e.0 (change_of asker e.0 e.1.chain) (first_in asker es)
 
--- whether a row is one of those of a commit
-abbrev pub reads_in : Asker → Statement → ℕ × List Row → Row → Bool
-reads_in asker s commit row = list_any (λ last. is_last_read asker s commit.0 last row) commit.1
+-- the conflict at the least row of those that pass a test; none where no such row has one
+abbrev pub IsLeastOf : Asker → (Row → Bool) → Option Conflict → Type 0
+IsLeastOf asker passes None = (row : Row) → passes row ≡ true → change_at asker row ≡ None
+IsLeastOf asker passes (Some least) = (least.kind ≡ Read) × (change_at asker least.row ≡ Some least.by)
+    × ((row : Row) → IsBelow row least.row → passes row ≡ true → change_at asker row ≡ None)
 
--- whether it is one of those of the commits since the begin of the asker's transaction
-abbrev pub reads_since : Asker → Statement → Row → Bool
-reads_since asker s row = list_any (λ commit. reads_in asker s commit row) (commits_since asker.running.now.before (reverse (kept_rows asker.situation.now.commits.items)))
+-- whether one of some statements may match a row
+abbrev pub any_may_match : List Statement → Row → Bool
+any_may_match statements row = list_any (λ s. may_match s row) statements
 
--- the least row that passes a test; none where no row does
-abbrev pub IsLeast : (Row → Bool) → Option Row → Type 0
-IsLeast passes None = (row : Row) → passes row ≡ false
-IsLeast passes (Some least) = (passes least ≡ true) × ((row : Row) → IsBelow row least → passes row ≡ false)
-
--- the lower of two rows that may be there
-abbrev pub lesser : Option Row → Option Row → Option Row
-lesser None other = other
-lesser (Some row) None = Some row
-lesser (Some row) (Some another) = cond (is_lt (row_cmp another row)) (Some another) (Some row)
+-- the same of all rows
+abbrev pub IsLeastRead : Asker → Option Conflict → Type 0
+IsLeastRead asker found = IsLeastOf asker (λ _. true) found
 
 -- what a transaction has read stands, or this is the first of its conflicts by what was read
 abbrev pub IsFirstRead : Table → Past → Txn → Option Conflict → Type 0

@@ -1,13 +1,13 @@
-//! Which install of a row changed what statements match.
+//! Which install of a row changed what a transaction's statements match.
 
 ghost use Rattle.std.specs.Prelude.{◌≡◌, reverse};
 ghost use Rattle.std.specs.FinMap as map;
 ghost use Rattle.lab_optimistic.specs.Changes as spec;
 
 use lab_engine::{Asker, Installed};
-use lab_table::{RowName, Statement, TxnNo, Value};
+use lab_table::{RowName, TxnNo, Value};
 
-/// The state in which the last of these installs left a row, else that of the setup.
+/// The state in which the last of these installs left the row, else that of the setup.
 fn last_state(asker: &Asker, row: RowName, installed: &[Installed]) -> Option<Value>
     ensures { result ≡ spec.state_of (map.get asker.now.setup.now row) (reverse installed.now) }
 {
@@ -17,47 +17,44 @@ fn last_state(asker: &Asker, row: RowName, installed: &[Installed]) -> Option<Va
     }
 }
 
-/// Whether one of some statements matches a row in one of two states.
-fn any_reads(statements: &[Statement], row: RowName, old: Option<Value>, new: Option<Value>) -> bool
-    ensures { result ≡ spec.any_reads statements.now row old new }
+/// Whether the asker's transaction has run a statement that matches the row as these installs left it.
+fn has_read_last(asker: &Asker, row: RowName, installed: &[Installed]) -> bool
+    ensures { result ≡ spec.has_read asker.now row (spec.state_of (map.get asker.now.setup.now row) (reverse installed.now)) }
 {
-    statements.iter().any(|statement| statement.matches(row, old) || statement.matches(row, new))
+    let state = last_state(asker, row, installed);
+    asker.running.statements.has_read(row, state)
 }
 
-/// Whether one of some statements matches a row as it was behind older installs, or as it was after one more.
-fn reads_install(
-    asker: &Asker,
-    statements: &[Statement],
-    row: RowName,
-    older: &[Installed],
-    install: &Installed,
-) -> bool
-    ensures { result ≡ spec.any_reads statements.now row (spec.state_of (map.get asker.now.setup.now row) (reverse older.now)) install.now.version.state }
-{
-    let old = last_state(asker, row, older);
-    any_reads(statements, row, old, install.version.state)
-}
-
-/// The transaction that was the first since the begin of the asker's to install a row that one of some statements matches
-/// as it was before, or as it was then. It is found from the newest install on.
-pub fn first_change(
-    asker: &Asker,
-    statements: &[Statement],
-    row: RowName,
-    installed: &[Installed],
-) -> Option<TxnNo>
-    ensures { result ≡ spec.first_change (spec.any_reads statements.now row) (map.get asker.now.setup.now row) asker.now.running.now.before (reverse installed.now) }
+/// The transaction that was the first since the begin of the asker's to install the row where a statement of the asker's
+/// matches it before or then. It goes from the newest install back, and asks for each state once.
+fn first_back(asker: &Asker, row: RowName, installed: &[Installed]) -> Option<TxnNo>
+    ensures { result ≡ spec.first_change (spec.has_read_either asker.now row) (map.get asker.now.setup.now row) asker.now.running.now.before (reverse installed.now) }
 {
     let mut first = None;
     let mut left = installed;
+    let mut after_it = has_read_last(asker, row, left);
     while let Some((last, rest)) = left.split_last() {
         if last.place < asker.running.before {
             return first;
         }
-        if reads_install(asker, statements, row, rest, last) {
+        let before = has_read_last(asker, row, rest);
+        if before || after_it {
             first = Some(last.by);
         }
+        after_it = before;
         left = rest;
     }
     first
+}
+
+/// The transaction that was the first since the begin of the asker's to install the row where a statement of the asker's
+/// matches it before or then.
+pub fn first_change(asker: &Asker, row: RowName, installed: &[Installed]) -> Option<TxnNo>
+    ensures { result ≡ spec.first_change (spec.has_read_either asker.now row) (map.get asker.now.setup.now row) asker.now.running.now.before (reverse installed.now) }
+{
+    let (last, _) = installed.split_last()?;
+    if last.place < asker.running.before {
+        return None;
+    }
+    first_back(asker, row, installed)
 }

@@ -45,10 +45,6 @@ impl Rules for OptimisticRules {
         true
     }
 
-    fn keeps_commits(&self) -> bool {
-        true
-    }
-
     fn blockers(&self, asker: &Asker, statement: &Statement) -> SessionSet {
         SessionSet::none()
     }

@@ -1,147 +1,85 @@
 //! Which rows that a transaction has read others have changed since its begin.
 
-ghost use Rattle.std.specs.Prelude.{◌≡◌, ◌&&◌, true};
-ghost use Rattle.std.specs.List.{list_any};
-ghost use Rattle.lab_table.specs.Row.{Row};
-ghost use Rattle.lab_table.specs.Statement.{may_match};
+ghost use Rattle.std.specs.Prelude.{◌≡◌, true};
+ghost use Rattle.std.specs.BTreeMap.{IsOrdered};
+ghost use Rattle.lab_table.specs.Row.{row_cmp};
 ghost use Rattle.lab_engine.specs.declared.event.Level.{Level as Kind};
 ghost use Rattle.lab_engine.specs.Log.{Past, Txn};
 ghost use Rattle.lab_engine.specs.Asker.{IsAsker};
-ghost use Rattle.lab_engine.specs.Situation.{keeps_commits, keeps_statements};
+ghost use Rattle.lab_engine.specs.Situation.{keeps_statements};
 ghost use Rattle.lab_optimistic.specs.Reads as spec;
-ghost use Rattle.lab_optimistic.specs.Reads.{IsLeast, IsFirstRead};
+ghost use Rattle.lab_optimistic.specs.Reads.{IsFirstRead, IsLeastRead};
 
 use crate::changes::first_change;
-use lab_engine::{Asker, Conflict, ConflictKind};
-use lab_table::{RowName, Statement, TxnNo};
-use std::slice;
+use lab_engine::{Asker, Conflict, ConflictKind, RowState, is_before};
+use lab_table::{RowName, TxnNo};
+use std::collections::BTreeMap;
 
-/// Who was the first since the begin of the asker's transaction to install a row that one of some statements matches
-/// before or then.
-fn change_at(asker: &Asker, statements: &[Statement], row: RowName) -> Option<TxnNo>
-    ensures { result ≡ spec.change_at asker.now statements.now row }
+/// The transaction that was the first since the begin of the asker's to change a row that the asker's has read.
+fn change_at(asker: &Asker, row: RowName) -> Option<TxnNo>
+    ensures { result ≡ spec.change_at asker.now row }
 {
     match asker.situation.rows.get(row) {
-        Some(kept) => first_change(asker, statements, row, kept.installed()),
+        Some(kept) => first_change(asker, row, kept.installed()),
         None => None,
     }
 }
 
-/// Whether somebody did.
-fn changes_at(asker: &Asker, statement: &Statement, row: RowName) -> bool
-    ensures { result ≡ spec.changes_at asker.now statement.now row }
+/// The conflict at this row, if there is one and the row comes before the one that was found, if one was; else the one
+/// that was found.
+fn nearer(asker: &Asker, row: RowName, found: Option<Conflict>) -> Option<Conflict>
+    ensures { result ≡ spec.nearer asker.now row found }
 {
-    change_at(asker, slice::from_ref(statement), row).is_some()
-}
-
-/// This row, if the asker's statement reads a change of it.
-fn named_read(asker: &Asker, statement: &Statement, row: RowName) -> Option<RowName>
-    requires { (other : Row) → may_match statement.now other ≡ true → other ≡ row }
-    ensures { IsLeast (spec.changes_at asker.now statement.now) result }
-{
-    if changes_at(asker, statement, row) {
-        Some(row)
-    } else {
-        None
+    if !is_before(row, &found) {
+        return found;
+    }
+    match change_at(asker, row) {
+        Some(by) => Some(Conflict {
+            kind: ConflictKind::Read,
+            row,
+            by,
+        }),
+        None => found,
     }
 }
 
-/// The lower of two rows that may be there.
-fn lesser(one: Option<RowName>, other: Option<RowName>) -> Option<RowName>
-    ensures { result ≡ spec.lesser one other }
+/// The conflict at the first of some rows that the asker's transaction has read and that another has changed since its
+/// begin.
+fn first_of(asker: &Asker, rows: &BTreeMap<RowName, RowState>) -> Option<Conflict>
+    ensures ordered { IsOrdered row_cmp rows.now }
+    ensures first { result ≡ spec.first_in asker.now rows.now.entries }
 {
-    let Some(row) = one else {
-        return other;
-    };
-    let Some(another) = other else {
-        return Some(row);
-    };
-    if another < row {
-        Some(another)
-    } else {
-        Some(row)
-    }
-}
-
-/// Whether a commit with so many events before it was the last to install a row.
-fn is_last(asker: &Asker, row: RowName, place: usize) -> bool
-    ensures { result ≡ spec.is_last asker.now place row }
-{
-    match asker.situation.rows.get(row) {
-        Some(kept) => match kept.installed().split_last() {
-            Some((last, _)) => last.place == place,
-            None => false,
-        },
-        None => false,
-    }
-}
-
-/// Whether such a commit was, and the asker's statement reads a change of the row.
-fn reads_last(asker: &Asker, statement: &Statement, place: usize, row: RowName) -> bool
-    ensures { result ≡ (spec.is_last asker.now place row && spec.changes_at asker.now statement.now row) }
-{
-    is_last(asker, row, place) && changes_at(asker, statement, row)
-}
-
-/// This row, if so.
-fn last_read(asker: &Asker, statement: &Statement, place: usize, row: RowName) -> Option<RowName>
-    ensures { IsLeast (spec.is_last_read asker.now statement.now place row) result }
-{
-    if reads_last(asker, statement, place, row) {
-        Some(row)
-    } else {
-        None
-    }
-}
-
-/// The least of these rows that a commit with so many events before it was the last to install and of which the asker's
-/// statement reads a change.
-fn read_of(asker: &Asker, statement: &Statement, place: usize, rows: &[RowName]) -> Option<RowName>
-    ensures { IsLeast (λ row. list_any (λ r. spec.is_last_read asker.now statement.now place r row) rows.now) result }
-{
-    let mut least = None;
-    for row in rows {
-        least = lesser(least, last_read(asker, statement, place, *row));
-    }
-    least
-}
-
-/// The least row that was installed since the begin of the asker's transaction of which its statement reads a change. Each
-/// row is looked at once, at the commit that was the last to install it.
-fn any_read(asker: &Asker, statement: &Statement) -> Option<RowName>
-    ensures { IsLeast (spec.reads_since asker.now statement.now) result }
-{
-    let mut least = None;
-    let mut left = asker.situation.commits.as_slice();
-    while let Some((commit, older)) = left.split_last() {
-        if commit.place < asker.running.before {
-            return least;
+    for (row, kept) in rows {
+        if let Some(by) = first_change(asker, *row, kept.installed()) {
+            return Some(Conflict {
+                kind: ConflictKind::Read,
+                row: *row,
+                by,
+            });
         }
-        least = lesser(least, read_of(asker, statement, commit.place, &commit.rows));
-        left = older;
     }
-    least
+    None
 }
 
-/// The least row of which a statement reads a change since the begin of the asker's transaction. Where the statement names
-/// a row, only that is looked up.
-fn least_read(asker: &Asker, statement: &Statement) -> Option<RowName>
-    ensures { (level : Kind) (past : Past) (txn : Txn) → keeps_commits level ≡ true → IsAsker level past txn asker.now → IsLeast (spec.changes_at asker.now statement.now) result }
+/// The conflict at the least row that the asker's transaction has read and that another has changed since its begin. Each
+/// row that a transaction has written is looked at.
+fn least_written(asker: &Asker) -> Option<Conflict>
+    ensures { IsLeastRead asker.now result }
 {
-    match statement.named_row() {
-        Some(row) => named_read(asker, statement, row),
-        None => any_read(asker, statement),
-    }
+    first_of(asker, asker.situation.rows.by_row())
 }
 
-/// The least row of which one of some statements reads a change.
-fn least_of(asker: &Asker, statements: &[Statement]) -> Option<RowName>
-    ensures { (level : Kind) (past : Past) (txn : Txn) → keeps_commits level ≡ true → IsAsker level past txn asker.now
-        → IsLeast (λ row. list_any (λ s. spec.changes_at asker.now s row) statements.now) result }
+/// The conflict at the least row that the asker's transaction has read and that another has changed since its begin. Where
+/// each statement of the transaction names a row, only those rows are looked up.
+fn least_read(asker: &Asker) -> Option<Conflict>
+    ensures { IsLeastRead asker.now result }
 {
     let mut least = None;
-    for statement in statements {
-        least = lesser(least, least_read(asker, statement));
+    for statement in asker.running.statements.statements() {
+        let Some(row) = statement.named_row() else {
+            return least_written(asker);
+        };
+        least = nearer(asker, row, least);
     }
     least
 }
@@ -149,18 +87,8 @@ fn least_of(asker: &Asker, statements: &[Statement]) -> Option<RowName>
 /// The least row at which another transaction was the first since the begin of the asker's to change what that has read;
 /// None where what it has read stands.
 pub fn first_read(asker: &Asker) -> Option<Conflict>
-    ensures { (level : Kind) (past : Past) (txn : Txn) → keeps_statements level ≡ true → keeps_commits level ≡ true → IsAsker level past txn asker.now
+    ensures { (level : Kind) (past : Past) (txn : Txn) → keeps_statements level ≡ true → IsAsker level past txn asker.now
         → IsFirstRead asker.now.setup.now past txn result }
 {
-    let Some(row) = least_of(asker, &asker.running.statements) else {
-        return None;
-    };
-    match change_at(asker, &asker.running.statements, row) {
-        Some(by) => Some(Conflict {
-            kind: ConflictKind::Read,
-            row,
-            by,
-        }),
-        None => None,
-    }
+    least_read(asker)
 }

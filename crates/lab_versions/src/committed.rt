@@ -25,10 +25,6 @@ impl Rules for CommittedRules {
         false
     }
 
-    fn keeps_commits(&self) -> bool {
-        false
-    }
-
     fn blockers(&self, asker: &Asker, statement: &Statement) -> SessionSet {
         asker.writers_in_way(statement)
     }

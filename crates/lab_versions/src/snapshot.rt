@@ -25,10 +25,6 @@ impl Rules for SnapshotRules {
         false
     }
 
-    fn keeps_commits(&self) -> bool {
-        false
-    }
-
     fn blockers(&self, asker: &Asker, statement: &Statement) -> SessionSet {
         SessionSet::none()
     }

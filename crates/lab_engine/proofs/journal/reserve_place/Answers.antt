@@ -1,4 +1,4 @@
-use Rattle.lab_engine.{proofs.{Common.{arith, length-reverse, on_ok_weaker, past_of, sym, ◌∙◌, ◌∷◌}, EndPlaces.{fewer_active, few_active}, KeptCommits.{room_after, room_after_end}}, specs.Sessions.{all_sessions}}
+use Rattle.lab_engine.{proofs.{Common.{arith, length-reverse, on_ok_weaker, past_of, sym, ◌∙◌, ◌∷◌}, EndPlaces.{fewer_active, few_active}}, specs.Sessions.{all_sessions}}
 use Rattle.lab_engine.proofs.journal.reserve_place.Goals as goal
 
 pub returns-then-ends_transaction-clause-next : goal.returns-then-ends_transaction-clause-next
@@ -7,19 +7,8 @@ returns-then-ends_transaction-clause-next c =
     let fewer = fewer_active (past_of c.args.log.now.items) c.args.event.now ending all_sessions (c.requires.session ending) (c.requires.active ending) in
     omega (arith, fewer, c.requires.places)
 
-pub returns-then-ends_transaction-clause-next_commits : goal.returns-then-ends_transaction-clause-next_commits
-returns-then-ends_transaction-clause-next_commits c keeps =
-    let ending = sym c.ends_transaction.ensures ∙ c.if-ends_transaction.true in
-    room_after_end (past_of c.args.log.now.items) c.args.event.now _ _ ending (c.requires.session ending) (c.requires.active ending) (c.requires.commits keeps)
-
 pub returns-clause-next : goal.returns-clause-next
 returns-clause-next c =
     let few = few_active (c.args.event.now ∷ past_of c.args.log.now.items) all_sessions in
     let same = length-reverse c.args.log.now.items in
     on_ok_weaker c.try_reserve.result (λ room. omega (arith, few, same, room)) c.try_reserve.ensures.ok
-
-pub returns-clause-next_commits : goal.returns-clause-next_commits
-returns-clause-next_commits c =
-    on_ok_weaker c.try_reserve.result
-    (λ _ keeps. room_after (past_of c.args.log.now.items) c.args.event.now _ _ (sym c.ends_transaction.ensures ∙ c.if-ends_transaction.false) (c.in_ok-reserve_commits.ensures.room keeps))
-    c.try_reserve.ensures.ok

@@ -1,4 +1,4 @@
-use Rattle.lab_engine.proofs.{Common.{ap, DescribesSession, HasRoom, HoldsOutcome, is_some, refl, subst, sym, ◌∙◌}, EventBounds.{has_room}, States.{described_there, kept_there, number, sessions_stay, states_go_on}}
+use Rattle.lab_engine.proofs.{Common.{ap, DescribesSession, HasRoom, HoldsOutcome, is_some, refl, subst, sym, ◌∙◌}, EventBounds.{has_room}, States.{described_there, kept_there, sessions_stay, states_go_on}}
 use Rattle.lab_engine.proofs.situation.advance_session.Goals as goal
 
 pub take_in-requires-clause-few : goal.take_in-requires-clause-few
@@ -24,12 +24,3 @@ returns-clause-goes_on c = λ level past kept at all rows.
     states_go_on c.args.states.now c.args.event.now.session c.place.result c.index-states-place.result c.requires.sessions c.place.ensures.low c.place.ensures.high c.place.ensures.value c.index-states-place.is
     c.take_in.new.self (c.take_in.ensures.session ∙ sym (ap (λ s. s.session) c.index-states-place.is)) level past c.args.event.now refl all
     (λ d own. c.take_in.ensures.goes_on level past kept (own ∙ ap (λ s. s.session) c.index-states-place.is) at (subst (λ s. DescribesSession level past s) c.index-states-place.is d, rows))
-
-pub returns-clause-installed : goal.returns-clause-installed
-returns-clause-installed c = λ level past all.
-    c.take_in.ensures.installed level past
-    (sym (number c.args.states.now c.args.event.now.session c.place.result c.index-states-place.result c.requires.sessions c.place.ensures.low c.place.ensures.high c.place.ensures.value c.index-states-place.is)
-    ∙ ap (λ s. s.session) c.index-states-place.is)
-    (subst (λ s. DescribesSession level past s) c.index-states-place.is
-    (described_there c.args.states.now c.args.event.now.session c.place.result c.index-states-place.result c.requires.sessions c.place.ensures.low c.place.ensures.high c.place.ensures.value c.index-states-place.is
-    level past all))

@@ -1,4 +1,4 @@
-use Rattle.lab_engine.{proofs.{Common.{active, Agree, ap, AreInstalled, AreWritten, keeps_statements, kept_of, None, option_map, Outcome, refl, Row, subst, sym, true≢false, ◌∙◌}, KeptCommits.{none_installed, rows_written}, SessionStates.{abandons, follows}}, specs.EventQuery.{busy}}
+use Rattle.lab_engine.proofs.{Common.{Agree, ap, keeps_statements, kept_of, None, Outcome, refl, Row, subst, sym, ◌∙◌}, SessionStates.{abandons, follows}}
 use Rattle.lab_engine.proofs.session_state.SessionState.take_in.Goals as goal
 
 pub returns-in-Begun-clause-goes_on : goal.returns-in-Begun-clause-goes_on
@@ -18,7 +18,7 @@ pub returns-in-Committed-clause-goes_on : goal.returns-in-Committed-clause-goes_
 returns-in-Committed-clause-goes_on c level past kept own at is =
     let had = λ (row : Row). is.1.pending row c.args.self.now.session in
     follows past c.args.event.now c.args.self.now c.args.rows.now c.args.before own at is _ _ _ _ c.in-Committed.is
-    (refl, subst (Agree level None) (sym c.take-in-Committed.ensures.after) tt, c.install.ensures.chain level _ is.0.running had, c.install.ensures.pending level _ is.0.running had)
+    (refl, tt, c.install.ensures.chain level _ is.0.running had, c.install.ensures.pending level _ is.0.running had)
 
 pub returns-then-is_over-clause-goes_on : goal.returns-then-is_over-clause-goes_on
 returns-then-is_over-clause-goes_on c level past kept own at is =
@@ -26,19 +26,3 @@ returns-then-is_over-clause-goes_on c level past kept own at is =
     follows past c.args.event.now c.args.self.now c.args.rows.now c.args.before own at is _ _ _ _ refl
     (abandons past c.args.event.now c.args.self.now c.args.rows.now c.args.before own at is given_up.new.rows c.args.event.now.outcome (sym c.is_over.ensures ∙ c.if-is_over.true)
     c.in_default.not-Committed given_up.ensures.chain (given_up.ensures.pending level _ is.0.running (λ row. is.1.pending row c.args.self.now.session)))
-
-pub returns-then-is_busy-clause-installed : goal.returns-then-is_busy-clause-installed
-returns-then-is_busy-clause-installed c level past own is = none_installed c.args.event.now.outcome _ (λ same. true≢false (sym c.if-is_busy.true ∙ c.is_busy.ensures ∙ ap busy same))
-
-pub returns-in-Committed-clause-installed : goal.returns-in-Committed-clause-installed
-returns-in-Committed-clause-installed c level past own is =
-    let rows = rows_written level (active past c.args.self.now.session) c.args.self.now.running is.running in
-    let same = c.written_of.ensures ∙ ap (option_map (λ r. r.written.items)) c.take-in-Committed.ensures.value in
-    subst (λ o. AreInstalled o (active past c.args.event.now.session) (option_map (λ rows. rows.items) c.written_of.result)) (sym c.in-Committed.is)
-    (subst (λ n. AreWritten (active past n) (option_map (λ rows. rows.items) c.written_of.result)) (sym own) (subst (AreWritten (active past c.args.self.now.session)) (sym same) rows))
-
-pub returns-then-is_over-clause-installed : goal.returns-then-is_over-clause-installed
-returns-then-is_over-clause-installed c level past own is = none_installed c.args.event.now.outcome _ c.in_default.not-Committed
-
-pub returns-else-is_over-clause-installed : goal.returns-else-is_over-clause-installed
-returns-else-is_over-clause-installed c level past own is = none_installed c.args.event.now.outcome _ c.in_default.not-Committed

@@ -16,4 +16,4 @@ pub loop-event-preserved : goal.loop-event-preserved
 loop-event-preserved c =
     let past = past_of (take c.loop-event.event-index c.args.log.now) in
     subst (λ past. Describes ReadCommitted past c.take_in.new.self) (sym (front_more c.args.log.now c.loop-event.event-index c.event-item.result c.loop-event-test.true c.event-item.is))
-    (c.take_in.ensures.is ReadCommitted past c.in_ok-kept.ensures.copy refl (c.reserve.ensures.same ReadCommitted past c.loop-event.invariant))
+    (c.take_in.ensures.is ReadCommitted past c.in_ok-kept.ensures.copy (c.reserve.ensures.same ReadCommitted past c.loop-event.invariant))

@@ -6,12 +6,12 @@ reserve_places-requires c = c.requires.2.sessions
 
 pub returns-in_err-reserve_places-in-Rows-clause-same : goal.returns-in_err-reserve_places-in-Rows-clause-same
 returns-in_err-reserve_places-in-Rows-clause-same c level past is =
-    same_log past c.args.self.now _ is c.reserve_places.ensures.sessions (c.reserve_places.ensures.same level past is.states) is.rows refl refl refl
+    same_log past c.args.self.now _ is c.reserve_places.ensures.sessions (c.reserve_places.ensures.same level past is.states) is.rows refl refl
 
 pub returns-in_ok-reserve_places-in-Rows-clause-same : goal.returns-in_ok-reserve_places-in-Rows-clause-same
 returns-in_ok-reserve_places-in-Rows-clause-same c level past is =
     same_log past c.args.self.now _ is c.reserve_places.ensures.sessions (c.reserve_places.ensures.same level past is.states)
-    (same_rows past c.args.self.now.rows c.reserve_each.new.self c.reserve_each.ensures.same is.rows) refl refl refl
+    (same_rows past c.args.self.now.rows c.reserve_each.new.self c.reserve_each.ensures.same is.rows) refl refl
 
 pub returns-in_ok-reserve_places-in-Rows-clause-room : goal.returns-in_ok-reserve_places-in-Rows-clause-room
 returns-in_ok-reserve_places-in-Rows-clause-room c =

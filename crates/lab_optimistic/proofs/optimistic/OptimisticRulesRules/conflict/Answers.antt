@@ -7,4 +7,4 @@ pub returns : goal.returns
 returns c = λ past txn asks.
     let setup = c.args.asker.now.setup.now in
     subst (IsDecided setup past txn) (sym c.earlier.ensures)
-    (decided setup past txn c.first_taken.result c.first_read.result (c.first_taken.ensures Optimistic past txn asks) (c.first_read.ensures Optimistic past txn refl refl asks))
+    (decided setup past txn c.first_taken.result c.first_read.result (c.first_taken.ensures Optimistic past txn asks) (c.first_read.ensures Optimistic past txn refl asks))

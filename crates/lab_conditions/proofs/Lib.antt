@@ -1,0 +1,6 @@
+pub mod Ors
+pub mod Sides
+pub mod Sets
+pub mod Pairs
+pub mod More
+pub mod Tables

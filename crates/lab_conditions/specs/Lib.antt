@@ -1,0 +1,3 @@
+pub mod Column
+pub mod Conditions
+pub mod Index
