@@ -1,5 +1,5 @@
 -- Answers that are ready are those that a statement gives.
-use Rattle.std.{proofs.{Common.{◌≡◌, ℕ, ℤ, Bool, true, false, ◌&&◌, Some, Option, List, [], map, sym, ap, ◌∙◌, subst}, lemmas.{Bool.{false≢true}, Option.{slice_get-map, same_Some}}}, specs.Prelude.{is_some, slice_get, option_map}}
+use Rattle.std.{proofs.{Common.{◌≡◌, ℕ, ℤ, Bool, true, false, ◌&&◌, Some, Option, List, [], map, sym, ap, ◌∙◌, subst}, lemmas.{Bool.{false≢true}, Option.{slice_get-map, same_Some, IfSome_then}}}, specs.Prelude.{is_some, slice_get, option_map, IfSome}}
 use Rattle.lab_table.specs.{Row.{Row, is_in, in_own_table}, TableName.{table_name_eq}, Predicate.{Predicate, holds}, Statement.{matches, picks}, declared.statement.Statement.{Statement}}
 use Rattle.lab_deps.specs.Asked.{AreAsked}
 
@@ -36,3 +36,23 @@ module _ (s : Statement) (p : Predicate) (condition : (row : Row) (value : ℤ) 
     of_rows = λ k row other value answer own same there answered.
       condition row value own ∙ (ap (λ i. holds p i value) (sym same) ∙ mapped_there (λ e. holds p e.0.id e.1) rows by_row are k (other, value) answer there answered);
   }
+
+module _ (s t : Statement) (values : List ℤ) (by_value : List Bool) (rows : List (Row × ℤ)) (by_row : List Bool) (are : AreAsked s values by_value rows by_row) (same : s ≡ t) (row : Row) (value : ℤ) (own : row.table ≡ t.table) where
+  of_own : row.table ≡ s.table
+  of_own = own ∙ sym (ap (λ (u : Statement). u.table) same)
+
+  pub row_answer : (bs : List Bool) → bs ≡ by_row → (k : ℕ) (found : Option Bool)
+      → IfSome found (λ answer. (other : Row) × (slice_get rows k ≡ Some (other, value)) × (other.id ≡ row.id) × (slice_get bs k ≡ Some answer))
+      → IfSome found (λ answer. matches t row (Some value) ≡ answer)
+  row_answer bs items k found is =
+      IfSome_then found is
+      (λ answer (other, there, alike, answered). subst (λ (u : Statement). matches u row (Some value) ≡ answer) same
+      (are.of_rows k row other value answer of_own alike there (subst (λ xs. slice_get xs k ≡ Some answer) items answered)))
+
+  pub value_answer : (bs : List Bool) → bs ≡ by_value → (k : ℕ) (found : Option Bool)
+      → IfSome found (λ answer. (slice_get values k ≡ Some value) × (slice_get bs k ≡ Some answer))
+      → IfSome found (λ answer. matches t row (Some value) ≡ answer)
+  value_answer bs items k found is =
+      IfSome_then found is
+      (λ answer (there, answered). subst (λ (u : Statement). matches u row (Some value) ≡ answer) same
+      (are.of_values k row value answer of_own there (subst (λ xs. slice_get xs k ≡ Some answer) items answered)))

@@ -15,7 +15,7 @@ use std::marker::Model;
 /// A statement, and of which values or rows its condition is true.
 ///
 /// A condition without a test of the id is asked once for each different value, any other once for each version of a row.
-/// A statement without a condition, or whose condition is one comparison, is asked of each version when that is met.
+/// A statement without a condition, or whose condition is short, is asked of each version when that is met.
 #[derive(Drop)]
 pub struct Asked<'a> {
     statement: &'a Statement,
@@ -32,10 +32,13 @@ pub struct Asked<'a> {
 }
 
 impl<'a> Model for Asked<'a> {
+    ghost use Rattle.lab_table.specs.contracts.statement.Statement as stored;
     ghost use Rattle.lab_table.specs.declared.statement.Statement.{Statement};
     ghost use Rattle.lab_deps.specs.Asked.{AreAsked};
 
     ghost Value = { Statement };
+
+    ghost coded = { stored.the_row.coded };
 
     ghost view = { λ a. a.statement.now };
 
@@ -71,7 +74,7 @@ impl<'a> Asked<'a> {
         match condition(statement) {
             None => Ok(Asked::by_version(alloc, statement)),
             Some(pred) => {
-                if is_one_comparison(pred) {
+                if is_short(pred) {
                     Ok(Asked::by_version(alloc, statement))
                 } else if names_id(pred) {
                     Asked::by_row(alloc, statement, pred, listed.between(from, to), from)
@@ -131,6 +134,11 @@ impl<'a> Asked<'a> {
         })
     }
 
+    /// Whether answers are ready.
+    pub fn is_ready(&self) -> bool {
+        !self.by_value.is_empty() || !self.by_row.is_empty()
+    }
+
     /// Whether the statement tests values.
     pub fn tests_values(&self) -> bool
         ensures { result ≡ false → IsBlind self.now }
@@ -146,7 +154,7 @@ impl<'a> Asked<'a> {
         let Some(value) = state else {
             return false;
         };
-        if row.table == self.statement.table {
+        if self.is_ready() && row.table == self.statement.table {
             if let Some(answer) = self.answer(row, value, index) {
                 return answer;
             }
@@ -226,8 +234,16 @@ fn condition(statement: &Statement) -> Option<&Pred>
     }
 }
 
-/// Whether a condition is a comparison, which costs no more than to look for its answer.
-fn is_one_comparison(pred: &Pred) -> bool {
+/// Whether a condition is so short that it costs no more than to look for its answer: a comparison, or two that are joined.
+fn is_short(pred: &Pred) -> bool {
+    match &pred.kind {
+        PredKind::Compare { .. } => true,
+        PredKind::And(p, q) | PredKind::Or(p, q) => is_comparison(p) && is_comparison(q),
+        PredKind::Remainder { .. } | PredKind::OneOf { .. } | PredKind::Not(_) => false,
+    }
+}
+
+fn is_comparison(pred: &Pred) -> bool {
     match &pred.kind {
         PredKind::Compare { .. } => true,
         PredKind::Remainder { .. }

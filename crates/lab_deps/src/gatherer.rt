@@ -88,7 +88,12 @@ impl Gatherer {
         ensures { OnOk result (Grows (where_fits (FitsVersions versions.now.items) (λ g made es. Tells g.arrows.places.items g.arrows.width g.arrows.cells.items made es)) self.old self.new (walked statement.now (unlisted reading) versions.now)) }
     {
         match versions.turns(&mut self.answers, statement, reading.row)? {
-            None => self.take_walk(statement, reading, versions),
+            None => {
+                if statement.is_ready() {
+                    return self.take_walk(statement, reading, versions);
+                }
+                reading.unlisted().add_edges(self, statement, versions)
+            }
             Some(kept) => {
                 let reader = self.arrows.place(reading.txn);
                 if !self.arrows.reaches(reader, kept.turns.most) {
