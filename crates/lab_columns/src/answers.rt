@@ -1,75 +1,106 @@
-//! Answers about 64 numbers of a column, and what joins them.
+//! Answers about 64 rows, and what joins them.
 
-ghost use Rattle.std.specs.Prelude.{◌≡◌, ◌<◌, ◌&&◌, ◌||◌, ℕ, pos, not, true, false, get_or, int_lt, int_rem};
-ghost use Rattle.std.specs.List.{list_any};
-ghost use Rattle.std.specs.Ordering.{int_eq};
+ghost use Rattle.std.specs.Prelude.{◌≡◌, ◌<◌, ◌&&◌, ◌||◌, ℕ, true, false, not, length, get_or};
+ghost use Rattle.lab_columns.specs.Answers.{answer_at};
 
-use lab_table::{Modulus, Value};
-
-/// True of each row.
-pub fn all() -> [bool; 64]
-    ensures { (k : ℕ) → k < 64 → get_or result k false ≡ true }
-{
-    [true; 64]
+/// A yes or a no for each of 64 rows.
+#[derive(Drop)]
+pub enum Answers {
+    /// No for each.
+    Never,
+    /// Yes for each.
+    Always,
+    /// The answers one by one.
+    Each([bool; 64]),
 }
 
-/// Whether each number of a column is this one.
-pub fn equal(column: &[i32; 64], number: i32) -> [bool; 64]
-    ensures { (k : ℕ) → k < 64 → get_or result k false ≡ int_eq (get_or column.now k (pos 0)) number }
-{
-    let mut answers = [false; 64];
-    for place in 0..64 {
-        answers[place] = column[place] == number;
+impl Answers {
+    /// The same answer for each.
+    pub fn same(answer: bool) -> Answers
+        ensures { (k : ℕ) → answer_at result k ≡ answer }
+    {
+        if answer {
+            Answers::Always
+        } else {
+            Answers::Never
+        }
     }
-    answers
-}
 
-/// Whether each number of a column is less than this one.
-pub fn less(column: &[i32; 64], number: i32) -> [bool; 64]
-    ensures { (k : ℕ) → k < 64 → get_or result k false ≡ int_lt (get_or column.now k (pos 0)) number }
-{
-    let mut answers = [false; 64];
-    for place in 0..64 {
-        answers[place] = column[place] < number;
+    /// The answers one by one.
+    pub fn each(self) -> [bool; 64]
+        ensures length { length result ≡ 64 }
+        ensures at { (k : ℕ) → k < 64 → get_or result k false ≡ answer_at self k }
+    {
+        match self {
+            Answers::Never => [false; 64],
+            Answers::Always => [true; 64],
+            Answers::Each(each) => each,
+        }
     }
-    answers
-}
 
-/// Whether each number of a column is greater than this one.
-pub fn greater(column: &[i32; 64], number: i32) -> [bool; 64]
-    ensures { (k : ℕ) → k < 64 → get_or result k false ≡ int_lt number (get_or column.now k (pos 0)) }
-{
-    let mut answers = [false; 64];
-    for place in 0..64 {
-        answers[place] = number < column[place];
+    /// Whether it is yes for each without a look at them one by one.
+    pub fn is_always(&self) -> bool
+        ensures { result ≡ true → (k : ℕ) → answer_at self.now k ≡ true }
+    {
+        match self {
+            Answers::Always => true,
+            Answers::Never | Answers::Each(_) => false,
+        }
     }
-    answers
-}
 
-/// Whether each number of a column divided by the modulus leaves this rest.
-pub fn leaving(column: &[i32; 64], modulus: Modulus, rest: Value) -> [bool; 64]
-    ensures { (k : ℕ) → k < 64 → get_or result k false ≡ int_eq (int_rem (get_or column.now k (pos 0)) (pos modulus)) rest }
-{
-    let mut answers = [false; 64];
-    for place in 0..64 {
-        answers[place] = leaves(i64::from(column[place]), modulus, rest);
+    /// Whether it is no for each without a look at them one by one.
+    pub fn is_never(&self) -> bool
+        ensures { result ≡ true → (k : ℕ) → answer_at self.now k ≡ false }
+    {
+        match self {
+            Answers::Never => true,
+            Answers::Always | Answers::Each(_) => false,
+        }
     }
-    answers
-}
-
-/// Whether each number of a column is one of these.
-pub fn among(column: &[i32; 64], numbers: &[Value]) -> [bool; 64]
-    ensures { (k : ℕ) → k < 64 → get_or result k false ≡ list_any (int_eq (get_or column.now k (pos 0))) numbers.now }
-{
-    let mut answers = [false; 64];
-    for place in 0..64 {
-        answers[place] = contains(numbers, i64::from(column[place]));
-    }
-    answers
 }
 
 /// Where the answer is no.
-pub fn negated(answers: &[bool; 64]) -> [bool; 64]
+pub fn negated(answers: Answers) -> Answers
+    ensures { (k : ℕ) → k < 64 → answer_at result k ≡ not (answer_at answers k) }
+{
+    match answers {
+        Answers::Never => Answers::Always,
+        Answers::Always => Answers::Never,
+        Answers::Each(each) => Answers::Each(each_negated(&each)),
+    }
+}
+
+/// Where both answers are yes.
+pub fn both(answers: Answers, others: Answers) -> Answers
+    ensures { (k : ℕ) → k < 64 → answer_at result k ≡ (answer_at answers k && answer_at others k) }
+{
+    match answers {
+        Answers::Never => Answers::Never,
+        Answers::Always => others,
+        Answers::Each(each) => match others {
+            Answers::Never => Answers::Never,
+            Answers::Always => Answers::Each(each),
+            Answers::Each(other) => Answers::Each(each_both(&each, &other)),
+        },
+    }
+}
+
+/// Where at least one of the answers is yes.
+pub fn either(answers: Answers, others: Answers) -> Answers
+    ensures { (k : ℕ) → k < 64 → answer_at result k ≡ (answer_at answers k || answer_at others k) }
+{
+    match answers {
+        Answers::Never => others,
+        Answers::Always => Answers::Always,
+        Answers::Each(each) => match others {
+            Answers::Never => Answers::Each(each),
+            Answers::Always => Answers::Always,
+            Answers::Each(other) => Answers::Each(each_either(&each, &other)),
+        },
+    }
+}
+
+fn each_negated(answers: &[bool; 64]) -> [bool; 64]
     ensures { (k : ℕ) → k < 64 → get_or result k false ≡ not (get_or answers.now k false) }
 {
     let mut negated = [false; 64];
@@ -79,9 +110,8 @@ pub fn negated(answers: &[bool; 64]) -> [bool; 64]
     negated
 }
 
-/// Where both answers are yes.
 // Both are read before they are joined, so that many are joined at once.
-pub fn both(answers: &[bool; 64], others: &[bool; 64]) -> [bool; 64]
+fn each_both(answers: &[bool; 64], others: &[bool; 64]) -> [bool; 64]
     ensures { (k : ℕ) → k < 64 → get_or result k false ≡ (get_or answers.now k false && get_or others.now k false) }
 {
     let mut both = [false; 64];
@@ -93,8 +123,7 @@ pub fn both(answers: &[bool; 64], others: &[bool; 64]) -> [bool; 64]
     both
 }
 
-/// Where at least one of the answers is yes.
-pub fn either(answers: &[bool; 64], others: &[bool; 64]) -> [bool; 64]
+fn each_either(answers: &[bool; 64], others: &[bool; 64]) -> [bool; 64]
     ensures { (k : ℕ) → k < 64 → get_or result k false ≡ (get_or answers.now k false || get_or others.now k false) }
 {
     let mut any = [false; 64];
@@ -104,18 +133,4 @@ pub fn either(answers: &[bool; 64], others: &[bool; 64]) -> [bool; 64]
         any[place] = answer || other;
     }
     any
-}
-
-/// Whether a number is one of these.
-fn contains(numbers: &[Value], number: i64) -> bool
-    ensures { result ≡ list_any (int_eq number) numbers.now }
-{
-    numbers.iter().any(|item| item.number() == number)
-}
-
-/// Whether a number divided by the modulus leaves this rest, which has the sign of the number.
-fn leaves(number: i64, modulus: Modulus, rest: Value) -> bool
-    ensures { result ≡ int_eq (int_rem number (pos modulus)) rest }
-{
-    number % i64::from(modulus.number()) == rest.number()
 }

@@ -1,41 +1,131 @@
-//! Columns of up to 64 rows.
+//! Blocks of 64 numbers, with the least and the greatest of them.
 
-ghost use Rattle.std.specs.Prelude.{◌≡◌, ◌<◌, ◌≤◌, ℕ, ℤ, pos, length, get_or};
+ghost use Rattle.std.specs.Prelude.{◌≡◌, ◌<◌, ◌≤◌, ℕ, ℤ, pos, true, length, int_le, get_or};
 ghost use Rattle.lab_table.specs.Row.{Row};
-ghost use Rattle.lab_table.specs.Predicate.{column};
+ghost use Rattle.lab_columns.specs.Bounds.{IsBounded};
 
-use lab_table::{Col, RowName, Value};
+use lab_table::{RowName, Value};
 
-/// The numbers and the values of up to 64 rows, side by side.
+/// 64 numbers of a column.
 #[derive(Drop)]
 pub struct Block {
-    pub ids: [i32; 64],
-    pub values: [i32; 64],
+    pub numbers: [i32; 64],
+    /// No number is less.
+    pub least: i32,
+    /// No number is greater.
+    pub greatest: i32,
 }
 
 impl Block {
-    /// That of these rows with their values. Behind the last one are zeros.
-    pub fn of(rows: &[(RowName, Value)]) -> Block
-        requires { length rows.now ≤ 64 }
-        ensures ids { (k : ℕ) (d : Row × ℤ) → k < length rows.now → get_or result.ids k (pos 0) ≡ pos (get_or rows.now k d).0.id }
-        ensures values { (k : ℕ) (d : Row × ℤ) → k < length rows.now → get_or result.values k (pos 0) ≡ (get_or rows.now k d).1 }
+    /// The block of these numbers.
+    pub fn of(numbers: [i32; 64]) -> Block
+        ensures numbers { result.numbers ≡ numbers }
+        ensures bounded { IsBounded result }
     {
-        let mut ids = [0; 64];
-        let mut values = [0; 64];
-        for (place, row) in rows.iter().enumerate() {
-            ids[place] = row.0.id.number() as i32;
-            values[place] = row.1.number() as i32;
+        let least = least(&numbers);
+        let greatest = greatest(&numbers);
+        Block {
+            numbers,
+            least,
+            greatest,
         }
-        Block { ids, values }
     }
 
-    /// What its rows have in a column.
-    pub fn column(&self, col: Col) -> &[i32; 64]
-        ensures { (k id : ℕ) → get_or self.now.ids k (pos 0) ≡ pos id → get_or result.now k (pos 0) ≡ column col id (get_or self.now.values k (pos 0)) }
+    /// The ids of up to 64 rows. The first one stands after the last too.
+    pub fn of_ids(rows: &[(RowName, Value)]) -> Block
+        requires { length rows.now ≤ 64 }
+        ensures numbers { (k : ℕ) (d : Row × ℤ) → k < length rows.now → get_or result.numbers k (pos 0) ≡ pos (get_or rows.now k d).0.id }
+        ensures bounded { IsBounded result }
     {
-        match col {
-            Col::Id => &self.ids,
-            Col::Value => &self.values,
+        let mut numbers = [first_id(rows); 64];
+        for (place, row) in rows.iter().enumerate() {
+            numbers[place] = row.0.id.number() as i32;
         }
+        Block::of(numbers)
     }
+
+    /// The values of up to 64 rows. The first one stands after the last too.
+    pub fn of_values(rows: &[(RowName, Value)]) -> Block
+        requires { length rows.now ≤ 64 }
+        ensures numbers { (k : ℕ) (d : Row × ℤ) → k < length rows.now → get_or result.numbers k (pos 0) ≡ (get_or rows.now k d).1 }
+        ensures bounded { IsBounded result }
+    {
+        let mut numbers = [first_value(rows); 64];
+        for (place, row) in rows.iter().enumerate() {
+            numbers[place] = row.1.number() as i32;
+        }
+        Block::of(numbers)
+    }
+
+    /// Up to 64 numbers of a list. The first one stands after the last too.
+    pub fn of_list(values: &[Value]) -> Block
+        requires { length values.now ≤ 64 }
+        ensures numbers { (k : ℕ) (d : ℤ) → k < length values.now → get_or result.numbers k (pos 0) ≡ get_or values.now k d }
+        ensures bounded { IsBounded result }
+    {
+        let mut numbers = [first_of(values); 64];
+        for (place, value) in values.iter().enumerate() {
+            numbers[place] = value.number() as i32;
+        }
+        Block::of(numbers)
+    }
+}
+
+fn first_id(rows: &[(RowName, Value)]) -> i32 {
+    match rows.first() {
+        None => 0,
+        Some(row) => row.0.id.number() as i32,
+    }
+}
+
+fn first_value(rows: &[(RowName, Value)]) -> i32 {
+    match rows.first() {
+        None => 0,
+        Some(row) => row.1.number() as i32,
+    }
+}
+
+fn first_of(values: &[Value]) -> i32 {
+    match values.first() {
+        None => 0,
+        Some(value) => value.number() as i32,
+    }
+}
+
+/// The least of 64 numbers.
+fn least(numbers: &[i32; 64]) -> i32
+    ensures { (k : ℕ) → k < 64 → int_le result (get_or numbers.now k (pos 0)) ≡ true }
+{
+    let mut least = numbers[0];
+    for place in 0..64 {
+        least = lesser(least, numbers[place]);
+    }
+    least
+}
+
+/// The greatest of 64 numbers.
+fn greatest(numbers: &[i32; 64]) -> i32
+    ensures { (k : ℕ) → k < 64 → int_le (get_or numbers.now k (pos 0)) result ≡ true }
+{
+    let mut greatest = numbers[0];
+    for place in 0..64 {
+        greatest = greater(greatest, numbers[place]);
+    }
+    greatest
+}
+
+#[inline(always)]
+fn lesser(a: i32, b: i32) -> i32
+    ensures first { int_le result a ≡ true }
+    ensures second { int_le result b ≡ true }
+{
+    if b < a { b } else { a }
+}
+
+#[inline(always)]
+fn greater(a: i32, b: i32) -> i32
+    ensures first { int_le a result ≡ true }
+    ensures second { int_le b result ≡ true }
+{
+    if a < b { b } else { a }
 }

@@ -1,65 +1,124 @@
-//! Conditions that are asked of a block of rows.
+//! Conditions that are asked of 64 rows at a time.
 
 ghost use Rattle.std.specs.Prelude.{◌≡◌, ◌<◌, ◌≤◌, ℕ, ℤ, pos, false, Some, length, get_or};
 ghost use Rattle.lab_table.specs.Row.{Row};
-ghost use Rattle.lab_table.specs.Predicate.{compares, holds};
+ghost use Rattle.lab_table.specs.Predicate.{compares, column, holds};
 ghost use Rattle.lab_table.specs.Statement.{matches, where_holds};
+ghost use Rattle.lab_columns.specs.Answers.{answer_at};
+ghost use Rattle.lab_columns.specs.Bounds.{IsBounded};
 
-use crate::answers::{all, among, both, either, equal, greater, leaving, less, negated};
+use crate::answers::{Answers, both, either, negated};
 use crate::block::Block;
-use lab_table::{Cmp, Pred, PredKind, RowName, Statement, StatementKind, Value};
+use crate::comparisons::{among, equal, greater, leaving, less};
+use lab_table::{Cmp, Col, Pred, PredKind, RowName, Statement, StatementKind, Value};
+
+/// The ids and the values of 64 rows, side by side.
+#[derive(Drop)]
+pub struct Rows {
+    pub ids: Block,
+    pub values: Block,
+}
+
+impl Rows {
+    /// That of up to 64 rows.
+    pub fn of(rows: &[(RowName, Value)]) -> Rows
+        requires { length rows.now ≤ 64 }
+        ensures ids { (k : ℕ) (d : Row × ℤ) → k < length rows.now → get_or result.ids.numbers k (pos 0) ≡ pos (get_or rows.now k d).0.id }
+        ensures values { (k : ℕ) (d : Row × ℤ) → k < length rows.now → get_or result.values.numbers k (pos 0) ≡ (get_or rows.now k d).1 }
+        ensures bounded_ids { IsBounded result.ids }
+        ensures bounded_values { IsBounded result.values }
+    {
+        Rows {
+            ids: Block::of_ids(rows),
+            values: Block::of_values(rows),
+        }
+    }
+
+    /// What the rows have in a column.
+    fn column(&self, col: Col) -> &Block
+        requires ids { IsBounded self.now.ids }
+        requires values { IsBounded self.now.values }
+        ensures bounded { IsBounded result.now }
+        ensures numbers { (k id : ℕ) → get_or self.now.ids.numbers k (pos 0) ≡ pos id → get_or result.now.numbers k (pos 0) ≡ column col id (get_or self.now.values.numbers k (pos 0)) }
+    {
+        match col {
+            Col::Id => &self.ids,
+            Col::Value => &self.values,
+        }
+    }
+}
 
 /// Whether each of up to 64 rows, which are there with these values, may match a statement: false only where one doesn't.
 // A row's table isn't looked at, so rows of other tables may seem to match.
-pub fn may_match_each(statement: &Statement, rows: &[(RowName, Value)]) -> [bool; 64]
+pub fn may_match_each(statement: &Statement, rows: &[(RowName, Value)]) -> Answers
     requires { length rows.now ≤ 64 }
-    ensures { (k : ℕ) (d : Row × ℤ) → k < length rows.now → get_or result k false ≡ false → matches statement.now (get_or rows.now k d).0 (Some (get_or rows.now k d).1) ≡ false }
+    ensures { (k : ℕ) (d : Row × ℤ) → k < length rows.now → answer_at result k ≡ false → matches statement.now (get_or rows.now k d).0 (Some (get_or rows.now k d).1) ≡ false }
 {
     match &statement.kind {
         StatementKind::Select { pred } => where_holds_each(pred, rows),
         StatementKind::Update { pred, .. } => where_holds_each(pred, rows),
-        StatementKind::Insert { .. } => all(),
+        StatementKind::Insert { .. } => Answers::Always,
         StatementKind::Delete { pred } => where_holds_each(pred, rows),
     }
 }
 
 /// Whether what stands behind `where` is true of each of these rows, whatever their tables.
-fn where_holds_each(pred: &Option<Pred>, rows: &[(RowName, Value)]) -> [bool; 64]
+fn where_holds_each(pred: &Option<Pred>, rows: &[(RowName, Value)]) -> Answers
     requires { length rows.now ≤ 64 }
-    ensures { (k : ℕ) (d : Row × ℤ) → k < length rows.now → get_or result k false ≡ where_holds pred.now (get_or rows.now k d).0.id (get_or rows.now k d).1 }
+    ensures { (k : ℕ) (d : Row × ℤ) → k < length rows.now → answer_at result k ≡ where_holds pred.now (get_or rows.now k d).0.id (get_or rows.now k d).1 }
 {
     match pred {
-        None => all(),
-        Some(pred) => holds_each(pred, &Block::of(rows)),
+        None => Answers::Always,
+        Some(pred) => holds_each(pred, &Rows::of(rows)),
     }
 }
 
-/// Whether the condition is true of each row of a block.
-fn holds_each(pred: &Pred, block: &Block) -> [bool; 64]
-    ensures { (k id : ℕ) → k < 64 → get_or block.now.ids k (pos 0) ≡ pos id → get_or result k false ≡ holds pred.now id (get_or block.now.values k (pos 0)) }
+/// Whether the condition is true of each row.
+///
+/// The second of two conditions is asked first: where many are joined, it is one test.
+#[tactic(auto, using(crate::proofs::ManyAnswers::never_both, crate::proofs::ManyAnswers::always_either))]
+pub fn holds_each(pred: &Pred, rows: &Rows) -> Answers
+    requires ids { IsBounded rows.now.ids }
+    requires values { IsBounded rows.now.values }
+    ensures { (k id : ℕ) → k < 64 → get_or rows.now.ids.numbers k (pos 0) ≡ pos id → answer_at result k ≡ holds pred.now id (get_or rows.now.values.numbers k (pos 0)) }
 {
     match &pred.kind {
         PredKind::Compare { col, cmp, number } => {
-            compared(block.column(*col), *cmp, number.number() as i32)
+            compared(rows.column(*col), *cmp, number.number() as i32)
         }
-        PredKind::Remainder { col, modulus, rest } => leaving(block.column(*col), *modulus, *rest),
-        PredKind::OneOf { col, numbers } => among(block.column(*col), numbers.as_slice()),
-        PredKind::Not(p) => negated(&holds_each(p, block)),
-        PredKind::And(p, q) => both(&holds_each(p, block), &holds_each(q, block)),
-        PredKind::Or(p, q) => either(&holds_each(p, block), &holds_each(q, block)),
+        PredKind::Remainder { col, modulus, rest } => leaving(rows.column(*col), *modulus, *rest),
+        PredKind::OneOf { col, numbers } => among(rows.column(*col), numbers.as_slice()),
+        PredKind::Not(p) => negated(holds_each(p, rows)),
+        PredKind::And(p, q) => {
+            let second = holds_each(q, rows);
+            if second.is_never() {
+                second
+            } else {
+                both(holds_each(p, rows), second)
+            }
+        }
+        PredKind::Or(p, q) => {
+            let second = holds_each(q, rows);
+            if second.is_always() {
+                second
+            } else {
+                either(holds_each(p, rows), second)
+            }
+        }
     }
 }
 
-/// How each number of a column compares with a number.
-fn compared(column: &[i32; 64], cmp: Cmp, number: i32) -> [bool; 64]
-    ensures { (k : ℕ) → k < 64 → get_or result k false ≡ compares cmp (get_or column.now k (pos 0)) number }
+/// How each number of a block compares with a number.
+fn compared(block: &Block, cmp: Cmp, number: i32) -> Answers
+    requires { IsBounded block.now }
+    ensures { (k : ℕ) → k < 64 → answer_at result k ≡ compares cmp (get_or block.now.numbers k (pos 0)) number }
 {
     match cmp {
-        Cmp::Eq => equal(column, number),
-        Cmp::Ne => negated(&equal(column, number)),
-        Cmp::Lt => less(column, number),
-        Cmp::Le => negated(&greater(column, number)),
-        Cmp::Gt => greater(column, number),
-        Cmp::Ge => negated(&less(column, number)),
+        Cmp::Eq => equal(block, number),
+        Cmp::Ne => negated(equal(block, number)),
+        Cmp::Lt => less(block, number),
+        Cmp::Le => negated(greater(block, number)),
+        Cmp::Gt => greater(block, number),
+        Cmp::Ge => negated(less(block, number)),
     }
 }

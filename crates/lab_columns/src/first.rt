@@ -39,7 +39,7 @@ fn first_of_block<F: Fn(RowName, Value) -> bool>(
     requires callable { F.IsAlwaysCallable test.now }
     ensures { (passes : Row → ℤ → Bool) → ((row : Row) (value : ℤ) (b : Bool) → F.post test.now row value b → b ≡ passes row value) → ((row : Row) (value : ℤ) → matches statement.now row (Some value) ≡ false → passes row value ≡ false) → result ≡ option_map (λ e. e.0) (find (λ e. passes e.0 e.1) rows.now) }
 {
-    let may_match = may_match_each(statement, rows);
+    let may_match = may_match_each(statement, rows).each();
     for (place, row) in rows.iter().enumerate() {
         if may_match[place] && test(row.0, row.1) {
             return Some(row.0);

@@ -9,7 +9,10 @@
 
 mod answers;
 mod block;
+mod comparisons;
 mod condition;
 mod first;
+mod many;
 
 pub use first::first_matching;
+pub use many::{answers_for_rows, answers_for_values, names_id};

@@ -1,7 +1,7 @@
 -- Cells that are marked by the versions at which a row turns tell of what a reader has to do with them.
 use Rattle.std.{proofs.{Common.{◌≡◌, ◌≢◌, ◌≤◌, ◌<◌, ◌+◌, ◌*◌, ℕ, zero, suc, Bool, true, false, cond, List, [], ◌∷◌, ◌++◌, get_or, set, map, take, refl, sym, ap, ◌∙◌, subst, append_assoc, arith, inl, inr}, lemmas.{Bool.{lt-ltb, le-ltb}, List.{append-nil, take_all, drop_all}, Nat.{same_from_place}}}, specs.Prelude.{Contains, bit_or}}
 use Rattle.lab_table.{specs.{Statement.{matches}, Table.{State}, declared.statement.Statement.{Statement}}, proofs.Members.{first_member, later_member}}
-use Rattle.lab_deps.specs.{Collected.{apart, read_by, passed_by}, Edges.{differ}, EdgesByRow.{Chain, edges_by, walk, unlisted, walked}, KindBits.{bit, place, cell_at, Tells}, Marks.{or_at, marked, turns_marked}, Numbering.{FitsVersions}, Turns.{states, turned, TurnsFor}}
+use Rattle.lab_deps.specs.{Collected.{apart, read_by, passed_by}, Edges.{differ}, EdgesByRow.{Chain, edges_by, walk, unlisted, walked}, KindBits.{bit, place, cell_at, Tells}, Marks.{or_at, marked, turns_marked}, Numbering.{FitsVersions}, Turns.{states, asked, turned, AreInstallers, TurnsFor}}
 use Rattle.lab_deps.specs.declared.{edge.{Edge.{Edge}, Kind.{Kind, TheVariants.{PredicateRead, PredicateAnti}}}, reading.Reading.{Reading}, turns.Turns.{Turns}, versions.Version.{Version}}
 use Rattle.lab_deps.proofs.{NumberedStates.{no_difference, differ_alike}, ToldKinds.{told_apart, told_off}}
 
@@ -96,18 +96,23 @@ module _ (ps : List ℕ) (w : ℕ) (made : List ℕ) (s : Statement) (r : Readin
         let same : differ b now ≡ false = sym (differ_alike a b now) ∙ (ap (λ c. differ c (differ a now)) first ∙ class) in
         ap (λ c. edges_by (unlisted r) q v.installer c ++ walk s (unlisted r) now (q + 1) vs) same ∙ none_change vs now (q + 1) class (λ c has. all c (later_member (differ a now) (classes vs) c has))
 
-  pub told_turns : (c : Chain) (t : Turns) → TurnsFor s r.row c t → FitsVersions c.items ps → (cs : List ℕ) (es : List Edge) → Tells ps w cs made es
-      → Tells ps w (turns_marked w reader r.place t.installers.items cs) made (es ++ walked s (unlisted r) c)
-  told_turns c t turn fits cs es told =
+  -- and what is marked by installers, by those of a row's turns
+  pub told_installers : (c : Chain) (ns : List ℕ) → AreInstallers false (asked f c.before (states c.items)) c.items ns → FitsVersions c.items ps → (cs : List ℕ) (es : List Edge) → Tells ps w cs made es
+      → Tells ps w (turns_marked w reader r.place ns cs) made (es ++ walked s (unlisted r) c)
+  told_installers c ns installers fits cs es told =
       let a : Bool = f c.before in
       let start : differ a a ≡ false = no_difference a a refl in
       let changes : List Edge = walked s (unlisted r) c in
-      elim turn.installers [
-        | inl is ↦ subst (λ ns. Tells ps w (turns_marked w reader r.place ns cs) made (es ++ changes)) (ap (λ b. turned b (classes a c.items) c.items) start ∙ sym is)
+      elim installers [
+        | inl is ↦ subst (λ ms. Tells ps w (turns_marked w reader r.place ms cs) made (es ++ changes)) (ap (λ b. turned b (classes a c.items) c.items) start ∙ sym is)
             (told_ahead a r.place c.items a 0 (omega arith) fits cs es told)
         | inr (none, all) ↦
             let bare : turns_marked w reader r.place [] cs ≡ cs =
-            ap (λ ns. marked (reader * w) 1 16 ns (marked reader w 4 (take r.place []) cs)) (drop_all r.place [] (omega arith)) ∙ ap (λ ns. marked reader w 4 ns cs) (take_all r.place [] (omega arith)) in
-            subst (λ ns. Tells ps w (turns_marked w reader r.place ns cs) made (es ++ changes)) (sym none)
+            ap (λ ms. marked (reader * w) 1 16 ms (marked reader w 4 (take r.place []) cs)) (drop_all r.place [] (omega arith)) ∙ ap (λ ms. marked reader w 4 ms cs) (take_all r.place [] (omega arith)) in
+            subst (λ ms. Tells ps w (turns_marked w reader r.place ms cs) made (es ++ changes)) (sym none)
             (subst (λ xs. Tells ps w xs made (es ++ changes)) (sym bare) (subst (λ xs. Tells ps w cs made (es ++ xs)) (sym (none_change a c.items a 0 start all)) (subst (Tells ps w cs made) (sym (append-nil es)) told)))
       ]
+
+  pub told_turns : (c : Chain) (t : Turns) → TurnsFor s r.row c t → FitsVersions c.items ps → (cs : List ℕ) (es : List Edge) → Tells ps w cs made es
+      → Tells ps w (turns_marked w reader r.place t.installers.items cs) made (es ++ walked s (unlisted r) c)
+  told_turns c t turn = told_installers c t.installers.items turn.installers

@@ -12,7 +12,7 @@ ghost use Rattle.lab_deps.specs.declared.edge.Edge.{Edge as Spelled};
 
 use crate::edge::{Edge, Kind};
 use crate::nodes::{place_in, places_of};
-use crate::turns::Turns;
+use crate::turns::{Turns, mark_beside};
 use lab_table::{NoMemory, TxnNo};
 use std::alloc::Global;
 
@@ -115,6 +115,18 @@ impl Arrows {
     {
         let width = self.width;
         turns.mark(&mut self.cells, width, reader, place);
+    }
+
+    /// The same, with these installers, none of which has a greater place than is said.
+    pub fn mark_installers(&mut self, installers: &[u16], most: u16, reader: u16, place: usize)
+        requires reach { Reaches self.old.width self.old.cells.items reader most }
+        requires most { (k : ℕ) → get_or installers.now k 0 ≤ most }
+        ensures places { self.new.places.items ≡ self.old.places.items }
+        ensures width { self.new.width ≡ self.old.width }
+        ensures cells { self.new.cells.items ≡ turns_marked self.old.width reader place installers.now self.old.cells.items }
+    {
+        let width = self.width;
+        mark_beside(&mut self.cells, width, reader, place, installers);
     }
 
     /// Sets an edge's bit.

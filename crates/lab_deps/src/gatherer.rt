@@ -9,14 +9,18 @@ ghost use Rattle.lab_deps.specs.Scopes.{Allows, edges_in};
 ghost use Rattle.lab_deps.specs.Sinks.{Grows};
 
 use crate::arrows::Arrows;
+use crate::asked::Asked;
 use crate::edge::Edge;
 use crate::reading::Reading;
 use crate::row_sink::RowSink;
 use crate::scope::{Scope, add_edges};
 use crate::sink::EdgeSink;
-use crate::versions::{Versions, versions_of_rows};
+use crate::rows::versions_of_rows;
+use crate::turns::greatest;
+use crate::versions::Versions;
+use crate::walk::turned_along;
 use lab_history::History;
-use lab_table::{NoMemory, Statement, TxnNo};
+use lab_table::{NoMemory, TxnNo};
 use std::alloc::Global;
 
 /// Cells that are told of edges, and for what a statement answers room.
@@ -24,6 +28,8 @@ use std::alloc::Global;
 struct Gatherer {
     arrows: Arrows,
     answers: Vec<bool>,
+    /// For the versions of a row the places of installers.
+    turned: Vec<u16>,
 }
 
 /// The kinds of those dependencies of a history that are meant, between its committed transactions. NoMemory where an
@@ -40,8 +46,11 @@ pub fn arrows_of(
 {
     let arrows = Arrows::none(alloc, numbers)?;
     let rows = versions_of_rows(alloc, history, arrows.places())?;
-    let answers = Vec::new(alloc);
-    let mut gatherer = Gatherer { arrows, answers };
+    let mut gatherer = Gatherer {
+        arrows,
+        answers: Vec::new(alloc),
+        turned: Vec::new(alloc),
+    };
     add_edges(&mut gatherer, history, scope, &rows)?;
     Ok(gatherer.arrows)
 }
@@ -59,7 +68,7 @@ impl EdgeSink for Gatherer {
 impl RowSink for Gatherer {
     fn take_walked(
         &mut self,
-        statement: &Statement,
+        statement: &Asked,
         reading: Reading,
         versions: &Versions,
     ) -> Result<(), NoMemory> {
@@ -72,14 +81,19 @@ impl Gatherer {
     /// Takes all that a reader has to do with a row's versions but for what it lists.
     fn take_unlisted(
         &mut self,
-        statement: &Statement,
+        statement: &Asked,
         reading: Reading,
         versions: &Versions,
     ) -> Result<(), NoMemory>
         ensures { OnOk result (Grows (where_fits (FitsVersions versions.now.items) (λ g made es. Tells g.arrows.places.items g.arrows.width g.arrows.cells.items made es)) self.old self.new (walked statement.now (unlisted reading) versions.now)) }
     {
         match versions.turns(&mut self.answers, statement, reading.row)? {
-            None => reading.unlisted().add_edges(self, statement, versions),
+            None => {
+                if statement.is_ready() {
+                    return self.take_walk(statement, reading, versions);
+                }
+                reading.unlisted().add_edges(self, statement, versions)
+            }
             Some(kept) => {
                 let reader = self.arrows.place(reading.txn);
                 if !self.arrows.reaches(reader, kept.turns.most) {
@@ -89,5 +103,31 @@ impl Gatherer {
                 Ok(())
             }
         }
+    }
+
+    /// The same, where it isn't kept at which versions the row turns.
+    fn take_walk(
+        &mut self,
+        statement: &Asked,
+        reading: Reading,
+        versions: &Versions,
+    ) -> Result<(), NoMemory>
+        ensures { OnOk result (Grows (where_fits (FitsVersions versions.now.items) (λ g made es. Tells g.arrows.places.items g.arrows.width g.arrows.cells.items made es)) self.old self.new (walked statement.now (unlisted reading) versions.now)) }
+    {
+        turned_along(
+            &mut self.turned,
+            statement,
+            reading.row,
+            versions.initial(),
+            versions.first(),
+            versions.as_slice(),
+        )?;
+        let most = greatest(&self.turned);
+        let reader = self.arrows.place(reading.txn);
+        if !self.arrows.reaches(reader, most) {
+            return reading.unlisted().add_edges(self, statement, versions);
+        }
+        self.arrows.mark_installers(&self.turned, most, reader, reading.place);
+        Ok(())
     }
 }

@@ -7,6 +7,7 @@ ghost use Rattle.lab_table.specs.Row.{Row, row_cmp, row_test};
 ghost use Rattle.lab_history.specs.History.{History as Kept};
 ghost use Rattle.lab_deps.specs.EdgesByRow.{looks_at, found_at_row};
 
+use crate::asked::Asked;
 use crate::span::{Span, span_of};
 use crate::versions::Versions;
 use lab_history::Op;
@@ -14,15 +15,22 @@ use lab_table::{RowName, place_of};
 
 /// Whether an operation is found to have nothing to do with a row with these versions, which it lists or doesn't, as is
 /// said: it doesn't, and they don't change whether its statement matches the row, or that may not match it at all.
-pub fn passes_by(op: &Op, row: RowName, listed: bool, versions: &Versions) -> bool
-    requires { listed ≡ is_some (map.get op.now.rows row) }
+pub fn passes_by(
+    op: &Op,
+    asked: &Asked,
+    row: RowName,
+    listed: bool,
+    versions: &Versions,
+) -> bool
+    requires listed { listed ≡ is_some (map.get op.now.rows row) }
+    requires asked { asked.now ≡ op.now.statement }
     ensures nothing { result ≡ true → (h : Kept) (n : ℕ) → found_at_row h n op.now (row, versions.now) ≡ [] }
     ensures looks { result ≡ false → looks_at op.now row ≡ true }
 {
     if listed {
         return false;
     }
-    if versions.is_steady(&op.statement, row) {
+    if versions.is_steady(asked, row) {
         return true;
     }
     !op.statement.may_match(row)

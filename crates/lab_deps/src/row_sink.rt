@@ -1,10 +1,11 @@
 //! What takes all that a reader has to do with a row's versions at once.
 
+use crate::asked::Asked;
 use crate::edge::Edge;
 use crate::reading::Reading;
 use crate::sink::EdgeSink;
 use crate::versions::Versions;
-use lab_table::{NoMemory, Statement};
+use lab_table::NoMemory;
 
 /// A sink of edges that is handed all that a reader has to do with a row's versions at once, since it may need less
 /// than the edges one by one.
@@ -17,7 +18,7 @@ pub trait RowSink: EdgeSink {
     /// Hands it all that a reader has to do with a row's versions; NoMemory where an allocation was refused.
     fn take_walked(
         &mut self,
-        statement: &Statement,
+        statement: &Asked,
         reading: Reading,
         versions: &Versions,
     ) -> Result<(), NoMemory>
@@ -28,7 +29,7 @@ pub trait RowSink: EdgeSink {
 impl RowSink for Vec<Edge> {
     fn take_walked(
         &mut self,
-        statement: &Statement,
+        statement: &Asked,
         reading: Reading,
         versions: &Versions,
     ) -> Result<(), NoMemory> {

@@ -8,11 +8,10 @@ ghost use Rattle.lab_deps.specs.Sinks.{Grows};
 
 use crate::collect::add_edges_of_txns;
 use crate::row_sink::RowSink;
-use crate::versions::Versions;
+use crate::rows::Rows;
 use crate::writes::add_neighbours_of_rows;
-use indexmap::IndexMap;
 use lab_history::History;
-use lab_table::{NoMemory, RowName};
+use lab_table::NoMemory;
 
 /// Which dependencies are meant.
 #[derive(Clone, Copy)]
@@ -28,9 +27,9 @@ pub fn add_edges<S: RowSink>(
     sink: &mut S,
     history: &History,
     scope: Scope,
-    rows: &IndexMap<RowName, Versions>,
+    rows: &Rows,
 ) -> Result<(), NoMemory>
-    requires { rows.now.entries ≡ rows_of history.now }
+    requires { rows.now.versions.entries ≡ rows_of history.now }
     ensures { OnOk result (Grows (where_fits (HasPlaces history.now) S.handed) sink.old sink.new (edges_in scope history.now)) }
 {
     match scope {

@@ -114,14 +114,14 @@ fn answer_at(answers: &[bool], number: usize) -> bool
 }
 
 /// The place of a version's installer, or 0 where it doesn't turn.
-fn installer_if(version: &Version, turns: bool) -> u16
+pub fn installer_if(version: &Version, turns: bool) -> u16
     ensures { result ≡ cond turns version.now.place 0 }
 {
     if turns { version.place } else { 0 }
 }
 
 /// The greatest of some numbers, 0 of none.
-fn greatest(numbers: &[u16]) -> u16
+pub fn greatest(numbers: &[u16]) -> u16
     ensures { (k : ℕ) → get_or numbers.now k 0 ≤ result }
 {
     let mut most = 0;
@@ -153,7 +153,7 @@ fn are_few(installers: &[u16], most: u16) -> bool {
 }
 
 /// Sets the bits between a reader and installers one by one.
-fn mark_beside(cells: &mut [u8], width: u16, reader: u16, place: usize, installers: &[u16])
+pub fn mark_beside(cells: &mut [u8], width: u16, reader: u16, place: usize, installers: &[u16])
     requires row { (k : ℕ) → reader * width + get_or installers.now k 0 * 1 < length cells.old }
     requires column { (k : ℕ) → reader + get_or installers.now k 0 * width < length cells.old }
     ensures { cells.new ≡ turns_marked width reader place installers.now cells.old }

@@ -5,11 +5,12 @@ ghost use Rattle.lab_table.specs.Row.{Row};
 ghost use Rattle.lab_table.specs.Statement.{matches};
 ghost use Rattle.lab_deps.specs.Turns.{alike, asked, Heeds, IsNumber, AreNumbers};
 
+use crate::asked::Asked;
 use crate::effect::is_same;
 use crate::kept::FEWEST;
 use crate::reading::differ;
 use crate::versions::Version;
-use lab_table::{NoMemory, RowName, Statement, Value};
+use lab_table::{NoMemory, RowName, Value};
 use std::alloc::Global;
 
 /// By what the versions of a row are told apart.
@@ -19,6 +20,8 @@ pub struct Values {
     pub exact: bool,
     /// The values beside the one that the row has at first, None for an absent row; one, where only that matters.
     pub others: Vec<Option<Value>>,
+    /// For each of these the place of a version with the value, counted from 1.
+    firsts: Vec<usize>,
 }
 
 /// So many values beside the first one aren't told apart.
@@ -33,15 +36,18 @@ impl Values {
         versions: &[Version],
     ) -> Result<Values, NoMemory> {
         let mut others = Vec::new(alloc);
+        let mut firsts = Vec::new(alloc);
         if versions.len() < FEWEST {
             return Ok(Values {
                 exact: false,
                 others,
+                firsts,
             });
         }
-        for version in versions {
+        for (place, version) in versions.iter().enumerate() {
             if others.len() < MANY && number_of(true, before, &others, &version.value).is_none() {
                 others.push(version.value)?;
+                firsts.push(place.wrapping_add(1))?;
             }
         }
         let exact = others.len() < MANY && 2 * others.len() < versions.len();
@@ -49,7 +55,11 @@ impl Values {
             others.clear();
             others.push(other_presence(*before))?;
         }
-        Ok(Values { exact, others })
+        Ok(Values {
+            exact,
+            others,
+            firsts,
+        })
     }
 
     /// For each of these versions the place of its value among the others, or their count where it is the first one; None
@@ -73,7 +83,7 @@ impl Values {
     }
 
     /// Whether a statement answers the same for all values that aren't told apart.
-    pub fn suit(&self, statement: &Statement) -> bool
+    pub fn suit(&self, statement: &Asked) -> bool
         ensures { result ≡ true → (row : Row) → Heeds self.now.exact (matches statement.now row) }
     {
         if self.exact {
@@ -87,16 +97,20 @@ impl Values {
     pub fn ask(
         &self,
         answers: &mut Vec<bool>,
-        statement: &Statement,
+        statement: &Asked,
         row: RowName,
         before: &Option<Value>,
+        index: usize,
     ) -> Result<(), NoMemory>
         ensures { OnOk result (answers.new.items ≡ asked (matches statement.now row) before.now self.now.others.items) }
     {
         answers.clear();
-        let first = statement.matches(row, *before);
+        let first = statement.matches(row, *before, index);
+        let mut place = 0;
         for value in &self.others {
-            answers.push(differ(first, statement.matches(row, *value)))?;
+            let index = index.wrapping_add(first_at(&self.firsts, place));
+            place = place.wrapping_add(1);
+            answers.push(differ(first, statement.matches(row, *value, index)))?;
         }
         Ok(())
     }
@@ -126,6 +140,10 @@ impl Values {
             (2 * self.others.len()).saturating_add(2)
         }
     }
+}
+
+fn first_at(firsts: &[usize], place: usize) -> usize {
+    firsts.get(place).copied().unwrap_or(0)
 }
 
 /// The place of a value among others, or their count where it is the first one; None where it is neither.

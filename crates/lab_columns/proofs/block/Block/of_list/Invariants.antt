@@ -1,0 +1,5 @@
+use Rattle.std.proofs.Common.{◌≡◌, ◌<◌, ℕ, ℤ, pos, length, get_or}
+use Rattle.lab_columns.proofs.block.Block.of_list.Given as goal
+
+abbrev pub invariant-loop-place : goal.invariant-loop-place
+invariant-loop-place l = (length l.numbers ≡ 64) × ((k : ℕ) (d : ℤ) → k < l.place → get_or l.numbers k (pos 0) ≡ get_or l.values k d)

@@ -1,0 +1,136 @@
+//! The rows that have installers, with their versions.
+
+ghost use Rattle.std.specs.Prelude.{◌≡◌, IfOk};
+ghost use Rattle.lab_deps.specs.EdgesByRow.{rows_of};
+ghost use Rattle.lab_deps.specs.Numbering.{HasPlaces};
+
+use crate::versions::{Versions, most_kept};
+use indexmap::IndexMap;
+use lab_history::History;
+use lab_table::{NoMemory, RowName, Value};
+use std::alloc::Global;
+
+/// The rows that have installers, in their order, with their versions.
+#[derive(Drop)]
+pub struct Rows {
+    pub versions: IndexMap<RowName, Versions>,
+    pub listed: Listed,
+}
+
+impl Rows {
+    /// The allocator of the lists.
+    pub fn alloc(&self) -> Global {
+        *self.listed.rows.allocator()
+    }
+}
+
+/// The states of rows, one row after another.
+#[derive(Drop)]
+pub struct Listed {
+    /// The row and the value of each, 0 where the row is absent.
+    rows: Vec<(RowName, Value)>,
+    /// For each the index of its value among the values.
+    numbers: Vec<u32>,
+    /// The different values, by rising value.
+    values: Vec<Value>,
+}
+
+impl Listed {
+    fn new(alloc: Global) -> Listed {
+        Listed {
+            rows: Vec::new(alloc),
+            numbers: Vec::new(alloc),
+            values: Vec::new(alloc),
+        }
+    }
+
+    /// How many states there are.
+    pub fn len(&self) -> usize {
+        self.rows.len()
+    }
+
+    /// The values of the states from one on and before another.
+    pub fn between(&self, from: usize, to: usize) -> &[(RowName, Value)] {
+        self.rows.get(from..to).unwrap_or(&[])
+    }
+
+    /// For each state the index of its value.
+    pub fn numbers(&self) -> &[u32] {
+        &self.numbers
+    }
+
+    /// The different values.
+    pub fn values(&self) -> &[Value] {
+        &self.values
+    }
+
+    /// Adds the states of a row.
+    fn add(&mut self, row: RowName, versions: &Versions) -> Result<(), NoMemory> {
+        self.add_state(row, versions.initial())?;
+        for version in versions.as_slice() {
+            self.add_state(row, version.value)?;
+        }
+        Ok(())
+    }
+
+    fn add_state(&mut self, row: RowName, value: Option<Value>) -> Result<(), NoMemory> {
+        if let Some(value) = value_or_zero(value) {
+            self.rows.push((row, value))?;
+        }
+        Ok(())
+    }
+
+    /// Numbers the values.
+    fn number(&mut self) -> Result<(), NoMemory> {
+        self.values.try_reserve(self.rows.len())?;
+        for row in &self.rows {
+            self.values.push(row.1)?;
+        }
+        self.values.sort()?;
+        self.values.dedup();
+        self.numbers.try_reserve(self.rows.len())?;
+        for row in &self.rows {
+            let value = row.1;
+            let number = self.values.partition_point(|other| *other < value);
+            self.numbers.push(number_of(number))?;
+        }
+        Ok(())
+    }
+}
+
+fn number_of(index: usize) -> u32 {
+    match u32::try_from(index) {
+        Ok(number) => number,
+        Err(_) => u32::MAX,
+    }
+}
+
+fn value_or_zero(value: Option<Value>) -> Option<Value> {
+    match value {
+        None => Value::new(0),
+        Some(value) => Some(value),
+    }
+}
+
+/// The rows that have installers, numbered in their order, with their versions, by the places of the committed
+/// transactions; NoMemory where an allocation was refused.
+pub fn versions_of_rows(
+    alloc: Global,
+    history: &History,
+    places: &[u16],
+) -> Result<Rows, NoMemory>
+    requires { HasPlaces history.now places.now }
+    ensures { IfOk result (λ rows. rows.versions.entries ≡ rows_of history.now) }
+{
+    let most = most_kept(history);
+    let mut listed = Listed::new(alloc);
+    let mut rows = IndexMap::new(alloc);
+    for (row, installers) in history.installed().entries() {
+        let first = listed.len();
+        let versions = Versions::of(alloc, history, places, most, *row, installers.as_slice(), first)?;
+        listed.add(*row, &versions)?;
+        rows.insert(*row, versions)?;
+    }
+    listed.number()?;
+    Ok(Rows { versions: rows, listed })
+}
