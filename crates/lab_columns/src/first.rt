@@ -1,4 +1,4 @@
-//! The first of many rows that passes a test.
+//! Search for the first of many rows that passes a test.
 
 ghost use Rattle.std.specs.Prelude.{◌≡◌, ◌≤◌, ℤ, Bool, false, Some, length, find, option_map};
 ghost use Rattle.lab_table.specs.Row.{Row};
@@ -7,8 +7,8 @@ ghost use Rattle.lab_table.specs.Statement.{matches};
 use crate::condition::may_match_each;
 use lab_table::{RowName, Statement, Value};
 
-/// The first row that passes a test which only rows pass that match a statement, among rows with their values. The test
-/// isn't made of rows that are seen not to match by their numbers and values.
+/// Returns the first of `rows` that passes `test`, which must accept only rows that match `statement`. Rows whose
+/// numbers and values exclude a match aren't tested.
 pub fn first_matching<F: Fn(RowName, Value) -> bool>(
     statement: &Statement,
     rows: &[(RowName, Value)],

@@ -1,10 +1,11 @@
-//! Statements that are asked of many rows, gone through by column.
+//! Statements evaluated over many rows, column by column.
 //!
-//! A condition is gone through once for each 64 rows: a comparison over a column of numbers, and what joins comparisons
-//! over their answers. That takes some ten times fewer instructions than to ask it of one row after another.
+//! A condition is evaluated once for each 64 rows: comparisons over a column of numbers, and `and`, `or` and `not` over
+//! their results. This takes about a tenth of the instructions of evaluating it row by row.
 //!
-//! Who looks for a row among many, of which few match a statement, calls [`first_matching`] with the rows, their values
-//! and a test that no other row passes; the test is made of those rows alone that may match.
+//! To find a row among many, of which few match a statement, call [`first_matching`] with the rows, their values and a
+//! test that no other row passes. Only rows that can match are tested. Functions that allocate return `NoMemory` if an
+//! allocation fails.
 #![tactic(auto)]
 
 mod answers;

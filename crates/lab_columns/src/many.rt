@@ -1,4 +1,4 @@
-//! Conditions that are asked of many values, or of many ids with values.
+//! Conditions evaluated for many values, or for many ids with values.
 
 ghost use Rattle.std.specs.Prelude.{◌≡◌, ◌++◌, ◌≤◌, ℕ, ℤ, length, map, take, not, false, OnOk};
 ghost use Rattle.lab_table.specs.Predicate.{holds, by_id};
@@ -7,7 +7,7 @@ use crate::block::Block;
 use crate::condition::{Rows, holds_each};
 use lab_table::{Col, NoMemory, Pred, PredKind, RowName, Value};
 
-/// Whether the condition, or a part of it, is a test of the row's id. Where none is, the ids make no difference.
+/// Returns whether any part of the condition tests the row's id. If not, ids don't matter.
 pub fn names_id(pred: &Pred) -> bool
     ensures { result ≡ false → (id other : ℕ) (value : ℤ) → holds pred.now id value ≡ holds pred.now other value }
 {
@@ -30,8 +30,7 @@ fn is_id(col: Col) -> bool
     }
 }
 
-/// Whether the condition is true of each of these values, where it has no test of an id. The answers replace those of a
-/// list.
+/// Replaces `answers` with the results of the condition for these values. The condition must not test ids.
 pub fn answers_for_values(
     answers: &mut Vec<bool>,
     pred: &Pred,
@@ -55,7 +54,7 @@ pub fn answers_for_values(
     Ok(())
 }
 
-/// Whether the condition is true of each of these ids with its value. The answers replace those of a list.
+/// Replaces `answers` with the results of the condition for these ids with their values.
 pub fn answers_for_rows(
     answers: &mut Vec<bool>,
     pred: &Pred,

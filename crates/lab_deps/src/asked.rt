@@ -172,7 +172,12 @@ impl<'a> Asked<'a> {
             let place = index.wrapping_sub(self.first);
             answer_of_row(self.rows, &self.by_row, place, row, value)
         } else {
-            answer_of_value(self.values, &self.by_value, number_at(self.numbers, index), value)
+            answer_of_value(
+                self.values,
+                &self.by_value,
+                number_at(self.numbers, index),
+                value,
+            )
         }
     }
 }
@@ -198,12 +203,7 @@ fn answer_of_row(
 
 /// The answer at a place, if there it is that for a value.
 #[inline(always)]
-fn answer_of_value(
-    values: &[Value],
-    answers: &[bool],
-    place: usize,
-    value: Value,
-) -> Option<bool>
+fn answer_of_value(values: &[Value], answers: &[bool], place: usize, value: Value) -> Option<bool>
     ensures { IfSome result (λ answer. (slice_get values.now place ≡ Some value) × (slice_get answers.now place ≡ Some answer)) }
 {
     let found = *values.get(place)?;
@@ -225,7 +225,10 @@ fn condition(statement: &Statement) -> Option<&Pred>
 {
     match &statement.kind {
         StatementKind::Select { pred: Some(pred) } => Some(pred),
-        StatementKind::Update { pred: Some(pred), .. } => Some(pred),
+        StatementKind::Update {
+            pred: Some(pred),
+            ..
+        } => Some(pred),
         StatementKind::Delete { pred: Some(pred) } => Some(pred),
         StatementKind::Select { pred: None }
         | StatementKind::Update { pred: None, .. }

@@ -8,7 +8,7 @@ ghost use Rattle.lab_deps.specs.declared.edge.Kind.{Kind as Way};
 use crate::arrows::{bit, has_bit};
 use crate::edge::Kind;
 
-/// Some kinds of dependency.
+/// A set of kinds of dependencies.
 #[derive(Clone, Copy, Debug, PartialEq, Eq)]
 pub struct Kinds {
     pub(crate) bits: u8,
@@ -26,14 +26,14 @@ impl Kinds {
     /// Anti-dependencies at listed rows.
     pub const ITEM_ANTI: Kinds = Kinds { bits: 0b01000 };
 
-    /// No kind.
+    /// Returns the empty set.
     pub fn none() -> Kinds
         ensures { (kind : Way) → among result kind ≡ false }
     {
         Kinds { bits: 0 }
     }
 
-    /// These kinds and one more.
+    /// Returns the set with one more kind.
     pub fn and(self, kind: Kind) -> Kinds
         ensures more { among result kind ≡ true }
         ensures others { (other : Way) → other ≢ kind → among result other ≡ among self other }
@@ -43,14 +43,14 @@ impl Kinds {
         }
     }
 
-    /// Whether a kind is among them.
+    /// Returns whether the set has `kind`.
     pub fn has(self, kind: Kind) -> bool
         ensures { result ≡ among self kind }
     {
         has_bit(self.bits, kind)
     }
 
-    /// Whether some kind is among both.
+    /// Returns whether the sets have a kind in common.
     pub fn meets(self, other: Kinds) -> bool
         ensures { result ≡ true ↔ ((kind : Way) × (among self kind ≡ true) × (among other kind ≡ true)) }
     {

@@ -14,8 +14,8 @@ use lab_history::History;
 use lab_table::NoMemory;
 use std::alloc::Global;
 
-/// How the committed transactions of a sound history depend on one another: each edge once, by rising from, to, kind
-/// and row. The third argument is what the check of this history answered. NoMemory where an allocation was refused.
+/// Returns the dependencies between the committed transactions of a sound history, each once, sorted by `from`, `to`,
+/// kind and row. `_sound` is the result of `check_local` for this history.
 pub fn edges(alloc: Global, history: &History, _sound: &Sound) -> Result<Vec<Edge>, NoMemory>
     requires { IsSound history.now }
     ensures exact { IfOk result (λ edges. (e : Spelled) → Contains edges.items e ↔ IsEdge history.now e) }

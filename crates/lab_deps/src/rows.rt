@@ -114,11 +114,7 @@ fn value_or_zero(value: Option<Value>) -> Option<Value> {
 
 /// The rows that have installers, numbered in their order, with their versions, by the places of the committed
 /// transactions; NoMemory where an allocation was refused.
-pub fn versions_of_rows(
-    alloc: Global,
-    history: &History,
-    places: &[u16],
-) -> Result<Rows, NoMemory>
+pub fn versions_of_rows(alloc: Global, history: &History, places: &[u16]) -> Result<Rows, NoMemory>
     requires { HasPlaces history.now places.now }
     ensures { IfOk result (λ rows. rows.versions.entries ≡ rows_of history.now) }
 {
@@ -127,10 +123,21 @@ pub fn versions_of_rows(
     let mut rows = IndexMap::new(alloc);
     for (row, installers) in history.installed().entries() {
         let first = listed.len();
-        let versions = Versions::of(alloc, history, places, most, *row, installers.as_slice(), first)?;
+        let versions = Versions::of(
+            alloc,
+            history,
+            places,
+            most,
+            *row,
+            installers.as_slice(),
+            first,
+        )?;
         listed.add(*row, &versions)?;
         rows.insert(*row, versions)?;
     }
     listed.number()?;
-    Ok(Rows { versions: rows, listed })
+    Ok(Rows {
+        versions: rows,
+        listed,
+    })
 }

@@ -1,4 +1,4 @@
-//! Reads of what was never committed.
+//! Reads of versions that never committed.
 
 ghost use Rattle.std.specs.Prelude.{◌≡◌, ℕ, None, IfSome};
 ghost use Rattle.lab_table.specs.Row.{Row};
@@ -20,8 +20,8 @@ pub struct Read {
     pub row: RowName,
 }
 
-/// The first operation of a committed transaction that sees a version of an aborted one, with its least such row; None
-/// where there is none. Transactions stand in the order of the file.
+/// Returns the first operation of a committed transaction that sees a version of an aborted one, with its least such
+/// row, or `None` if there is none. Transactions are in the order of the file.
 pub fn first_aborted_read(history: &History) -> Option<Read>
     ensures found { IfSome result (λ read. Stands history.now (fault.AbortedRead read.txn read.op read.row)) }
     ensures first { IfSome result (λ read. IsFirstRead history.now fault.AbortedRead read.txn read.op read.row) }
@@ -30,8 +30,8 @@ pub fn first_aborted_read(history: &History) -> Option<Read>
     first_of_kind(history, OpFault::AbortedRead)
 }
 
-/// The first operation of a committed transaction that sees another's version that isn't that one's last of the row,
-/// with its least such row; None where there is none. Transactions stand in the order of the file.
+/// Returns the first operation of a committed transaction that sees a version of another one that isn't that one's last
+/// of the row, with its least such row, or `None` if there is none. Transactions are in the order of the file.
 pub fn first_intermediate_read(history: &History) -> Option<Read>
     ensures found { IfSome result (λ read. Stands history.now (fault.IntermediateRead read.txn read.op read.row)) }
     ensures first { IfSome result (λ read. IsFirstRead history.now fault.IntermediateRead read.txn read.op read.row) }

@@ -1,4 +1,4 @@
-//! Sessions that ask what they may do.
+//! Sessions that request a statement or a commit.
 
 ghost use Rattle.std.specs.Prelude.{◌≡◌, ℕ, Bool, Some};
 ghost use Rattle.lab_table.specs.Statement as plain;
@@ -17,17 +17,19 @@ use crate::version::Version;
 use lab_history::VersionName;
 use lab_table::{RowName, Session, Statement, Table};
 
-/// A session with an active transaction, and the situation in which it asks what it may do.
+/// A session with an active transaction that requests a statement or a commit, and the engine state in which the
+/// request is decided.
 #[derive(Clone, Copy)]
 pub struct Asker<'a> {
-    /// The table as it is before any event.
+    /// The table before the first event.
     pub setup: &'a Table,
-    /// Where the events so far leave sessions and rows.
+    /// The state of sessions and rows after the events so far.
     pub situation: &'a Situation,
     pub session: Session,
     /// Its active transaction.
     pub running: &'a RunningTxn,
-    /// How many events stand before what its transaction sees as committed: all so far, or those before its begin.
+    /// The log position of its snapshot: the transaction sees the commits before it. It is the transaction's begin, or
+    /// the end of the log.
     pub sees_before: usize,
 }
 
@@ -60,7 +62,7 @@ impl<'a> Asker<'a> {
         }
     }
 
-    /// The version of one row that its transaction sees.
+    /// Returns the version of `row` that its transaction sees.
     pub fn row_seen(&self, row: RowName) -> Version
         ensures { result ≡ seen_in self.now row }
     {
@@ -77,14 +79,14 @@ impl<'a> Asker<'a> {
         }
     }
 
-    /// Whether a statement would write a row as its transaction sees it.
+    /// Returns whether `statement` would write `row`, as its transaction sees it.
     pub fn would_write(&self, statement: &Statement, row: RowName) -> bool
         ensures { result ≡ plain.would_write statement.now row (seen_in self.now row).state }
     {
         statement.would_write(row, self.row_seen(row).state)
     }
 
-    /// The other sessions whose active transaction passes a test.
+    /// Returns the other sessions whose active transaction passes `test`.
     pub fn others_that<F: Fn(Session, &RunningTxn) -> bool>(&self, test: F) -> SessionSet
         requires { F.IsAlwaysCallable test }
         ensures { (passes : ℕ → Running → Bool) → ((other : ℕ) (running : _) (b : Bool) → F.post test other running b → b ≡ passes other running.now)

@@ -1,4 +1,4 @@
-//! Whether two outcomes are the same.
+//! Equality of outcomes.
 
 ghost use Rattle.std.specs.Prelude.{◌≡◌, ◌↔◌, IsTrue};
 
@@ -8,7 +8,7 @@ use lab_table::Session;
 impl Outcome {
     ghost use Rattle.std.specs.Prelude.{◌≡◌, ◌↔◌, IsTrue};
 
-    /// Whether the other outcome is the same.
+    /// Returns whether both outcomes are equal.
     pub fn equals(&self, other: &Outcome) -> bool
         ensures { IsTrue result ↔ (self.now ≡ other.now) }
     {

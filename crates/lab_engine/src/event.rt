@@ -8,20 +8,20 @@ use lab_table::{Command, NoMemory, RowName, Session, TxnNo};
 use std::alloc::Global;
 use std::marker::Model;
 
-/// What an engine promises.
+/// An isolation level, and so the rules of an engine.
 #[derive(Clone, Copy, Debug, PartialEq, Eq)]
 pub enum Level {
-    /// What runs at the same time is as if it ran in turn; statements wait for readers and writers.
+    /// Serializable. Statements wait for readers and writers.
     Locking,
-    /// A statement sees what has committed by then, and waits for writers.
+    /// A statement sees what has committed before it, and waits for writers.
     Committed,
-    /// A transaction sees what had committed at its begin; nobody waits.
+    /// A transaction sees what had committed at its begin. Nobody waits.
     Snapshot,
-    /// As at snapshot, and a commit is refused where what its transaction has read was changed since its begin.
+    /// As `Snapshot`, but a commit fails if the transaction's reads were changed since its begin.
     Optimistic,
 }
 
-/// Sessions in an order.
+/// A list of sessions.
 #[derive(Drop)]
 pub struct Sessions {
     items: Vec<Session>,
@@ -35,37 +35,38 @@ impl Model for Sessions {
     ghost view = { λ s. s.items.items };
 }
 
-/// Why an engine refused a command. Refusals 2 to 5 and 9 abort the transaction; 6 to 8 change nothing but the log.
+/// Why an engine refused a command. `DuplicateKey`, `OutOfRange`, `Deadlock` and the two conflicts abort the
+/// transaction. The others change nothing but the log.
 #[derive(Drop)]
 pub enum EngineFault {
-    /// Refusal 2: the row that the insert adds is present.
+    /// The row that the insert adds is already present.
     DuplicateKey { id: RowName },
-    /// Refusal 3: the update would give a row a value out of range. The row named is the least such.
+    /// The update would set a value out of range. `id` is the least such row.
     OutOfRange { id: RowName },
-    /// Refusal 4: the sessions wait in a cycle, from the asking one on: each is blocked by the next, and the last by
-    /// the first.
+    /// The sessions wait for each other in a cycle that starts at the requesting session: each is blocked by the next,
+    /// and the last by the first.
     Deadlock { circle: Sessions },
-    /// Refusal 5, of a commit: another transaction has installed a row that this one wrote, since its begin. The row
-    /// named is the least such, and the transaction the first to install it since then.
+    /// A commit failed, since another transaction has installed a row that this one wrote, since its begin. `row` is
+    /// the least such row, and `by` the first transaction that installed it since then.
     WriteConflict { row: RowName, by: TxnNo },
-    /// Refusal 6: the session has no active transaction.
+    /// The session has no active transaction.
     NoTransaction,
-    /// Refusal 7, of a begin: the session has an active transaction.
+    /// A begin failed, since the session has an active transaction.
     AlreadyBegun,
-    /// Refusal 8: a command of the session waits.
+    /// A command of the session waits.
     Busy,
-    /// Refusal 9, of a commit: another transaction has installed a row since this one's begin, and one of this one's
-    /// statements matches the row as it was before that, or as it was then. The row named is the least such at or below
-    /// which there is no write conflict, and the transaction the first that did so.
+    /// A commit failed, since another transaction has installed a row since this one's begin, and a statement of this
+    /// one matches the row as it was before or after that. `row` is the least such row, with no write conflict at it or
+    /// at a lesser row, and `by` the first transaction that did so.
     ReadConflict { row: RowName, by: TxnNo },
 }
 
-/// What an engine answered.
+/// The result of a command.
 #[derive(Drop)]
 pub enum Outcome {
-    /// A transaction began, and has this number.
+    /// A transaction began, with this number.
     Begun(TxnNo),
-    /// A statement ran: the versions that it saw, the rows that it lists, and what it wrote.
+    /// A statement ran: the versions that it saw, the rows that it listed, and the rows that it wrote.
     Rows {
         view: View,
         rows: Rows,
@@ -73,9 +74,9 @@ pub enum Outcome {
     },
     /// The transaction committed.
     Committed,
-    /// The transaction was aborted, as it asked for.
+    /// The transaction aborted by its own command.
     Aborted,
-    /// The statement waits for these sessions, by rising number.
+    /// The statement waits for these sessions, in ascending order.
     Waits {
         on: Sessions,
     },
@@ -83,8 +84,7 @@ pub enum Outcome {
     Refused(EngineFault),
 }
 
-/// One event of a log: a session's command, and what the engine answered.
-/// The event of a retry has the command that waited.
+/// An event of a log: a command of a session, and its outcome. The event of a retry has the command that waited.
 #[derive(Drop)]
 pub struct LogEvent {
     pub session: Session,
@@ -93,21 +93,21 @@ pub struct LogEvent {
 }
 
 impl Sessions {
-    /// These sessions, in this order; it takes no memory.
+    /// Returns the list of these sessions. Allocates nothing.
     pub fn new(items: Vec<Session>) -> Sessions
         ensures { result ≡ items.items }
     {
         Sessions { items }
     }
 
-    /// The sessions, in order.
+    /// Returns the sessions, in order.
     pub fn as_slice(&self) -> &[Session]
         ensures { result.now ≡ self.now }
     {
         &self.items
     }
 
-    /// A copy; NoMemory where an allocation was refused.
+    /// Returns a copy.
     pub fn copy(&self, alloc: Global) -> Result<Sessions, NoMemory>
         ensures { IfOk result (λ copy. copy ≡ self.now) }
     {
@@ -118,7 +118,7 @@ impl Sessions {
 }
 
 impl EngineFault {
-    /// A copy; NoMemory where an allocation was refused. That of a conflict takes no memory.
+    /// Returns a copy. Copying a conflict never fails.
     pub fn copy(&self, alloc: Global) -> Result<EngineFault, NoMemory>
         ensures copy { IfOk result (λ copy. copy ≡ self.now) }
         ensures err { OnErr result (is_conflict self.now ≡ false) }
@@ -143,7 +143,7 @@ impl EngineFault {
 }
 
 impl Outcome {
-    /// A copy; NoMemory where an allocation was refused. That of a transaction's end takes no memory.
+    /// Returns a copy. Copying the end of a transaction never fails.
     pub fn copy(&self, alloc: Global) -> Result<Outcome, NoMemory>
         ensures copy { IfOk result (λ copy. copy ≡ self.now) }
         ensures err { OnErr result (is_ending self.now ≡ false) }

@@ -1,4 +1,4 @@
-//! What each engine keeps, and the calls that all engines share.
+//! The implementation that all engines share.
 
 ghost use Rattle.std.specs.Prelude.{◌≡◌, ◌<◌, ◌+◌, ◌∷◌, ◌++◌, [], true, false, length, Contains, IsSome, IfOk, OnOk, OnErr};
 ghost use Rattle.std.specs.Vec.{vec_capacity};
@@ -27,10 +27,10 @@ use lab_table::{Command, NoMemory, Session, Table};
 use std::alloc::Global;
 use std::marker::Model;
 
-/// An engine of some rules. Beside its setup and its log it keeps where the log leaves sessions and rows, and who waits
-/// for whom, so no call looks through the log. A call decides on its event, makes room for it, and then appends it, which
-/// can't fail. The log keeps a place for the end of each active transaction. Whom a session waits for is asked anew
-/// only after an event that may have changed it.
+/// An engine with given rules. Besides its initial table and its log, it keeps the current state of sessions and rows
+/// and the wait-for graph, so no call searches the log. A call decides on its event, reserves space for it, and then
+/// appends it, which allocates nothing. The log keeps space for the end of each active transaction. The sessions that
+/// block a session are determined again only after an event that can have changed them.
 #[derive(Drop)]
 pub struct Journal<R: Rules> {
     rules: R,
@@ -58,7 +58,7 @@ impl<R: Rules> Model for Journal<R> {
 }
 
 impl<R: Rules> Journal<R> {
-    /// An engine that has done nothing yet, on this table. It takes no memory.
+    /// Returns an engine with an empty log, on this table. Allocates nothing.
     pub fn new(alloc: Global, setup: Table) -> Journal<R>
         ensures level { result.level ≡ R.kind }
         ensures setup { result.setup ≡ setup }

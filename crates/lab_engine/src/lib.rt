@@ -1,19 +1,20 @@
-//! The rules of the engines, and what all engines share.
+//! The rules of the isolation levels, and the engine core that all levels share.
 //!
-//! An [`Engine`] runs the commands of sessions, one at a time, and keeps a log of [`LogEvent`]s. Each [`Outcome`] is one
-//! that the rules of its [`Level`] permit after the events before it. What the rules refuse is an outcome too, by an
-//! [`EngineFault`]. The calls themselves are refused for want of memory alone, and then nothing has changed.
+//! An [`Engine`] runs the commands of sessions, one at a time, and keeps a log of [`LogEvent`]s. Each [`Outcome`] is
+//! one that the rules of its [`Level`] permit after the events before it. A command that the rules refuse has an
+//! outcome too, with an [`EngineFault`]. The calls themselves fail only if an allocation fails, with `NoMemory`, and
+//! then nothing has changed.
 //!
-//! Each command goes to `step`. A statement that others are in the way of answers `Waits`, and its session is answered
-//! Busy until `retry` has run the statement anew. `retryable` names a session for which that is of use.
+//! Each command is passed to `step`. A statement that other sessions block has the outcome `Waits`. Its session gets
+//! `Busy` until `retry` has run the statement. `retryable` names a session whose retry makes progress.
 //!
-//! A [`Journal`] is an engine of any [`Rules`], which say of each [`Asker`] which commits it sees, who blocks its
-//! statement and whether its commit conflicts. Beside its setup and its log it keeps the [`Situation`] in which the log
-//! leaves sessions and rows, and calls ask that: of each session its active transaction, the statement that it waits
-//! with and those that block this, so who waits for whom; and of each row the versions that commits installed and those
-//! that transactions have pending. A call decides on its event, then makes room for it, and then goes on by it, which
-//! can't fail. The rules of each level, and the engines as journals over them, are in `lab_locking`, `lab_versions`
-//! and `lab_optimistic`.
+//! A [`Journal`] is an engine for any [`Rules`]. The rules decide, for each [`Asker`], which commits it sees, which
+//! sessions block its statement, and whether its commit conflicts. Besides the initial table and the log, a journal
+//! keeps the [`Situation`], the state after the log: of each session its active transaction, its waiting statement and
+//! the sessions that block it, so the wait-for graph; of each row the versions that commits installed and the
+//! uncommitted versions; and of each commit, if the rules need it, the rows that it installed. A call decides on its
+//! event, reserves space for it, and then applies it, which allocates nothing. The rules of the levels, and the engines
+//! as journals over them, are in `lab_locking`, `lab_versions` and `lab_optimistic`.
 #![tactic(auto)]
 
 mod answer;

@@ -1,4 +1,4 @@
-//! What is kept of a row.
+//! The versions of one row: the committed ones, and the uncommitted one of each session.
 
 ghost use Rattle.std.specs.Prelude.{◌≡◌, ◌==◌, ℕ, cond, None, Some, [], reverse, OnOk};
 ghost use Rattle.std.specs.Option.{option_or};
@@ -17,12 +17,12 @@ pub struct Installed {
     pub version: Version,
     /// The transaction that installed it.
     pub by: TxnNo,
-    /// How many events stand before the commit.
+    /// Position of the commit in the log, counted from 0.
     pub place: usize,
 }
 
-/// The versions of a row: those that commits installed, in order of the commits, and the pending one of each session.
-/// Each pending version has a place reserved among those installed, so its commit takes no memory.
+/// The versions of a row: the committed ones, in order of the commits, and the uncommitted one of each session. Space
+/// for each uncommitted version is reserved among the committed ones, so its commit allocates nothing.
 #[derive(Drop)]
 pub struct RowState {
     installed: Vec<Installed>,
@@ -57,29 +57,29 @@ impl RowState {
         }
     }
 
-    /// The version that a session has pending.
+    /// Returns the uncommitted version of `session`, or `None` if it has none.
     pub fn pending(&self, session: Session) -> Option<Version>
         ensures { result ≡ pending_of self.now session }
     {
         self.pending.get(session)
     }
 
-    /// The installed versions, in order of the commits.
+    /// Returns the committed versions, in order of the commits.
     pub fn installed(&self) -> &[Installed]
         ensures { reverse result.now ≡ self.now.chain }
     {
         &self.installed
     }
 
-    /// The last version that was installed by a commit with fewer than so many events before it.
+    /// Returns the last version committed before log position `place`, or `None` if there is none.
     pub fn last_before(&self, place: usize) -> Option<Version>
         ensures { result ≡ plain.last_before place self.now.chain }
     {
         last_until(&self.installed, place)
     }
 
-    /// What a session sees that sees the commits with fewer than so many events before them: its pending version, else
-    /// the last installed one; None where that is the one of the setup.
+    /// Returns the version that `session` sees if its snapshot is at log position `place`: its own uncommitted version,
+    /// or else the last version committed before `place`. `None` means the initial version.
     pub fn seen_by(&self, session: Session, place: usize) -> Option<Version>
         ensures { result ≡ option_or (pending_of self.now session) (plain.last_before place self.now.chain) }
     {
@@ -89,7 +89,8 @@ impl RowState {
         }
     }
 
-    /// The transaction that was the first to install the row by a commit with at least so many events before it.
+    /// Returns the first transaction that installed the row by a commit at or after log position `place`, or `None` if
+    /// there is none.
     pub fn first_since(&self, place: usize) -> Option<TxnNo>
         ensures { result ≡ plain.first_since place self.now.chain }
     {

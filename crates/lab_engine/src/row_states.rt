@@ -1,4 +1,4 @@
-//! What is kept of all rows.
+//! The versions of all rows.
 
 ghost use Rattle.std.specs.Prelude.{◌≡◌, ◌≤◌, ◌+◌, ◌==◌, ◌&&◌, ◌||◌, ℕ, None, Some, cond, is_some, is_none, length, option_map, OnOk};
 ghost use Rattle.std.specs.List.{list_any};
@@ -19,7 +19,7 @@ use lab_table::{NoMemory, RowName, Session, TxnNo};
 use std::alloc::Global;
 use std::collections::BTreeMap;
 
-/// What is kept of each row that a transaction has written. Of a row that isn't there nothing is installed or pending.
+/// The versions of each row that a transaction has written. A row that isn't listed has only its initial version.
 #[derive(Drop)]
 pub struct RowStates {
     rows: BTreeMap<RowName, RowState>,
@@ -35,21 +35,21 @@ impl RowStates {
         }
     }
 
-    /// What is kept of a row, or None where nobody has written it.
+    /// Returns the versions of `row`, or `None` if no transaction has written it.
     pub fn get(&self, row: RowName) -> Option<&RowState>
         ensures { option_map (λ kept. kept.now) result ≡ kept_at self.now row }
     {
         self.rows.get(&row)
     }
 
-    /// What is kept of each row that a transaction has written, by rising row.
+    /// Returns the versions of each row that a transaction has written, in ascending order of rows.
     pub fn by_row(&self) -> &BTreeMap<RowName, RowState>
         ensures { result.now.entries ≡ entries_in self.now }
     {
         &self.rows
     }
 
-    /// The version of a row that a session has pending.
+    /// Returns the uncommitted version of `row` by `session`, or `None` if there is none.
     pub fn pending(&self, row: RowName, session: Session) -> Option<Version>
         ensures { result ≡ pending_in self.now row session }
     {
@@ -59,7 +59,7 @@ impl RowStates {
         }
     }
 
-    /// The last version of a row that was installed by a commit with fewer than so many events before it.
+    /// Returns the last version of `row` committed before log position `place`, or `None` if there is none.
     pub fn last_before(&self, row: RowName, place: usize) -> Option<Version>
         ensures { result ≡ plain.last_before place (chain_in self.now row) }
     {
@@ -69,8 +69,8 @@ impl RowStates {
         }
     }
 
-    /// What a session sees of a row that sees the commits with fewer than so many events before them: its pending
-    /// version, else the last installed one; None where that is the one of the setup.
+    /// Returns the version of `row` that `session` sees if its snapshot is at log position `place`: its own uncommitted
+    /// version, or else the last version committed before `place`. `None` means the initial version.
     pub fn seen_by(&self, row: RowName, session: Session, place: usize) -> Option<Version>
         ensures { result ≡ option_or (pending_in self.now row session) (plain.last_before place (chain_in self.now row)) }
     {
@@ -80,7 +80,8 @@ impl RowStates {
         }
     }
 
-    /// The transaction that was the first to install a row by a commit with at least so many events before it.
+    /// Returns the first transaction that installed `row` by a commit at or after log position `place`, or `None` if
+    /// there is none.
     pub fn first_since(&self, row: RowName, place: usize) -> Option<TxnNo>
         ensures { result ≡ plain.first_since place (chain_in self.now row) }
     {

@@ -1,4 +1,4 @@
-//! What the rules of a level are asked for.
+//! The rules that differ between levels.
 
 ghost use Rattle.std.specs.Prelude.{◌≡◌, MatchOption};
 ghost use Rattle.lab_engine.specs.declared.event.Level.{Level as Kind};
@@ -13,50 +13,49 @@ use crate::event::Level;
 use crate::session_set::SessionSet;
 use lab_table::{RowName, Statement, TxnNo};
 
-/// What another transaction's install of a row, since the begin of one that commits, conflicts with.
+/// How an install by another transaction conflicts with a transaction that commits.
 #[derive(Clone, Copy, Debug, PartialEq, Eq)]
 pub enum ConflictKind {
-    /// That one wrote the row too.
+    /// The committing transaction wrote the row too.
     Write,
-    /// One of its statements matches the row as it was before the install, or as it was then.
+    /// A statement of the committing transaction matches the row as it was before or after the install.
     Read,
 }
 
-/// Why a transaction may not commit.
+/// Why a transaction can't commit.
 #[derive(Clone, Copy, Debug, PartialEq, Eq)]
 pub struct Conflict {
     pub kind: ConflictKind,
-    /// The least row with a conflict; at one row a conflict by what was written comes first.
+    /// The least row with a conflict. At the same row, a write conflict comes first.
     pub row: RowName,
-    /// The transaction that was the first since the begin to make it.
+    /// The first transaction since the begin that caused the conflict.
     pub by: TxnNo,
 }
 
-/// What is particular to a level: what a transaction sees, who blocks a statement, and which commits conflict, by the table
-/// of rules. A type of
-/// rules has one level, and a journal makes its own by `default`.
+/// The concurrency control of one isolation level: what a transaction sees, which sessions block a statement, and which
+/// commits conflict. A `Journal` creates its rules with `default`.
 pub trait Rules: Default {
     /// The level that they are the rules of.
     ghost kind: { Kind };
 
-    /// The level that they are the rules of.
+    /// Returns the level of these rules.
     fn level(&self) -> Level
         ensures { result ≡ kind };
 
-    /// Whether a transaction sees the commits as of its begin, and not as of now.
+    /// Returns whether a transaction sees the commits as of its begin, instead of all commits so far.
     fn sees_as_of_begin(&self) -> bool
         ensures { result ≡ plain.sees_as_of_begin kind };
 
-    /// Whether the statements that active transactions have run are kept, for `blockers` or `conflict` to ask.
+    /// Returns whether `blockers` or `conflict` need the statements that active transactions have run.
     fn keeps_statements(&self) -> bool
         ensures { result ≡ kept.keeps_statements kind };
 
-    /// The sessions that block a statement.
+    /// Returns the sessions that block `statement`.
     fn blockers(&self, asker: &Asker, statement: &Statement) -> SessionSet
         ensures { (past : Past) (txn : Txn) → IsAsker kind past txn asker.now
             → AreOthers past asker.now (Blocks kind asker.now.setup.now past txn statement.now) result };
 
-    /// Why the asker's transaction may not commit, if it may not; None where it may.
+    /// Returns why the requester's transaction can't commit, or `None` if it can.
     fn conflict(&self, asker: &Asker) -> Option<Conflict>
         ensures { (past : Past) (txn : Txn) → IsAsker kind past txn asker.now
             → MatchOption result (MayCommit kind asker.now.setup.now past txn) (λ c. IsFirstConflict kind asker.now.setup.now past txn c.kind c.row c.by) };

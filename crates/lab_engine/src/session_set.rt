@@ -10,7 +10,7 @@ use std::marker::Model;
 /// A set of sessions.
 #[derive(Clone, Copy)]
 pub struct SessionSet {
-    /// The bit n says whether the set has session n.
+    /// Bit n is set if the set has session n.
     bits: u16,
 }
 
@@ -28,7 +28,7 @@ impl Model for SessionSet {
 }
 
 impl SessionSet {
-    /// The set of nobody.
+    /// Returns the empty set.
     #[tactic(auto, using(crate::proofs::SessionBits::has_nobody))]
     pub fn none() -> SessionSet
         ensures { (n : ℕ) → has result n ≡ false }
@@ -36,7 +36,7 @@ impl SessionSet {
         SessionSet { bits: 0 }
     }
 
-    /// The set of these sessions.
+    /// Returns the set of these sessions.
     pub fn of(sessions: &[Session]) -> SessionSet
         ensures { (n : ℕ) → has result n ≡ list_any (λ session. session == n) sessions.now }
     {
@@ -47,7 +47,7 @@ impl SessionSet {
         set
     }
 
-    /// Puts a session in.
+    /// Adds `session`.
     #[tactic(auto, using(crate::proofs::SessionBits::sessions_inserted, crate::proofs::SessionBits::has_inserted))]
     pub fn insert(&mut self, session: Session)
         ensures { (n : ℕ) → has self.new n ≡ (n == session || has self.old n) }
@@ -55,7 +55,7 @@ impl SessionSet {
         self.bits |= 1 << session.number();
     }
 
-    /// Whether a session is in it.
+    /// Returns whether the set has `session`.
     #[tactic(auto, using(crate::proofs::SessionBits::has_tested))]
     pub fn has(self, session: Session) -> bool
         ensures { result ≡ has self session }
@@ -63,7 +63,7 @@ impl SessionSet {
         (self.bits >> session.number()) & 1 == 1
     }
 
-    /// Those that another set has too.
+    /// Returns the intersection with `other`.
     #[tactic(auto, using(crate::proofs::SessionBits::has_common))]
     pub fn common(self, other: SessionSet) -> SessionSet
         ensures { (n : ℕ) → has result n ≡ (has self n && has other n) }
@@ -73,7 +73,7 @@ impl SessionSet {
         }
     }
 
-    /// Those that are in it or in another set.
+    /// Returns the union with `other`.
     #[tactic(auto, using(crate::proofs::SessionBits::sessions_either, crate::proofs::SessionBits::has_either))]
     pub fn with(self, other: SessionSet) -> SessionSet
         ensures { (n : ℕ) → has result n ≡ (has self n || has other n) }
@@ -83,7 +83,7 @@ impl SessionSet {
         }
     }
 
-    /// The least session in it, or None where it has nobody.
+    /// Returns the least session of the set, or `None` if it is empty.
     #[tactic(auto, using(crate::proofs::SessionBits::least_some, crate::proofs::SessionBits::least_least, crate::proofs::SessionBits::least_none))]
     pub fn least(self) -> Option<Session>
         ensures some { IfSome result (λ session. IsTrue (has self session)) }

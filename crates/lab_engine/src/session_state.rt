@@ -1,4 +1,4 @@
-//! What is kept of a session.
+//! The state of a session.
 
 ghost use Rattle.std.specs.Prelude.{◌≡◌, ◌==◌, ◌<◌, ◌≤◌, ◌+◌, ◌++◌, ◌∷◌, ℕ, [], None, Some, Option, true, cond, is_some, length, OnOk};
 ghost use Rattle.std.specs.Option.{option_or, option_to_list};
@@ -31,21 +31,21 @@ use std::alloc::Global;
 pub struct RunningTxn {
     /// Its number.
     pub number: TxnNo,
-    /// How many events stand before its begin.
+    /// Position of its begin in the log, counted from 0.
     pub before: usize,
     /// How many operations it has run.
     pub operations: u32,
-    /// The statements that it ran, in order, where the level asks for them; else none.
+    /// The statements that it ran, in order, if the level needs them; else none.
     pub statements: StatementsRun,
     /// The rows that it wrote, each once.
     pub written: Vec<RowName>,
 }
 
-/// What a session is doing.
+/// The state of a session.
 #[derive(Drop)]
 pub struct SessionState {
     pub session: Session,
-    /// The statement that it waits with, if it waits.
+    /// Its waiting statement, if it waits.
     pub waits: Option<Statement>,
     /// Its active transaction, if it has one.
     pub running: Option<RunningTxn>,

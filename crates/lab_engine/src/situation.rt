@@ -1,4 +1,4 @@
-//! What is kept of a log: where it leaves its sessions and rows, and who waits for whom.
+//! The current state of an engine, computed from its log: sessions, row versions, wait-for graph.
 
 ghost use Rattle.std.specs.Prelude.{◌≡◌, ◌<◌, ◌≤◌, ◌+◌, ℕ, [], ◌∷◌, false, true, length, option_map, is_some, Contains, IfOk, IsTrue, OnOk, OnErr};
 ghost use Rattle.std.specs.Prelude as list;
@@ -21,14 +21,14 @@ use lab_history::Writes;
 use lab_table::{NoMemory, Session, Statement};
 use std::alloc::Global;
 
-/// Where a log leaves its sessions and rows.
+/// The state of sessions and rows after a log.
 #[derive(Drop)]
 pub struct Situation {
-    /// Each of the sessions 1 to 9, by rising number.
+    /// The sessions 1 to 9, in ascending order.
     pub sessions: [SessionState; 9],
-    /// The versions of the rows, installed and pending.
+    /// The versions of the rows, committed and uncommitted.
     pub rows: RowStates,
-    /// For each session those that block the statement that it waits with.
+    /// For each session, the sessions that block its waiting statement.
     pub(crate) waits: WaitGraph,
     /// How many transactions have begun.
     pub begun: u32,
@@ -65,21 +65,21 @@ impl Situation {
         Ok(situation)
     }
 
-    /// The active transaction of a session, or None where it has none.
+    /// Returns the active transaction of `session`, or `None` if it has none.
     pub fn running(&self, session: Session) -> Option<&RunningTxn>
         ensures { option_map (λ r. r.now) result ≡ running_of self.now.sessions session }
     {
         running_in(&self.sessions, session)
     }
 
-    /// The statement that a session waits with, or None where it doesn't wait.
+    /// Returns the waiting statement of `session`, or `None` if it doesn't wait.
     pub fn waiting(&self, session: Session) -> Option<&Statement>
         ensures { (level : Kind) (past : Past) → Describes level past self.now → option_map (λ s. s.now) result ≡ waiting past session }
     {
         waiting_in(&self.sessions, session)
     }
 
-    /// Whether a session has an active transaction.
+    /// Returns whether `session` has an active transaction.
     #[tactic(auto, using(crate::proofs::Describing::some_made, crate::proofs::Describing::some_agree))]
     pub fn is_active(&self, session: Session) -> bool
         ensures { (level : Kind) (past : Past) → Describes level past self.now → result ≡ is_some (active past session) }
@@ -87,7 +87,7 @@ impl Situation {
         self.running(session).is_some()
     }
 
-    /// Whether a statement of a session waits.
+    /// Returns whether a statement of `session` waits.
     pub fn is_waiting(&self, session: Session) -> bool
         ensures { (level : Kind) (past : Past) → Describes level past self.now → result ≡ is_some (waiting past session) }
     {

@@ -1,4 +1,4 @@
-//! Which row of a transaction another one was the first to install since its begin.
+//! First committer wins: the write conflict that makes a commit fail.
 
 ghost use Rattle.std.specs.Prelude.{◌≡◌};
 ghost use Rattle.lab_engine.specs.declared.event.Level.{Level as Kind};
@@ -44,8 +44,8 @@ fn first_conflict(written: &[RowName], rows: &RowStates, before: usize) -> Optio
 }
 
 impl<'a> Asker<'a> {
-    /// The least row that its transaction wrote and that another one installed since its begin, with the first that did;
-    /// None where it is the first committer.
+    /// Returns the least row that its transaction wrote and another one has installed since its begin, with the first
+    /// transaction that did. `None` means that there is no write conflict.
     pub fn first_taken(&self) -> Option<Conflict>
         ensures { (level : Kind) (past : Past) (txn : Txn) → IsAsker level past txn self.now → IsFirstTaken past txn result }
     {

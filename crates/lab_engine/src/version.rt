@@ -11,7 +11,7 @@ use lab_history::{State, VersionName};
 use lab_table::{NoMemory, RowName, Value};
 use std::alloc::Global;
 
-/// A version of a row: its name, and the row's value in it, or None where the row is absent.
+/// A version of a row: its name, and the row's value, or `None` if the row is absent.
 #[derive(Clone, Copy, Debug, PartialEq, Eq)]
 pub struct Version {
     pub name: VersionName,
@@ -38,7 +38,7 @@ pub(crate) fn initial_entries(
         .collect(alloc)
 }
 
-/// The value of a row in a state that was written; None where that is absent.
+/// Returns the value of a written state, or `None` if it is absent.
 pub fn value_of(state: State) -> Option<Value>
     ensures { result ≡ state_value state }
 {

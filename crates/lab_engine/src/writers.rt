@@ -1,4 +1,4 @@
-//! Whose pending writes stand in a statement's way.
+//! The sessions whose uncommitted writes block a statement.
 
 ghost use Rattle.std.specs.Prelude.{◌≡◌, IsSome};
 ghost use Rattle.std.specs.List.{list_any};
@@ -39,8 +39,8 @@ impl<'a> Asker<'a> {
         }
     }
 
-    /// The other sessions that have a pending write of a row that a statement would write. Where the statement names a
-    /// row, only that is looked up.
+    /// Returns the other sessions with an uncommitted write of a row that `statement` would write. If the statement
+    /// names one row, only that row is looked up.
     pub fn writers_in_way(&self, statement: &Statement) -> SessionSet
         ensures { (level : Kind) (past : Past) (txn : Txn) → IsAsker level past txn self.now
             → AreOthers past self.now (HoldsWrite level self.now.setup.now past txn statement.now) result }

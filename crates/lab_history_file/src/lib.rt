@@ -1,11 +1,11 @@
-//! Files of histories: reading and writing.
+//! Reads and writes history files.
 //!
-//! A history is read from a file by [`read_history`], and written by [`write_history`]. In a file of version 1 rows are
-//! named by their ids and are all of the table `test`; in one of version 2, as it is written, each is named by its table
-//! and its id.
+//! [`read_history`] reads a file, and [`write_history`] writes one. In a file of version 1, rows are named by their
+//! ids, and belong to the table `test`. In a file of version 2, as it is written, each row is named by its table and
+//! its id.
 //!
-//! A file that is refused names its first fault, a `FileFault`, whose path leads to the value that is wrong. Want of
-//! memory may come in place of any other answer.
+//! Reading fails with the first fault of a file, a `FileFault`, whose path leads to the wrong value. Functions that
+//! allocate return `NoMemory` if an allocation fails; this can take the place of any other result.
 #![tactic(auto)]
 
 mod entry;

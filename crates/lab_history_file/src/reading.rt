@@ -1,4 +1,4 @@
-//! Reading a history file.
+//! Reads history files.
 
 ghost use Rattle.std.specs.Prelude.{◌≡◌, ◌≢◌, ◌<◌, length, Err, IfOk, IfErr};
 ghost use Rattle.serde_json.specs.View.{view};
@@ -121,9 +121,8 @@ fn history_in_file(alloc: Global, bytes: &[u8]) -> Result<History, FileFault>
     History::within_limits(alloc, parts)
 }
 
-/// The history that a file holds, or the first fault in the order of the file: `OverLimit` of its bytes, `NotJson`,
-/// what is wrong with its parts, and at last `OverLimit` of ids and then of entries. `NoMemory` where an allocation was
-/// refused.
+/// Returns the history of a file. Fails with its first fault, in this order: `OverLimit` of bytes, `NotJson`, a wrong
+/// part, and last `OverLimit` of ids and then of entries.
 #[tactic(auto, using(crate::proofs::TextFaults::what_is_read_is_held))]
 pub fn read_history(alloc: Global, bytes: &[u8]) -> Result<History, FileFault>
     ensures held { IfOk result (HoldsHistory bytes.now) }

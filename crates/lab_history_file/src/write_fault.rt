@@ -1,12 +1,12 @@
-//! Why there is no file of a history.
+//! Why a history can't be written as a file.
 
 use std::alloc::AllocError;
 use thiserror::Error;
 
-/// Why a history has no file.
+/// Why a history can't be written as a file.
 #[derive(Clone, Copy, Debug, PartialEq, Eq, Error)]
 pub enum WriteFault {
-    /// An allocation was refused.
+    /// An allocation failed.
     #[error("no memory")]
     NoMemory,
     /// The text would have more than 8,388,608 bytes.

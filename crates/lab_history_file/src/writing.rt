@@ -1,4 +1,4 @@
-//! Writing a history file.
+//! Writes history files.
 
 mod entries;
 mod json_text;
@@ -39,10 +39,8 @@ fn put_parts(out: &mut Vec<u8>, parts: &Parts) -> Result<(), NoMemory>
     Ok(())
 }
 
-/// The file of a history, of version 2: compact JSON with the keys of each object in the order of their bytes, without
-/// a newline.
-///
-/// TooLong where the text would have more than [`MAX_FILE_BYTES`]; NoMemory where an allocation was refused.
+/// Returns the file of a history, of version 2: compact JSON, with the keys of each object in the order of their bytes,
+/// without a newline. Fails with `TooLong` if the text would have more than `MAX_FILE_BYTES`.
 #[tactic(auto, using(crate::proofs::FileIsRead::file_is_read))]
 pub fn write_history(alloc: Global, history: &History) -> Result<Vec<u8>, WriteFault>
     ensures text { IfOk result (λ text. text.items ≡ compact_text (tree_of history.now)) }

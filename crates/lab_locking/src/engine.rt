@@ -1,4 +1,4 @@
-//! The engine in which what runs at the same time is as if it ran in turn.
+//! The serializable engine.
 
 ghost use Rattle.lab_engine.specs.declared.event.Level.TheVariants.{Locking};
 

@@ -1,12 +1,13 @@
-//! The engine that refuses a commit where what the transaction wrote or read has changed since its begin.
+//! The engine that refuses a commit if what the transaction wrote or read has changed since its begin.
 //!
-//! Nobody waits: a transaction sees its own writes and what had committed at its begin. Its commit is refused where one
-//! that committed since installed a row that this one wrote, or installed a row whose state before or then one of its
-//! statements matches: so it is compared with each install and not only with the end, and by what its statements match and
-//! not by what they listed. Of a commit's conflicts the least row's is named, with the first that made it.
+//! Nobody waits: a transaction sees its own writes and what had committed at its begin. Its commit fails if a
+//! transaction that committed since then installed a row that this one wrote, or a row that one of its statements
+//! matches in its state before or after that install. Each install counts, not only the final state; and rows count
+//! that the statements match, not only those that they listed. The fault names the least row with a conflict, and the
+//! first transaction that caused it.
 //!
-//! It is the [`OptimisticEngine`], a `lab_engine::Journal` over these rules: make one of a table by `new`, and hand it
-//! commands as any `lab_engine::Engine`.
+//! The [`OptimisticEngine`] is a `lab_engine::Journal` over these rules: make one with `new` from a table, and pass it
+//! commands as to any `lab_engine::Engine`.
 #![tactic(auto)]
 
 mod changes;

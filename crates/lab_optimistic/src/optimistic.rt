@@ -1,4 +1,4 @@
-//! The engine in which a commit is refused where what the transaction wrote or read has changed since its begin.
+//! The engine that refuses a commit if what the transaction wrote or read has changed since its begin.
 
 ghost use Rattle.std.specs.Prelude.{◌≡◌};
 ghost use Rattle.lab_engine.specs.declared.event.Level.TheVariants.{Optimistic};

@@ -8,9 +8,11 @@ pub returns-then-are_steady : goal.returns-then-are_steady
 returns-then-are_steady c =
     let f = matches c.args.statement.now c.args.row in
     let vs = c.args.versions.now in
-    inr (c.clear.ensures.items,
+    inr (
+      c.clear.ensures.items,
       steady_classes f c.args.before vs
-      (subst (λ b. list_all (λ v. not (differ b (f v.value))) vs ≡ _) c.matches-first.ensures (sym c.are_steady.ensures ∙ c.if-are_steady.true)))
+          (subst (λ b. list_all (λ v. not (differ b (f v.value))) vs ≡ _) c.matches-first.ensures (sym c.are_steady.ensures ∙ c.if-are_steady.true)),
+    )
 
 pub loop-version-preserved : goal.loop-version-preserved
 loop-version-preserved c =
