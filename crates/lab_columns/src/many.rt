@@ -1,6 +1,6 @@
 //! Conditions evaluated for many values, or for many ids with values.
 
-ghost use Rattle.std.specs.Prelude.{◌≡◌, ◌++◌, ◌≤◌, ℕ, ℤ, length, map, take, not, false, OnOk};
+ghost use Rattle.std.specs.Prelude.{◌≡◌, ◌++◌, ◌≤◌, ℕ, ℤ, map, take, not, false, OnOk};
 ghost use Rattle.lab_table.specs.Predicate.{holds, by_id};
 
 use crate::block::Block;

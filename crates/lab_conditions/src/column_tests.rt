@@ -34,7 +34,7 @@ impl Model for ColumnTests {
 }
 
 impl ColumnTests {
-    ghost use Rattle.std.specs.Prelude.{◌≡◌, ◌||◌, ℤ, pos, int_lt, int_rem, OnOk};
+    ghost use Rattle.std.specs.Prelude.{◌≡◌, ◌||◌, ℤ, int_lt, OnOk};
     ghost use Rattle.std.specs.List.{list_any};
     ghost use Rattle.std.specs.Ordering.{int_eq};
     ghost use Rattle.lab_table.specs.Predicate.{compares};

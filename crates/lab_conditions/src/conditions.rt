@@ -34,8 +34,8 @@ impl Model for Conditions {
 }
 
 impl Conditions {
-    ghost use Rattle.std.specs.Prelude.{◌≡◌, ◌||◌, ℕ, ℤ, pos, false, not, Option, OnOk, IfOk, List};
-    ghost use Rattle.lab_table.specs.Predicate.{Predicate, holds, column, compares};
+    ghost use Rattle.std.specs.Prelude.{◌≡◌, ◌||◌, ℕ, ℤ, pos, false, not, OnOk};
+    ghost use Rattle.lab_table.specs.Predicate.{holds, column, compares};
     ghost use Rattle.lab_table.specs.Statement.{where_holds};
     ghost use Rattle.std.specs.List.{list_any};
     ghost use Rattle.std.specs.Ordering.{int_eq};

@@ -1,6 +1,6 @@
 //! The versions of a row at which what a statement matches changes.
 
-ghost use Rattle.std.specs.Prelude.{◌≡◌, not, true, false, OnOk};
+ghost use Rattle.std.specs.Prelude.{◌≡◌, not, false, OnOk};
 ghost use Rattle.std.specs.List.{list_all};
 ghost use Rattle.lab_table.specs.Statement.{matches};
 ghost use Rattle.lab_deps.specs.Edges.{differ};

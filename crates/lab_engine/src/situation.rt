@@ -1,6 +1,6 @@
 //! The current state of an engine, computed from its log: sessions, row versions, wait-for graph.
 
-ghost use Rattle.std.specs.Prelude.{◌≡◌, ◌<◌, ◌≤◌, ◌+◌, ℕ, [], ◌∷◌, false, true, length, option_map, is_some, Contains, IfOk, IsTrue, OnOk, OnErr};
+ghost use Rattle.std.specs.Prelude.{◌≡◌, ◌<◌, ◌≤◌, ℕ, [], ◌∷◌, false, length, option_map, is_some, Contains, IfOk, IsTrue, OnOk, OnErr};
 ghost use Rattle.std.specs.Prelude as list;
 ghost use Rattle.std.specs.List.{list_all};
 ghost use Rattle.std.specs.Option.{is_none};
