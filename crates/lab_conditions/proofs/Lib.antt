@@ -4,3 +4,4 @@ pub mod Sets
 pub mod Pairs
 pub mod More
 pub mod Tables
+pub mod Crosses
