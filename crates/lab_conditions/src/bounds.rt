@@ -1,6 +1,6 @@
 //! The lowest and the highest value of the rows of which a condition is true.
 
-ghost use Rattle.std.specs.Prelude.{◌≡◌, ◌≤ℤ◌, ℕ, ℤ, true, false, IfSome};
+ghost use Rattle.std.specs.Prelude.{◌≡◌, ◌+◌, ◌≤ℤ◌, ℕ, ℤ, pos, int_div, true, false, IfSome};
 ghost use Rattle.lab_table.specs.Predicate.{compares, holds, column};
 ghost use Rattle.lab_conditions.specs.Filed.{IsWithin, looked};
 
@@ -154,9 +154,9 @@ const LASTS: [u32; 10] = [
 fn common_block(low: i64, high: i64, last: u32) -> Option<Key>
     ensures { IfSome result (λ key. (id : ℕ) (value : ℤ) → low ≤ℤ value → value ≤ℤ high → looked key.lens id value ≡ key.number) }
 {
-    let size = i64::from(last) + 1;
-    let number = low / size;
-    if number == high / size {
+    let number = quotient(low, last);
+    let other = quotient(high, last);
+    if number == other {
         Some(Key {
             lens: Lens::Quotient(last),
             number,
@@ -164,4 +164,11 @@ fn common_block(low: i64, high: i64, last: u32) -> Option<Key>
     } else {
         None
     }
+}
+
+/// The number divided by one more than `last`, rounded toward 0.
+fn quotient(number: i64, last: u32) -> i64
+    ensures { result ≡ int_div number (pos (1 + last)) }
+{
+    number / (i64::from(last) + 1)
 }
