@@ -1,5 +1,5 @@
 -- Conditions by a number that is read off a row, and whether one of them is true of a row.
-use Rattle.std.specs.Prelude.{◌≡◌, ℕ, ◌+◌, ℤ, pos, ◌≤ℤ◌, Bool, true, false, cond, ◌||◌, int_rem, int_div, Option, Some, None, IfSome, List}
+use Rattle.std.specs.Prelude.{ℕ, ◌+◌, ℤ, pos, ◌≤ℤ◌, Bool, false, cond, int_rem, int_div, Option, Some, None, IfSome, List}
 use Rattle.std.specs.List.{list_any}
 use Rattle.std.specs.Ordering.{int_eq}
 use Rattle.std.specs.Map.{lookup}
