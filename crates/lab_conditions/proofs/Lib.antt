@@ -5,3 +5,5 @@ pub mod Pairs
 pub mod More
 pub mod Tables
 pub mod Crosses
+pub mod Blocks
+pub mod Filing
