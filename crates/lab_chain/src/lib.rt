@@ -11,17 +11,20 @@
 //! cycles and the level are true of that history. Functions that allocate return `NoMemory` if an allocation fails.
 #![tactic(auto)]
 
+mod coherence;
 mod laws;
 mod level;
 mod line;
 mod part;
 mod requiring;
 mod seam;
+mod shown;
 mod summary;
 mod summary_json;
 mod summary_reading;
 mod summary_text;
 
+pub use coherence::is_coherent;
 pub use laws::{
     differences_are_least, joining_is_associative, pieces_make_the_run, sound_runs_are_told,
     yes_is_a_serial_run, yes_is_a_snapshot_run,
@@ -30,8 +33,9 @@ pub use level::Level;
 pub use line::{Line, Text};
 pub use part::{Outcome, part_summary};
 pub use requiring::{is_met, put_chain_shortfall};
-pub use seam::{Seam, first_difference};
+pub use seam::{Seam, first_difference, row_between};
 pub use summary::{Ends, Lines, Summary};
 pub use summary_json::print_summary_json;
-pub use summary_reading::read_summary;
+pub use shown::put_shown;
+pub use summary_reading::{has_more_summaries, read_summary};
 pub use summary_text::print_summary;

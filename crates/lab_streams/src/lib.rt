@@ -18,6 +18,6 @@ mod telling;
 pub use ending::{Ending, RunFault, status};
 pub use input::read_input;
 pub use output::{Answer, note_text, write_text};
-pub use reporting::{Format, Wanted, ending_of, print_refused, print_said, shortfall_line};
+pub use reporting::{Format, Wanted, ending_of, is_idle, print_refused, print_said, shortfall_line};
 pub use subcommand::{Subcommand, answer_input};
 pub use telling::{Teller, tell_history};
