@@ -61,13 +61,21 @@ shown_byte b = cond (nat_le 32 b && nat_le b 126) b 63
 abbrev pub shown : List ℕ → List ℕ
 shown text = map shown_byte text
 
--- the most bytes of a reason that are shown
-abbrev pub max_reason : ℕ
-max_reason = 200
+-- the most bytes of a name or of a reason that are shown
+abbrev pub max_shown : ℕ
+max_shown = 200
+
+-- as much of a text as is shown, and what stands for the rest
+abbrev pub cut_text : List ℕ → List ℕ → List ℕ
+cut_text dots text = cond (nat_le (length text) max_shown) (shown text) (shown (take max_shown text) ++ dots)
+
+-- a part's name, or as much of it as is shown
+abbrev pub shown_name : List ℕ → List ℕ
+shown_name name = cut_text (codes "..") name
 
 -- a reason, or as much of it as is shown
 abbrev pub cut_reason : List ℕ → List ℕ
-cut_reason reason = cond (nat_le (length reason) max_reason) (shown reason) (shown (take max_reason reason) ++ codes " ..")
+cut_reason reason = cut_text (codes " ..") reason
 
 -- whether a part shows it
 abbrev pub is_found : Line → Bool
@@ -78,8 +86,8 @@ is_found (Found part reason) = true
 -- the first part that shows a phenomenon of this name, or that wasn't judged
 abbrev pub bar_text : List ℕ → Line → List ℕ
 bar_text name Clear = []
-bar_text name (Unjudged part) = codes ": " ++ name ++ codes " not judged in " ++ shown part
-bar_text name (Found part reason) = codes ": " ++ name ++ codes " present in " ++ shown part
+bar_text name (Unjudged part) = codes ": " ++ name ++ codes " not judged in " ++ shown_name part
+bar_text name (Found part reason) = codes ": " ++ name ++ codes " present in " ++ shown_name part
 
 -- of the three that PL-2 excludes, the first that is found
 abbrev pub read_bar : Lines → List ℕ
@@ -88,14 +96,14 @@ read_bar lines = cond (is_found lines.g1a) (bar_text (codes "G1a") lines.g1a) (c
 -- the part that wasn't judged
 abbrev pub unjudged_text : Line → List ℕ
 unjudged_text Clear = []
-unjudged_text (Unjudged part) = codes ": " ++ shown part
+unjudged_text (Unjudged part) = codes ": " ++ shown_name part
 unjudged_text (Found part reason) = []
 
 -- the part that isn't sound or doesn't fit, and why
 abbrev pub unsound_text : Line → List ℕ
 unsound_text Clear = []
 unsound_text (Unjudged part) = []
-unsound_text (Found part reason) = codes ": " ++ shown part ++ codes ": " ++ cut_reason reason
+unsound_text (Found part reason) = codes ": " ++ shown_name part ++ codes ": " ++ cut_reason reason
 
 -- behind a level, what keeps the run from the next one
 abbrev pub behind_level : Level → Lines → List ℕ
@@ -110,8 +118,8 @@ behind_level level.Unsound lines = unsound_text lines.serial
 -- what the line about snapshots says
 abbrev pub snapshot_text : Line → List ℕ
 snapshot_text Clear = codes "snapshot: yes"
-snapshot_text (Unjudged part) = codes "snapshot: not judged " ++ shown part
-snapshot_text (Found part reason) = codes "snapshot: no " ++ shown part ++ codes ": " ++ cut_reason reason
+snapshot_text (Unjudged part) = codes "snapshot: not judged " ++ shown_name part
+snapshot_text (Found part reason) = codes "snapshot: no " ++ shown_name part ++ codes ": " ++ cut_reason reason
 
 -- what was found in place of what is asked for
 abbrev pub found_text : Requirement → Summary → List ℕ

@@ -36,6 +36,6 @@ pub use requiring::{is_met, put_chain_shortfall};
 pub use seam::{Seam, first_difference, row_between};
 pub use summary::{Ends, Lines, Summary};
 pub use summary_json::print_summary_json;
-pub use shown::put_shown;
+pub use shown::put_name;
 pub use summary_reading::{has_more_summaries, read_summary};
 pub use summary_text::print_summary;

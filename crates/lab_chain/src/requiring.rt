@@ -5,7 +5,7 @@ ghost use Rattle.lab_chain.specs.Chain as spec;
 
 use crate::level::Level;
 use crate::line::Line;
-use crate::shown::{put_reason, put_shown};
+use crate::shown::{put_name, put_reason};
 use crate::summary::{Lines, Summary};
 use lab_reports::Requirement;
 use lab_table::NoMemory;
@@ -53,13 +53,13 @@ fn put_bar(out: &mut Vec<u8>, name: &[u8], line: &Line) -> Result<(), NoMemory>
             out.extend_from_slice(b": ")?;
             out.extend_from_slice(name)?;
             out.extend_from_slice(b" not judged in ")?;
-            put_shown(out, part.as_slice())
+            put_name(out, part.as_slice())
         }
         Line::Found { part, .. } => {
             out.extend_from_slice(b": ")?;
             out.extend_from_slice(name)?;
             out.extend_from_slice(b" present in ")?;
-            put_shown(out, part.as_slice())
+            put_name(out, part.as_slice())
         }
     }
 }
@@ -84,7 +84,7 @@ fn put_unjudged(out: &mut Vec<u8>, line: &Line) -> Result<(), NoMemory>
     match line {
         Line::Unjudged { part } => {
             out.extend_from_slice(b": ")?;
-            put_shown(out, part.as_slice())
+            put_name(out, part.as_slice())
         }
         Line::Clear | Line::Found { .. } => Ok(()),
     }
@@ -92,9 +92,9 @@ fn put_unjudged(out: &mut Vec<u8>, line: &Line) -> Result<(), NoMemory>
 
 /// Appends the name of a part, and a reason.
 fn put_because(out: &mut Vec<u8>, part: &[u8], reason: &[u8]) -> Result<(), NoMemory>
-    ensures { OnOk result (out.new.items ≡ out.old.items ++ (spec.shown part.now ++ codes ": " ++ spec.cut_reason reason.now)) }
+    ensures { OnOk result (out.new.items ≡ out.old.items ++ (spec.shown_name part.now ++ codes ": " ++ spec.cut_reason reason.now)) }
 {
-    put_shown(out, part)?;
+    put_name(out, part)?;
     out.extend_from_slice(b": ")?;
     put_reason(out, reason)
 }
@@ -146,7 +146,7 @@ fn put_snapshot(out: &mut Vec<u8>, line: &Line) -> Result<(), NoMemory>
         Line::Clear => out.extend_from_slice(b"snapshot: yes"),
         Line::Unjudged { part } => {
             out.extend_from_slice(b"snapshot: not judged ")?;
-            put_shown(out, part.as_slice())
+            put_name(out, part.as_slice())
         }
         Line::Found { part, reason } => {
             out.extend_from_slice(b"snapshot: no ")?;
@@ -188,7 +188,7 @@ fn put_instead(
 }
 
 /// Appends why a run doesn't meet a requirement, without a newline. The text has the requirement, and one of these, in
-/// which a name shows `?` for each byte that isn't printable ASCII:
+/// which a name has at most 200 bytes, and `?` for each one that isn't printable ASCII:
 /// - the level that was found, with the first phenomenon and part that exclude the next one:
 ///   `PL-3 asked, PL-2 found: G2-item present in b.json`
 /// - the first part that isn't sound or doesn't fit, with at most 200 bytes of the reason:

@@ -5,8 +5,8 @@ ghost use Rattle.lab_chain.specs.Chain as spec;
 
 use lab_table::NoMemory;
 
-/// The most bytes of a reason that are shown.
-const MAX_REASON: usize = 200;
+/// The most bytes of a name or of a reason that are shown.
+const MAX_SHOWN: usize = 200;
 
 /// The byte itself if it is printable ASCII, else `?`, so that no input controls a terminal.
 fn shown_byte(byte: u8) -> u8
@@ -20,7 +20,7 @@ fn shown_byte(byte: u8) -> u8
 }
 
 /// Appends a text with `?` for each byte that isn't printable ASCII.
-pub fn put_shown(out: &mut Vec<u8>, text: &[u8]) -> Result<(), NoMemory>
+fn put_shown(out: &mut Vec<u8>, text: &[u8]) -> Result<(), NoMemory>
     ensures { OnOk result (out.new.items ≡ out.old.items ++ spec.shown text.now) }
 {
     for byte in text {
@@ -29,13 +29,28 @@ pub fn put_shown(out: &mut Vec<u8>, text: &[u8]) -> Result<(), NoMemory>
     Ok(())
 }
 
-/// Appends a reason, up to [`MAX_REASON`] bytes of it.
+/// Appends up to [`MAX_SHOWN`] bytes of a text, and these dots if it has more.
+fn put_cut(out: &mut Vec<u8>, dots: &[u8], text: &[u8]) -> Result<(), NoMemory>
+    ensures { OnOk result (out.new.items ≡ out.old.items ++ spec.cut_text dots.now text.now) }
+{
+    if text.len() <= MAX_SHOWN {
+        return put_shown(out, text);
+    }
+    put_shown(out, &text[..MAX_SHOWN])?;
+    out.extend_from_slice(dots)
+}
+
+/// Appends the name of a part, up to [`MAX_SHOWN`] bytes of it, with `?` for each byte that isn't printable ASCII. On
+/// failure, a part of it may have been appended.
+pub fn put_name(out: &mut Vec<u8>, name: &[u8]) -> Result<(), NoMemory>
+    ensures { OnOk result (out.new.items ≡ out.old.items ++ spec.shown_name name.now) }
+{
+    put_cut(out, b"..", name)
+}
+
+/// Appends a reason, up to [`MAX_SHOWN`] bytes of it.
 pub fn put_reason(out: &mut Vec<u8>, reason: &[u8]) -> Result<(), NoMemory>
     ensures { OnOk result (out.new.items ≡ out.old.items ++ spec.cut_reason reason.now) }
 {
-    if reason.len() <= MAX_REASON {
-        return put_shown(out, reason);
-    }
-    put_shown(out, &reason[..MAX_REASON])?;
-    out.extend_from_slice(b" ..")
+    put_cut(out, b" ..", reason)
 }

@@ -2,7 +2,7 @@
 
 use crate::asked::Asked;
 use crate::part_text::{count_status, level_status};
-use lab_chain::{Ends, Summary, put_chain_shortfall, put_shown, row_between};
+use lab_chain::{Ends, Summary, put_chain_shortfall, put_name, row_between};
 use lab_printing::put_row_name;
 use lab_reports::Requirement;
 use lab_streams::note_text;
@@ -19,7 +19,7 @@ fn seam_line(
     row: RowName,
 ) -> Result<Vec<u8>, NoMemory> {
     let mut line = Vec::new(alloc);
-    put_shown(&mut line, part)?;
+    put_name(&mut line, part)?;
     line.extend_from_slice(b": ")?;
     line.extend_from_slice(requirement.name().as_bytes())?;
     line.extend_from_slice(b" asked, seam row ")?;
