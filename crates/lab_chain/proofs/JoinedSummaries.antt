@@ -97,7 +97,7 @@ nothing_behind s few =
     (or-false s.committed)
     (no_end_behind s.ends)
 
-nothing_before : (s : Summary) → s.parts ≤ 2 ^ 64 - 1 → joined nothing s ≡ s
+pub nothing_before : (s : Summary) → s.parts ≤ 2 ^ 64 - 1 → joined nothing s ≡ s
 nothing_before s few =
     same_summary (joined nothing s) s (first_counted (2 ^ 64 - 1) s.parts few) (all_clear_first (lines_joined clear_lines s.lines) ∙ all_clear_first s.lines) (best_first s.level) refl refl
 

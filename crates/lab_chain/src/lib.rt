@@ -8,7 +8,8 @@
 //!
 //! Theorems, stated as contracts of empty functions: the order of joining makes no difference; a yes is one of the
 //! history that the parts form together (`whole` of `lab_parts`); and if the parts are sound and fit, each line about
-//! cycles and the level are true of that history. Functions that allocate return `NoMemory` if an allocation fails.
+//! cycles and the level are true of that history. The level, the lines and the ends of each summary agree
+//! ([`is_coherent`]), and a line in which they don't isn't read back. Functions that allocate return `NoMemory` if an allocation fails.
 #![tactic(auto)]
 
 mod coherence;
@@ -26,7 +27,8 @@ mod summary_text;
 
 pub use coherence::is_coherent;
 pub use laws::{
-    differences_are_least, joining_is_associative, pieces_make_the_run, sound_runs_are_told,
+    differences_are_least, joining_is_associative, joining_keeps_coherence, pieces_make_the_run,
+    runs_are_coherent, sound_runs_are_told,
     yes_is_a_serial_run, yes_is_a_snapshot_run,
 };
 pub use level::Level;

@@ -55,9 +55,22 @@ fn write_window<W: Write, N: Write>(
     Ok(SoFar { summary, status })
 }
 
-/// Whether there is something to write of the parts of a window, or of the seam before it.
-fn is_written(window: &Window, seam: &[u8]) -> bool {
-    !(window.text.is_empty() && window.hints.is_empty() && seam.is_empty())
+/// The line on the seam before a window, or nothing. Removes the line of the progress, if `done` parts are on it, where
+/// something is to be written.
+fn seam_before<P: Write>(
+    alloc: Global,
+    asked: Asked,
+    so_far: &SoFar,
+    window: &Window,
+    done: usize,
+    progress: &mut Progress<'_, P>,
+) -> Vec<u8> {
+    let mut seam = Vec::new(alloc);
+    note_seam(alloc, asked, &so_far.summary.ends, &window.summary.ends, &mut seam);
+    if done > 0 && !(window.text.is_empty() && window.hints.is_empty() && seam.is_empty()) {
+        progress.clear();
+    }
+    seam
 }
 
 /// Reads and judges the parts, and writes what there is to say of each. While those of a window are judged, those of the
@@ -92,11 +105,7 @@ fn chain_windows<T: Files + Threads + Sync, W: Write, N: Write, P: Write>(
             drop(so_far);
             return Err(RunFault::NoMemory);
         };
-        let mut seam = Vec::new(alloc);
-        note_seam(alloc, asked, &so_far.summary.ends, &window.summary.ends, &mut seam);
-        if done > 0 && is_written(&window, &seam) {
-            progress.clear();
-        }
+        let seam = seam_before(alloc, asked, &so_far, &window, done, progress);
         so_far = match write_window(alloc, so_far, window, &seam, writer, notes) {
             Ok(next) => next,
             Err(fault) => return Err(fault),
