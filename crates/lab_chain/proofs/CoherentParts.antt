@@ -115,15 +115,15 @@ module _ (h : History) (part : List ℕ) where
 
     all_allowed : allows level.NotJudged Pl299 (level_of g) s ≡ true → allows level.NotJudged Pl3 (level_of g) p ≡ true → all_allow (level_of g) of_all ≡ true
     all_allowed serial snapshot =
-        both_true serial
-        (both_true snapshot
-        (both_true (walk_allowed (IsG0 h) level.NotJudged BelowPl1 (level_of g) (found.g0 phenomena) all.0 (at_g0 g all.7))
-        (both_true (fault_allowed AbortedRead level.NotJudged Pl1 (level_of g) (found.g1a phenomena) all.1 (λ n k row stands. at_second g all.7 (λ m. m.0 n k row stands)))
-        (both_true (fault_allowed IntermediateRead level.NotJudged Pl1 (level_of g) (found.g1b phenomena) all.2 (λ n k row stands. at_second g all.7 (λ m. m.1 n k row stands)))
-        (both_true (walk_allowed (IsG1c h) Pl1 Pl1 (level_of g) (found.g1c phenomena) all.3 (λ es w. at_second g all.7 (λ m. m.2 es w)))
-        (both_true (walk_allowed (IsGSingle h) Pl1 Pl299 (level_of g) (found.g_single phenomena) all.4 (λ es w. at_third g all.7 (λ m. m.1 es (w.0, omega (arith, w.1)))))
-        (both_true (walk_allowed (IsG2Item h) Pl1 Pl2 (level_of g) (found.g2_item phenomena) all.5 (λ es w. at_between g all.7 (λ m. m.1 es w)))
-        (walk_allowed (IsG2 h) Pl1 Pl299 (level_of g) (found.g2 phenomena) all.6 (λ es w. at_third g all.7 (λ m. m.1 es w))))))))))
+        both_true (both_true (both_true (both_true (both_true (both_true (both_true (both_true serial
+        snapshot)
+        (walk_allowed (IsG0 h) level.NotJudged BelowPl1 (level_of g) (found.g0 phenomena) all.0 (at_g0 g all.7)))
+        (fault_allowed AbortedRead level.NotJudged Pl1 (level_of g) (found.g1a phenomena) all.1 (λ n k row stands. at_second g all.7 (λ m. m.0 n k row stands))))
+        (fault_allowed IntermediateRead level.NotJudged Pl1 (level_of g) (found.g1b phenomena) all.2 (λ n k row stands. at_second g all.7 (λ m. m.1 n k row stands))))
+        (walk_allowed (IsG1c h) Pl1 Pl1 (level_of g) (found.g1c phenomena) all.3 (λ es w. at_second g all.7 (λ m. m.2 es w))))
+        (walk_allowed (IsGSingle h) Pl1 Pl299 (level_of g) (found.g_single phenomena) all.4 (λ es w. at_third g all.7 (λ m. m.1 es (w.0, omega (arith, w.1))))))
+        (walk_allowed (IsG2Item h) Pl1 Pl2 (level_of g) (found.g2_item phenomena) all.5 (λ es w. at_between g all.7 (λ m. m.1 es w))))
+        (walk_allowed (IsG2 h) Pl1 Pl299 (level_of g) (found.g2 phenomena) all.6 (λ es w. at_third g all.7 (λ m. m.1 es w)))
 
     all_shown : ((MeetsPl3 h → ⊥) → is_found s ≡ true) → shows (level_of g) of_all ≡ true
     all_shown serial = at g all.7
@@ -132,8 +132,8 @@ module _ (h : History) (part : List ℕ) where
         at grade.Pl3 i = refl
         at grade.Pl299 i = both_true (serial i.1) (walk_found (IsG2 h) (found.g2 phenomena) all.6 (λ none. i.1 (i.0.0, none)))
         at grade.Pl2 i =
-            both_true (serial (λ m. i.1 (to_between h m)))
-            (both_true (walk_found (IsG2Item h) (found.g2_item phenomena) all.5 (λ none. i.1 (i.0, none))) (walk_found (IsG2 h) (found.g2 phenomena) all.6 (λ none. i.1 (to_between h (i.0, none)))))
+            both_true (both_true (serial (λ m. i.1 (to_between h m))) (walk_found (IsG2Item h) (found.g2_item phenomena) all.5 (λ none. i.1 (i.0, none))))
+            (walk_found (IsG2 h) (found.g2 phenomena) all.6 (λ none. i.1 (to_between h (i.0, none))))
         at grade.Pl1 i = both_true (serial (λ m. i.1 m.0)) (read_found (found.g1a phenomena) (found.g1b phenomena) (found.g1c phenomena) all.1 all.2 all.3 i.1)
         at grade.BelowPl1 i = both_true (serial (λ m. i (to_first h m.0))) (walk_found (IsG0 h) (found.g0 phenomena) all.0 i)
         at grade.Unsound i = absurd i
@@ -183,14 +183,15 @@ module _ (h : History) (part : List ℕ) where
         broken m = read_below h fault stands t m
         lines : (g : Grade) → JudgesReads h phenomena g → at_best Pl1 (level_of g) ≡ true → all_allow (level_of g) of_fault ≡ true
         lines g j low =
-            both_true (at_third g j.7 (λ m. broken m.0))
-            (both_true (at_last (level_of g))
-            (both_true (walk_allowed (IsG0 h) level.NotJudged BelowPl1 (level_of g) (found.g0 phenomena) j.0 (at_g0 g j.7))
-            (both_true (fault_allowed AbortedRead level.NotJudged Pl1 (level_of g) (found.g1a phenomena) j.1 (λ n k row stands. low))
-            (both_true (fault_allowed IntermediateRead level.NotJudged Pl1 (level_of g) (found.g1b phenomena) j.2 (λ n k row stands. low))
-            (both_true (not_judged_allowed Pl1 Pl1 (level_of g) (found.g1c phenomena) j.3 low)
-            (both_true (not_judged_allowed Pl1 Pl299 (level_of g) (found.g_single phenomena) j.4 low)
-            (both_true (not_judged_allowed Pl1 Pl2 (level_of g) (found.g2_item phenomena) j.5 low) (not_judged_allowed Pl1 Pl299 (level_of g) (found.g2 phenomena) j.6 low))))))))
+            both_true (both_true (both_true (both_true (both_true (both_true (both_true (both_true (at_third g j.7 (λ m. broken m.0))
+            (at_last (level_of g)))
+            (walk_allowed (IsG0 h) level.NotJudged BelowPl1 (level_of g) (found.g0 phenomena) j.0 (at_g0 g j.7)))
+            (fault_allowed AbortedRead level.NotJudged Pl1 (level_of g) (found.g1a phenomena) j.1 (λ n k row stands. low)))
+            (fault_allowed IntermediateRead level.NotJudged Pl1 (level_of g) (found.g1b phenomena) j.2 (λ n k row stands. low)))
+            (not_judged_allowed Pl1 Pl1 (level_of g) (found.g1c phenomena) j.3 low))
+            (not_judged_allowed Pl1 Pl299 (level_of g) (found.g_single phenomena) j.4 low))
+            (not_judged_allowed Pl1 Pl2 (level_of g) (found.g2_item phenomena) j.5 low))
+            (not_judged_allowed Pl1 Pl299 (level_of g) (found.g2 phenomena) j.6 low)
         at : (g : Grade) → JudgesReads h phenomena g → Agree g
         at grade.Pl3 j = absurd (broken j.7.0)
         at grade.Pl299 j = absurd (broken j.7.0.0)
@@ -201,24 +202,24 @@ module _ (h : History) (part : List ℕ) where
 
     nothing_agrees : (g : Grade) → JudgesNothing phenomena g → Agree g
     nothing_agrees g j = subst Agree (sym j.7) (
-      both_true refl
-      (both_true refl
-      (both_true (not_judged_allowed level.NotJudged BelowPl1 level.Unsound (found.g0 phenomena) j.0 refl)
-      (both_true (not_judged_allowed level.NotJudged Pl1 level.Unsound (found.g1a phenomena) j.1 refl)
-      (both_true (not_judged_allowed level.NotJudged Pl1 level.Unsound (found.g1b phenomena) j.2 refl)
-      (both_true (not_judged_allowed Pl1 Pl1 level.Unsound (found.g1c phenomena) j.3 refl)
-      (both_true (not_judged_allowed Pl1 Pl299 level.Unsound (found.g_single phenomena) j.4 refl)
-      (both_true (not_judged_allowed Pl1 Pl2 level.Unsound (found.g2_item phenomena) j.5 refl) (not_judged_allowed Pl1 Pl299 level.Unsound (found.g2 phenomena) j.6 refl)))))))),
-      both_true refl
-      (both_true refl
-      (both_true refl
-      (both_true refl
-      (both_true (not_judged_unclear (found.g0 phenomena) j.0)
-      (both_true (not_judged_unclear (found.g1a phenomena) j.1)
-      (both_true (not_judged_unclear (found.g1b phenomena) j.2)
-      (both_true (not_judged_unclear (found.g1c phenomena) j.3)
-      (both_true (not_judged_unclear (found.g_single phenomena) j.4)
-      (both_true (not_judged_unclear (found.g2_item phenomena) j.5) (not_judged_unclear (found.g2 phenomena) j.6)))))))))),
+      both_true (both_true (both_true (both_true (both_true (both_true (both_true (both_true refl
+      refl)
+      (not_judged_allowed level.NotJudged BelowPl1 level.Unsound (found.g0 phenomena) j.0 refl))
+      (not_judged_allowed level.NotJudged Pl1 level.Unsound (found.g1a phenomena) j.1 refl))
+      (not_judged_allowed level.NotJudged Pl1 level.Unsound (found.g1b phenomena) j.2 refl))
+      (not_judged_allowed Pl1 Pl1 level.Unsound (found.g1c phenomena) j.3 refl))
+      (not_judged_allowed Pl1 Pl299 level.Unsound (found.g_single phenomena) j.4 refl))
+      (not_judged_allowed Pl1 Pl2 level.Unsound (found.g2_item phenomena) j.5 refl))
+      (not_judged_allowed Pl1 Pl299 level.Unsound (found.g2 phenomena) j.6 refl),
+      both_true refl (both_true (both_true (both_true (both_true (both_true (both_true (both_true (both_true refl
+      refl)
+      (not_judged_unclear (found.g0 phenomena) j.0))
+      (not_judged_unclear (found.g1a phenomena) j.1))
+      (not_judged_unclear (found.g1b phenomena) j.2))
+      (not_judged_unclear (found.g1c phenomena) j.3))
+      (not_judged_unclear (found.g_single phenomena) j.4))
+      (not_judged_unclear (found.g2_item phenomena) j.5))
+      (not_judged_unclear (found.g2 phenomena) j.6)),
     )
 
     fault_agrees : (b : Bool) → is_uncommitted_read fault ≡ b → (g : Grade) → JudgesAtRead b h phenomena g → Stands h fault → Agree g
@@ -277,7 +278,7 @@ coherent_part p is = at p.outcome is.0 is.1
   where
     at : (o : Outcome) (input : Option (List ℕ)) → IsOutcome input o → is_coherent (part_summary p.name o) ≡ true
     at (Judged report initial last) None called = absurd called
-    at (Judged report initial last) (Some bytes) called = let agrees = report_agrees called.0 p.name report called.2 in both_true refl (both_true agrees.0 (both_true agrees.1 refl))
+    at (Judged report initial last) (Some bytes) called = let agrees = report_agrees called.0 p.name report called.2 in both_true (both_true (both_true refl agrees.0) agrees.1) refl
     at (Refused f) input called = refl
     at Unreadable input called = refl
 

@@ -53,14 +53,15 @@ module _ (u f k l : Level) where
 
 all_joined : (k l : Level) (a b : Lines) → all_allow k a ≡ true → all_allow l b ≡ true → all_allow (worse k l) (lines_joined a b) ≡ true
 all_joined k l a b =
-    joined_and (allows_joined NotJudged Pl299 k l a.serial b.serial)
-    (joined_and (allows_joined NotJudged Pl3 k l a.snapshot b.snapshot)
-    (joined_and (allows_joined NotJudged BelowPl1 k l a.g0 b.g0)
-    (joined_and (allows_joined NotJudged Pl1 k l a.g1a b.g1a)
-    (joined_and (allows_joined NotJudged Pl1 k l a.g1b b.g1b)
-    (joined_and (allows_joined Pl1 Pl1 k l a.g1c b.g1c)
-    (joined_and (allows_joined Pl1 Pl299 k l a.g_single b.g_single)
-    (joined_and (allows_joined Pl1 Pl2 k l a.g2_item b.g2_item) (allows_joined Pl1 Pl299 k l a.g2 b.g2))))))))
+    joined_and (joined_and (joined_and (joined_and (joined_and (joined_and (joined_and (joined_and (allows_joined NotJudged Pl299 k l a.serial b.serial)
+    (allows_joined NotJudged Pl3 k l a.snapshot b.snapshot))
+    (allows_joined NotJudged BelowPl1 k l a.g0 b.g0))
+    (allows_joined NotJudged Pl1 k l a.g1a b.g1a))
+    (allows_joined NotJudged Pl1 k l a.g1b b.g1b))
+    (allows_joined Pl1 Pl1 k l a.g1c b.g1c))
+    (allows_joined Pl1 Pl299 k l a.g_single b.g_single))
+    (allows_joined Pl1 Pl2 k l a.g2_item b.g2_item))
+    (allows_joined Pl1 Pl299 k l a.g2 b.g2)
 
 found_first : (a b : Line) → is_found a ≡ true → is_found (line_joined a b) ≡ true
 found_first Clear b is = absurd (false≢true is)
@@ -97,35 +98,45 @@ unclear_last (Found other why) (Found part reason) is = refl
 module _ (a b : Lines) where
   none_first : none_clear a ≡ true → none_clear (lines_joined a b) ≡ true
   none_first =
-      and_more (unclear_first a.serial b.serial) (and_more (unclear_first a.snapshot b.snapshot) (and_more (unclear_first a.g0 b.g0) (and_more (unclear_first a.g1a b.g1a)
-      (and_more (unclear_first a.g1b b.g1b) (and_more (unclear_first a.g1c b.g1c) (and_more (unclear_first a.g_single b.g_single)
-      (and_more (unclear_first a.g2_item b.g2_item) (unclear_first a.g2 b.g2))))))))
+      and_more (and_more (and_more (and_more (and_more (and_more (and_more (and_more (unclear_first a.serial b.serial) (unclear_first a.snapshot b.snapshot))
+      (unclear_first a.g0 b.g0))
+      (unclear_first a.g1a b.g1a))
+      (unclear_first a.g1b b.g1b))
+      (unclear_first a.g1c b.g1c))
+      (unclear_first a.g_single b.g_single))
+      (unclear_first a.g2_item b.g2_item))
+      (unclear_first a.g2 b.g2)
 
   none_last : none_clear b ≡ true → none_clear (lines_joined a b) ≡ true
   none_last =
-      and_more (unclear_last a.serial b.serial) (and_more (unclear_last a.snapshot b.snapshot) (and_more (unclear_last a.g0 b.g0) (and_more (unclear_last a.g1a b.g1a)
-      (and_more (unclear_last a.g1b b.g1b) (and_more (unclear_last a.g1c b.g1c) (and_more (unclear_last a.g_single b.g_single)
-      (and_more (unclear_last a.g2_item b.g2_item) (unclear_last a.g2 b.g2))))))))
+      and_more (and_more (and_more (and_more (and_more (and_more (and_more (and_more (unclear_last a.serial b.serial) (unclear_last a.snapshot b.snapshot))
+      (unclear_last a.g0 b.g0))
+      (unclear_last a.g1a b.g1a))
+      (unclear_last a.g1b b.g1b))
+      (unclear_last a.g1c b.g1c))
+      (unclear_last a.g_single b.g_single))
+      (unclear_last a.g2_item b.g2_item))
+      (unclear_last a.g2 b.g2)
 
   shows_first : (l : Level) → shows l a ≡ true → shows l (lines_joined a b) ≡ true
   shows_first Pl3 = λ is. refl
   shows_first Pl299 = and_more (found_first a.serial b.serial) (found_first a.g2 b.g2)
-  shows_first Pl2 = and_more (found_first a.serial b.serial) (and_more (found_first a.g2_item b.g2_item) (found_first a.g2 b.g2))
+  shows_first Pl2 = and_more (and_more (found_first a.serial b.serial) (found_first a.g2_item b.g2_item)) (found_first a.g2 b.g2)
   shows_first Pl1 =
-      and_more (found_first a.serial b.serial) (or_more _ _ _ _ (found_first a.g1a b.g1a) (or_more _ _ _ _ (found_first a.g1b b.g1b) (found_first a.g1c b.g1c)))
+      and_more (found_first a.serial b.serial) (or_more _ _ _ _ (or_more _ _ _ _ (found_first a.g1a b.g1a) (found_first a.g1b b.g1b)) (found_first a.g1c b.g1c))
   shows_first NotJudged = none_first
   shows_first BelowPl1 = and_more (found_first a.serial b.serial) (found_first a.g0 b.g0)
-  shows_first Unsound = and_more (found_first a.serial b.serial) (and_more (found_first a.snapshot b.snapshot) none_first)
+  shows_first Unsound = and_more (and_more (found_first a.serial b.serial) (found_first a.snapshot b.snapshot)) none_first
 
   shows_last : (l : Level) → shows l b ≡ true → shows l (lines_joined a b) ≡ true
   shows_last Pl3 = λ is. refl
   shows_last Pl299 = and_more (found_last a.serial b.serial) (found_last a.g2 b.g2)
-  shows_last Pl2 = and_more (found_last a.serial b.serial) (and_more (found_last a.g2_item b.g2_item) (found_last a.g2 b.g2))
+  shows_last Pl2 = and_more (and_more (found_last a.serial b.serial) (found_last a.g2_item b.g2_item)) (found_last a.g2 b.g2)
   shows_last Pl1 =
-      and_more (found_last a.serial b.serial) (or_more _ _ _ _ (found_last a.g1a b.g1a) (or_more _ _ _ _ (found_last a.g1b b.g1b) (found_last a.g1c b.g1c)))
+      and_more (found_last a.serial b.serial) (or_more _ _ _ _ (or_more _ _ _ _ (found_last a.g1a b.g1a) (found_last a.g1b b.g1b)) (found_last a.g1c b.g1c))
   shows_last NotJudged = none_last
   shows_last BelowPl1 = and_more (found_last a.serial b.serial) (found_last a.g0 b.g0)
-  shows_last Unsound = and_more (found_last a.serial b.serial) (and_more (found_last a.snapshot b.snapshot) none_last)
+  shows_last Unsound = and_more (and_more (found_last a.serial b.serial) (found_last a.snapshot b.snapshot)) none_last
 
   shows_joined : (k l : Level) → shows k a ≡ true → shows l b ≡ true → shows (worse k l) (lines_joined a b) ≡ true
   shows_joined k l one other = at (nat_lt (level_rank k) (level_rank l))
@@ -151,7 +162,7 @@ module _ (a b : Lines) where
 -- the ends of a piece behind a seam
 ends_behind : (s b : Lines) (f : Option Ends) → has_ends f b ≡ true → has_ends f (lines_joined s b) ≡ true
 ends_behind s b None is = absurd (false≢true is)
-ends_behind s b (Some f) = and_more (known_last s b f.initial) (known_last s b f.last)
+ends_behind s b (Some f) is = and_more (known_last s b f.initial) (known_last s b f.last) is
 
 -- ---- seams
 
@@ -184,13 +195,13 @@ pub record Coherent (s : Summary) : Type 0 where
 
 pub to_coherent : (s : Summary) → is_coherent s ≡ true → Coherent s
 to_coherent s is =
-    let first = and_parts (nat_le 1 s.parts) _ is in
-    let second = and_parts (all_allow s.level s.lines) _ first.1 in
-    let third = and_parts (shows s.level s.lines) (has_ends s.ends s.lines) second.1 in
-    record { some = first.0; agrees = (second.0, third.0); ends = third.1 }
+    let last = and_parts (nat_le 1 s.parts && all_allow s.level s.lines && shows s.level s.lines) (has_ends s.ends s.lines) is in
+    let second = and_parts (nat_le 1 s.parts && all_allow s.level s.lines) (shows s.level s.lines) last.0 in
+    let first = and_parts (nat_le 1 s.parts) (all_allow s.level s.lines) second.0 in
+    record { some = first.0; agrees = (first.1, second.1); ends = last.1 }
 
 pub from_coherent : (s : Summary) → Coherent s → is_coherent s ≡ true
-from_coherent s c = both_true c.some (both_true c.agrees.0 (both_true c.agrees.1 c.ends))
+from_coherent s c = both_true (both_true (both_true c.some c.agrees.0) c.agrees.1) c.ends
 
 pub coherent_joined : (a b : Summary) → is_coherent a ≡ true → is_coherent b ≡ true → is_coherent (joined a b) ≡ true
 coherent_joined a b one other =

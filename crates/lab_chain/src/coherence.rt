@@ -124,12 +124,7 @@ fn is_printable(byte: u8) -> bool
 fn are_printable(text: &[u8]) -> bool
     ensures { result ≡ list_all spec.is_printable text.now }
 {
-    for byte in text {
-        if !is_printable(*byte) {
-            return false;
-        }
-    }
-    true
+    text.iter().all(|byte| is_printable(*byte))
 }
 
 /// Whether the reason of a line is a text of one line.
