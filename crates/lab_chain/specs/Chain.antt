@@ -1,5 +1,5 @@
 -- The parts of a run, the summary of all of them, and whether the summary meets a requirement.
-use Rattle.std.specs.Prelude.{ℕ, nat_le, length, Bool, true, false, ◌&&◌, cond, Option, Some, None, List, [], ◌++◌, map, take, fold, codes}
+use Rattle.std.specs.Prelude.{ℕ, nat_le, nat_lt, length, Bool, true, false, ◌&&◌, cond, Option, Some, None, List, [], ◌++◌, map, take, fold, codes}
 use Rattle.lab_chain.specs.Levels.{levels_met, level_name}
 use Rattle.lab_chain.specs.Parts.{part_summary, IsOutcome}
 use Rattle.lab_chain.specs.Summary.{joined, nothing}
@@ -67,7 +67,7 @@ max_shown = 200
 
 -- as much of a text as is shown, and what stands for the rest
 abbrev pub cut_text : List ℕ → List ℕ → List ℕ
-cut_text dots text = cond (nat_le (length text) max_shown) (shown text) (shown (take max_shown text) ++ dots)
+cut_text dots text = cond (nat_lt max_shown (length text)) (shown (take max_shown text) ++ dots) (shown text)
 
 -- a part's name, or as much of it as is shown
 abbrev pub shown_name : List ℕ → List ℕ
@@ -115,11 +115,14 @@ behind_level level.NotJudged lines = unjudged_text lines.g0
 behind_level level.BelowPl1 lines = codes " found" ++ bar_text (codes "G0") lines.g0
 behind_level level.Unsound lines = unsound_text lines.serial
 
--- what the line about snapshots says
+-- what a line about a verdict says
+abbrev pub told_verdict : Line → List ℕ
+told_verdict Clear = codes "yes"
+told_verdict (Unjudged part) = codes "not judged " ++ shown_name part
+told_verdict (Found part reason) = codes "no " ++ shown_name part ++ codes ": " ++ cut_reason reason
+
 abbrev pub snapshot_text : Line → List ℕ
-snapshot_text Clear = codes "snapshot: yes"
-snapshot_text (Unjudged part) = codes "snapshot: not judged " ++ shown_name part
-snapshot_text (Found part reason) = codes "snapshot: no " ++ shown_name part ++ codes ": " ++ cut_reason reason
+snapshot_text line = codes "snapshot: " ++ told_verdict line
 
 -- what was found in place of what is asked for
 abbrev pub found_text : Requirement → Summary → List ℕ

@@ -138,21 +138,29 @@ fn put_behind_level(out: &mut Vec<u8>, level: Level, lines: &Lines) -> Result<()
     }
 }
 
+/// Appends what a line about a verdict says.
+fn put_verdict(out: &mut Vec<u8>, line: &Line) -> Result<(), NoMemory>
+    ensures { OnOk result (out.new.items ≡ out.old.items ++ spec.told_verdict line.now) }
+{
+    match line {
+        Line::Clear => out.extend_from_slice(b"yes"),
+        Line::Unjudged { part } => {
+            out.extend_from_slice(b"not judged ")?;
+            put_name(out, part.as_slice())
+        }
+        Line::Found { part, reason } => {
+            out.extend_from_slice(b"no ")?;
+            put_because(out, part.as_slice(), reason.as_slice())
+        }
+    }
+}
+
 /// Appends what the line about snapshots says.
 fn put_snapshot(out: &mut Vec<u8>, line: &Line) -> Result<(), NoMemory>
     ensures { OnOk result (out.new.items ≡ out.old.items ++ spec.snapshot_text line.now) }
 {
-    match line {
-        Line::Clear => out.extend_from_slice(b"snapshot: yes"),
-        Line::Unjudged { part } => {
-            out.extend_from_slice(b"snapshot: not judged ")?;
-            put_name(out, part.as_slice())
-        }
-        Line::Found { part, reason } => {
-            out.extend_from_slice(b"snapshot: no ")?;
-            put_because(out, part.as_slice(), reason.as_slice())
-        }
-    }
+    out.extend_from_slice(b"snapshot: ")?;
+    put_verdict(out, line)
 }
 
 /// Appends what was found in place of what is required.

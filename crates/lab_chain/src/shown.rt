@@ -33,11 +33,12 @@ fn put_shown(out: &mut Vec<u8>, text: &[u8]) -> Result<(), NoMemory>
 fn put_cut(out: &mut Vec<u8>, dots: &[u8], text: &[u8]) -> Result<(), NoMemory>
     ensures { OnOk result (out.new.items ≡ out.old.items ++ spec.cut_text dots.now text.now) }
 {
-    if text.len() <= MAX_SHOWN {
-        return put_shown(out, text);
+    if MAX_SHOWN < text.len() {
+        put_shown(out, &text[..MAX_SHOWN])?;
+        out.extend_from_slice(dots)
+    } else {
+        put_shown(out, text)
     }
-    put_shown(out, &text[..MAX_SHOWN])?;
-    out.extend_from_slice(dots)
 }
 
 /// Appends the name of a part, up to [`MAX_SHOWN`] bytes of it, with `?` for each byte that isn't printable ASCII. On
