@@ -72,9 +72,7 @@ fn shows(level: Level, lines: &Lines) -> bool
     match level {
         Level::Pl3 => true,
         Level::Pl299 => is_found(&lines.serial) && is_found(&lines.g2),
-        Level::Pl2 => {
-            is_found(&lines.serial) && is_found(&lines.g2_item) && is_found(&lines.g2)
-        }
+        Level::Pl2 => { is_found(&lines.serial) && is_found(&lines.g2_item) && is_found(&lines.g2) }
         Level::Pl1 => is_found(&lines.serial) && has_read(lines),
         Level::NotJudged => none_clear(lines),
         Level::BelowPl1 => is_found(&lines.serial) && is_found(&lines.g0),

@@ -28,16 +28,15 @@ mod summary_text;
 pub use coherence::is_coherent;
 pub use laws::{
     differences_are_least, joining_is_associative, joining_keeps_coherence, pieces_make_the_run,
-    runs_are_coherent, sound_runs_are_told,
-    yes_is_a_serial_run, yes_is_a_snapshot_run,
+    runs_are_coherent, sound_runs_are_told, yes_is_a_serial_run, yes_is_a_snapshot_run,
 };
 pub use level::Level;
 pub use line::{Line, Text};
 pub use part::{Outcome, part_summary};
 pub use requiring::{is_met, put_chain_shortfall};
 pub use seam::{Seam, first_difference, row_between};
+pub use shown::put_name;
 pub use summary::{Ends, Lines, Summary};
 pub use summary_json::print_summary_json;
-pub use shown::put_name;
 pub use summary_reading::{has_more_summaries, read_summary};
 pub use summary_text::print_summary;

@@ -117,7 +117,10 @@ fn summary_in(alloc: Global, json: &Json) -> Result<Summary, NoMemory> {
         parts: json.get("parts").and_then(Json::as_u64).unwrap_or(0),
         lines,
         level: level_in(json.get("level")),
-        committed: json.get("committed").and_then(Json::as_bool).unwrap_or(false),
+        committed: json
+            .get("committed")
+            .and_then(Json::as_bool)
+            .unwrap_or(false),
         ends,
     })
 }

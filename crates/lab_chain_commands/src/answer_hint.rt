@@ -86,7 +86,11 @@ fn no_answer_hint(alloc: Global, name: &str, bytes: &[u8]) -> Result<Vec<u8>, No
     put_shown(&mut line, name.as_bytes(), SHOWN_NAME)?;
     line.extend_from_slice(b": ")?;
     put_found(&mut line, bytes)?;
-    line.extend_from_slice(if has_more_summaries(bytes) { APART } else { WANTED })?;
+    line.extend_from_slice(if has_more_summaries(bytes) {
+        APART
+    } else {
+        WANTED
+    })?;
     Ok(line)
 }
 

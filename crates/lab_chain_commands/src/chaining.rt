@@ -66,7 +66,13 @@ fn seam_before<P: Write>(
     progress: &mut Progress<'_, P>,
 ) -> Vec<u8> {
     let mut seam = Vec::new(alloc);
-    note_seam(alloc, asked, &so_far.summary.ends, &window.summary.ends, &mut seam);
+    note_seam(
+        alloc,
+        asked,
+        &so_far.summary.ends,
+        &window.summary.ends,
+        &mut seam,
+    );
     if done > 0 && !(window.text.is_empty() && window.hints.is_empty() && seam.is_empty()) {
         progress.clear();
     }

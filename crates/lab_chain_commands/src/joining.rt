@@ -7,9 +7,9 @@ ghost use Rattle.lab_chain_commands.specs.ChainAnswers.{whole_text, whole_status
 ghost use Rattle.lab_chain_commands.specs.JoinAnswers.{Named, IsNamed, IsJoinAnswer, with_piece, joined_pieces, refusals_text, pieces_status};
 
 use crate::asked::Asked;
-use crate::shortfalls::{note_seam, note_shortfalls};
 use crate::part_text::{print_whole, whole_status};
 use crate::piece::{Piece, piece_status, put_refusal, read_piece};
+use crate::shortfalls::{note_seam, note_shortfalls};
 use lab_chain::Summary;
 use lab_streams::{RunFault, note_text, write_text};
 use lab_table::NoMemory;

@@ -2,12 +2,12 @@
 
 use crate::asked::Asked;
 use crate::part_text::{count_status, level_status};
+use itoa::Buffer;
 use lab_chain::{Ends, Summary, put_chain_shortfall, put_name, row_between};
 use lab_printing::put_row_name;
 use lab_reports::Requirement;
 use lab_streams::note_text;
 use lab_table::{NoMemory, RowName};
-use itoa::Buffer;
 use std::alloc::Global;
 use std::io::Write;
 

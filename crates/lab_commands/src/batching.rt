@@ -94,7 +94,9 @@ fn note_lack<N: Write>(
     if let Some(requirement) = requirement
         && names.is_empty()
         && line.extend_from_slice(b"batch: ").is_ok()
-        && line.extend_from_slice(requirement.name().as_bytes()).is_ok()
+        && line
+            .extend_from_slice(requirement.name().as_bytes())
+            .is_ok()
         && line.extend_from_slice(b" asked, no file given\n").is_ok()
     {
         note_text(&line, notes);

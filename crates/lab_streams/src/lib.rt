@@ -20,6 +20,8 @@ pub use ending::{Ending, RunFault, status};
 pub use input::read_input;
 pub use laws::idle_histories_are_idle;
 pub use output::{Answer, note_text, write_text};
-pub use reporting::{Format, Wanted, ending_of, is_idle, print_refused, print_said, shortfall_line};
+pub use reporting::{
+    Format, Wanted, ending_of, is_idle, print_refused, print_said, shortfall_line,
+};
 pub use subcommand::{Subcommand, answer_input};
 pub use telling::{Teller, tell_history};

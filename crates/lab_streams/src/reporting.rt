@@ -95,11 +95,7 @@ fn put_idle(out: &mut Vec<u8>, requirement: Requirement) -> Result<(), NoMemory>
 }
 
 /// Appends why a report doesn't meet a requirement, or that no transaction of its history committed.
-fn put_unkept(
-    out: &mut Vec<u8>,
-    requirement: Requirement,
-    report: &Report,
-) -> Result<(), NoMemory>
+fn put_unkept(out: &mut Vec<u8>, requirement: Requirement, report: &Report) -> Result<(), NoMemory>
     ensures { OnOk result (out.new.items ≡ out.old.items ++ unkept_text requirement report.now) }
 {
     if is_idle(report) {
