@@ -11,7 +11,7 @@ class Joining:
     """The results so far, in files of a folder."""
 
     def __init__(self, program, room):
-        self.program, self.room, self.paths, self.count = program, room, [], 0
+        self.program, self.room, self.paths, self.count, self.last = program, room, [], 0, None
 
     def keep(self, answer):
         self.count += 1
@@ -28,6 +28,20 @@ class Joining:
             self.paths = []
             self.keep(joined)
         self.keep(answer)
+
+    def seam(self, answer, asked):
+        """Standard error of the program that joins the last result and this one, if a level is required of the run."""
+        before, self.last = self.last, answer
+        if not asked or before is None:
+            return b""
+        paths = [os.path.join(self.room, name) for name in ("before", "behind")]
+        for path, text in zip(paths, (before, answer)):
+            with open(path, "wb") as file:
+                file.write(text)
+        told = self.ran(*asked, "--join", *paths).stderr
+        for path in paths:
+            os.remove(path)
+        return told
 
     def joined(self, words):
         """Runs the program that joins the results, with these arguments. Without results, it gets a run without parts."""

@@ -102,9 +102,10 @@ def missing(names):
 
 
 def answer(parts, first, initial, end):
-    """The output of `chain --json` for this many parts, all a yes. Rows have their tables' names."""
+    """The output of `chain --json` for this many parts, all a yes, of which a transaction committed. Rows have their tables'
+    names."""
     return written({
-        "parts": parts, "first": first, "initial": initial, "end": end, "level": "PL-3",
+        "committed": True, "parts": parts, "first": first, "initial": initial, "end": end, "level": "PL-3",
         "serializable": {"verdict": "yes"}, "snapshot": {"verdict": "yes"},
         "phenomena": {name: {"verdict": "absent"} for name in made.PHENOMENA},
     }) + b"\n"

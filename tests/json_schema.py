@@ -19,6 +19,7 @@ TYPES = {
     "array": lambda value: isinstance(value, list),
     "string": lambda value: isinstance(value, str),
     "integer": is_whole,
+    "boolean": lambda value: isinstance(value, bool),
     "null": lambda value: value is None,
 }
 

@@ -72,6 +72,7 @@ fn asked(matches: &ArgMatches<'_>) -> Asked {
     Asked {
         format: wanted.format,
         requirement: wanted.requirement,
+        parts: matches.get_one::<u64>("parts"),
         reports: matches.get_flag("reports"),
     }
 }

@@ -1,5 +1,5 @@
 -- What is said of several pieces of a run.
-use Rattle.std.{proofs.Common.{◌≡◌, ℕ, ◌+◌, ◌-◌, ◌≤◌, min, Option, Some, None, List, [], ◌∷◌, ◌++◌, refl, sym, ap, ◌∙◌, subst, arith}, specs.Prelude.{◌^◌, fold}}
+use Rattle.std.{proofs.Common.{◌≡◌, ℕ, ◌+◌, ◌-◌, ◌≤◌, min, Option, Some, None, List, [], ◌∷◌, ◌++◌, refl, sym, ap, ◌∙◌, subst, arith}, proofs.Math.Bool.{or_assoc, or-false}, specs.Prelude.{◌^◌, fold}}
 use Rattle.lab_chain.specs.{Levels.{worse}, Summary.{clear_lines, lines_joined, seam_at, seam_between, ends_joined, joined, nothing}, declared.{seam.Seam.{Seam}, summary.{Ends.{Ends}, Summary.{Summary}}}}
 use Rattle.lab_chain.proofs.JoinedLines.{all_clear_first, all_clear_last, five_pieces, no_lines_between, best_first, best_last, five_levels, no_level_between}
 
@@ -32,8 +32,8 @@ seam_from (Some a) b (Some c) = refl
 
 -- ---- three pieces
 -- pieces of which the same is said in each part are one
-same_summary : (s t : Summary) → s.parts ≡ t.parts → s.lines ≡ t.lines → s.level ≡ t.level → s.ends ≡ t.ends → s ≡ t
-same_summary s t parts lines level ends = λ i. record { parts = parts i; lines = lines i; level = level i; ends = ends i }
+same_summary : (s t : Summary) → s.parts ≡ t.parts → s.lines ≡ t.lines → s.level ≡ t.level → s.committed ≡ t.committed → s.ends ≡ t.ends → s ≡ t
+same_summary s t parts lines level committed ends = λ i. record { parts = parts i; lines = lines i; level = level i; committed = committed i; ends = ends i }
 
 limited : (m a b c : ℕ) → min (min (a + b) m + c) m ≡ min (a + min (b + c) m) m
 limited m a b c = omega arith
@@ -51,6 +51,7 @@ module _ (a b c : Summary) where
       ∙ sym (ap (λ u. lines_joined a.lines (lines_joined u.lines (lines_joined b.lines (lines_joined t.lines c.lines)))) to))
       (ap (λ u. worse (worse (worse (worse a.level s.level) b.level) u.level) c.level) from ∙ five_levels a.level s.level b.level t.level c.level
       ∙ sym (ap (λ u. worse (worse a.level u.level) (worse (worse b.level t.level) c.level)) to))
+      (or_assoc a.committed b.committed c.committed)
       (three_ends a.ends b.ends c.ends)
 
   -- where it has none
@@ -66,6 +67,7 @@ module _ (a b c : Summary) where
       ∙ sym (λ i. lines_joined a.lines (lines_joined (to i).lines (lines_joined (clear i) (lines_joined (second i).lines c.lines)))))
       ((λ i. worse (worse (worse (worse a.level (first i).level) b.level) (from i).level) c.level) ∙ no_level_between a.level b.level s.level c.level
       ∙ sym (λ i. worse (worse a.level (to i).level) (worse (worse b.level (second i).level) c.level)))
+      (or_assoc a.committed b.committed c.committed)
       (three_ends a.ends b.ends c.ends)
 
   pub joined_three : (b.ends ≡ None → b.lines ≡ clear_lines) → joined (joined a b) c ≡ joined a (joined b c)
@@ -92,11 +94,12 @@ nothing_behind s few =
     same_summary (joined s nothing) s (all_counted (2 ^ 64 - 1) s.parts few)
     (ap (λ u. lines_joined s.lines (lines_joined u.lines clear_lines)) none ∙ all_clear_last s.lines)
     (ap (λ u. worse (worse s.level u.level) nothing.level) none ∙ best_last (worse s.level nothing.level) ∙ best_last s.level)
+    (or-false s.committed)
     (no_end_behind s.ends)
 
-nothing_before : (s : Summary) → s.parts ≤ 2 ^ 64 - 1 → joined nothing s ≡ s
+pub nothing_before : (s : Summary) → s.parts ≤ 2 ^ 64 - 1 → joined nothing s ≡ s
 nothing_before s few =
-    same_summary (joined nothing s) s (first_counted (2 ^ 64 - 1) s.parts few) (all_clear_first (lines_joined clear_lines s.lines) ∙ all_clear_first s.lines) (best_first s.level) refl
+    same_summary (joined nothing s) s (first_counted (2 ^ 64 - 1) s.parts few) (all_clear_first (lines_joined clear_lines s.lines) ∙ all_clear_first s.lines) (best_first s.level) refl refl
 
 -- ---- many pieces, of which each has parts
 module _ {P : Type 0} (of : P → Summary) (few : (p : P) → (of p).parts ≤ 2 ^ 64 - 1) (has : (p : P) → (of p).ends ≡ None → ⊥) where

@@ -13,4 +13,6 @@ mod SoundSummaries
 mod ToldLines
 mod OneLevel
 mod ToldLevels
+mod CoherentPieces
+mod CoherentParts
 mod Utf8Texts

@@ -28,10 +28,10 @@ none_left : (m n : ℕ) → m ≤ n → n ≡ 0 → m ≡ 0
 none_left m n le is = omega (arith, le, is)
 
 module _ (h : History) where
-  to_between : MeetsPl3 h → MeetsPl299 h
+  pub to_between : MeetsPl3 h → MeetsPl299 h
   to_between m = (m.0, λ es w. m.1 es (w.0, omega (arith, w.1, fewer is_item_anti is_anti item_is_anti es)))
 
-  to_first : MeetsPl2 h → MeetsPl1 h
+  pub to_first : MeetsPl2 h → MeetsPl1 h
   to_first m = λ es w. m.2 es (w.0, none_left (count_kind is_anti es) (count_kind (λ k. not (is_write k)) es) (fewer is_anti (λ k. not (is_write k)) anti_is_no_write es) w.1)
 
   -- ---- no level is met above its own

@@ -3,7 +3,7 @@ use Rattle.std.{proofs.{Common.{◌≡◌, ℕ, ◌-◌, ◌≤◌, None, List, 
 use Rattle.lab_chain.{specs.{Chain.{Part, summary_of}, Parts.{part_summary}, Summary.{joined}, declared.{part.Outcome.{Outcome, TheVariants.{Judged, Refused, Unreadable}}, summary.Summary.{Summary}}}, proofs.JoinedSummaries.{pieces_joined, first_joined}}
 
 -- a part is counted once
-counts_one : (name : List ℕ) (o : Outcome) → (part_summary name o).parts ≤ 2 ^ 64 - 1
+pub counts_one : (name : List ℕ) (o : Outcome) → (part_summary name o).parts ≤ 2 ^ 64 - 1
 counts_one name (Judged report initial last) = omega arith
 counts_one name (Refused f) = omega arith
 counts_one name Unreadable = omega arith

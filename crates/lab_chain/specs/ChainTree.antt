@@ -1,13 +1,14 @@
 -- The JSON value of the report on a run in parts. The keys of each object are in the order of their bytes.
 --
 -- Origin: JSON: RFC 8259; the keys are this project's profile.
-use Rattle.std.specs.Prelude.{◌≡◌, ℕ, ◌++◌, cond, ◌⊎◌, Option, Some, None, IsSome, List, [], ◌∷◌, codes}
+use Rattle.std.specs.Prelude.{◌≡◌, ℕ, ◌++◌, cond, true, ◌⊎◌, Option, Some, None, List, [], ◌∷◌, codes}
 use Rattle.std.specs.Str.{is_utf8}
-use Rattle.serde_json.specs.Data.{Data, null, string}
+use Rattle.serde_json.specs.Data.{Data, null, boolean, string}
 use Rattle.lab_table.specs.Table.{Table}
 use Rattle.lab_printing.specs.Printed.{newline}
 use Rattle.lab_history_file.specs.Tree.{natural_tree, value_tree, map_tree}
 use Rattle.lab_reports.specs.Tree.{object_of, verdict, line_of}
+use Rattle.lab_chain.specs.Coherence.{is_coherent, are_one_line}
 use Rattle.lab_chain.specs.Levels.{level_name}
 use Rattle.lab_chain.specs.declared.line.Line.{Line}
 use Rattle.lab_chain.specs.declared.line.Line.TheVariants.{Clear, Unjudged, Found}
@@ -60,10 +61,11 @@ abbrev pub last_of : Option Ends → Option Table
 last_of None = None
 last_of (Some ends) = ends.last
 
--- {end, first, initial, level, parts, phenomena, serializable, snapshot}
+-- {committed, end, first, initial, level, parts, phenomena, serializable, snapshot}
 abbrev pub chain_tree : Summary → Data
 chain_tree s = object_of (
-    (codes "end", rows_tree (last_of s.ends))
+    (codes "committed", boolean s.committed)
+    ∷ (codes "end", rows_tree (last_of s.ends))
     ∷ (codes "first", first_tree s.ends)
     ∷ (codes "initial", rows_tree (initial_of s.ends))
     ∷ (codes "level", string (level_name s.level))
@@ -83,6 +85,8 @@ pub record IsLastLine (bytes line : List ℕ) : Type 0 where
   pub begins : IsLines front
   pub bytes_are : bytes ≡ front ++ line
 
--- a text ends with the line of what is said of a run that has a part
-abbrev pub IsAnswerOf : List ℕ → Summary → Type 0
-IsAnswerOf bytes s = IsLastLine bytes (line_of (chain_tree s)) × IsSome s.ends
+-- a text ends with the line of what is said of a run that has a part, in which everything agrees
+pub record IsAnswerOf (bytes : List ℕ) (s : Summary) : Type 0 where
+  pub last : IsLastLine bytes (line_of (chain_tree s))
+  pub agrees : is_coherent s ≡ true
+  pub one_line : are_one_line s.lines ≡ true

@@ -7,4 +7,5 @@ pub mod Parts
 pub mod ChainText
 pub mod ChainTree
 pub mod Chain
+pub mod Coherence
 pub mod ChainLaws

@@ -1,5 +1,5 @@
 -- The summary of one part, and the results of a part: a judged history, a faulty file, or a file that can't be read.
-use Rattle.std.specs.Prelude.{◌≡◌, ℕ, drop, Option, Some, None, List}
+use Rattle.std.specs.Prelude.{◌≡◌, ℕ, drop, true, not, Option, Some, None, List}
 use Rattle.lab_table.specs.Table.{Table}
 use Rattle.lab_history.specs.History.{History}
 use Rattle.lab_history_file.specs.HistoryFile.{HoldsHistory, IsFileFault}
@@ -13,6 +13,7 @@ use Rattle.lab_judge.specs.declared.places.Places.TheVariants as places
 use Rattle.lab_judge.specs.declared.report.Finding.{Finding}
 use Rattle.lab_judge.specs.declared.report.Finding.TheVariants as finding
 use Rattle.lab_judge.specs.declared.report.Report.{Report}
+use Rattle.lab_streams.specs.Reports.{is_idle}
 use Rattle.lab_chain.specs.Levels.{level_of}
 use Rattle.lab_chain.specs.Summary.{lines_of}
 use Rattle.lab_chain.specs.declared.level.Level.TheVariants as level
@@ -71,6 +72,7 @@ unjudged_summary part = record {
   parts = 1;
   lines = unjudged_lines part;
   level = level.NotJudged;
+  committed = true;
   ends = Some (record { first = part; initial = None; last = None });
 }
 
@@ -80,6 +82,7 @@ judged_summary part report initial last = record {
   parts = 1;
   lines = report_lines part report;
   level = level_of report.level;
+  committed = not (is_idle report);
   ends = Some (record { first = part; initial = Some initial; last = Some last });
 }
 

@@ -1,5 +1,5 @@
 -- The summary of a run in parts, and how the summaries of two consecutive pieces are joined at the seam between them.
-use Rattle.std.specs.Prelude.{ℕ, ◌+◌, ◌-◌, ◌^◌, min, ◌++◌, Option, Some, None, List, [], codes}
+use Rattle.std.specs.Prelude.{ℕ, ◌+◌, ◌-◌, ◌^◌, min, ◌++◌, Bool, false, ◌||◌, Option, Some, None, List, [], codes}
 use Rattle.lab_table.specs.Row.{Row}
 use Rattle.lab_table.specs.Table.{Table}
 use Rattle.lab_printing.specs.Printed.{printed_row_name}
@@ -62,6 +62,12 @@ parted_at (Some last) (Some initial) = first_difference last initial
 parted_at (Some last) None = None
 parted_at None initial = None
 
+-- the least row of which two pieces, one behind the other, say otherwise at their seam, where both are known
+abbrev pub row_between : Option Ends → Option Ends → Option Row
+row_between (Some first) (Some next) = parted_at first.last next.initial
+row_between (Some first) None = None
+row_between None next = None
+
 -- what the seam between two pieces says
 abbrev pub seam_between : Option Ends → Option Ends → Seam
 seam_between (Some first) (Some next) = seam_at next.first (parted_at first.last next.initial)
@@ -87,9 +93,10 @@ joined a b =
       parts = counted (a.parts + b.parts);
       lines = lines_joined a.lines (lines_joined seam.lines b.lines);
       level = worse (worse a.level seam.level) b.level;
+      committed = a.committed || b.committed;
       ends = ends_joined a.ends b.ends;
     }
 
 -- what is said of a run that has no part
 abbrev pub nothing : Summary
-nothing = record { parts = 0; lines = clear_lines; level = level.Pl3; ends = None }
+nothing = record { parts = 0; lines = clear_lines; level = level.Pl3; committed = false; ends = None }

@@ -1,6 +1,6 @@
 //! Theorems on the summaries of runs in parts, stated as contracts of empty functions.
 
-ghost use Rattle.std.specs.Prelude.{◌≡◌, ◌≢◌, ◌↔◌, ◌++◌, [], None, List, Some};
+ghost use Rattle.std.specs.Prelude.{◌≡◌, ◌≢◌, ◌↔◌, ◌++◌, [], None, List, Some, true};
 ghost use Rattle.std.specs.List.{All};
 ghost use Rattle.lab_history.specs.History.{History};
 ghost use Rattle.lab_table.specs.Row.{Row};
@@ -10,6 +10,7 @@ ghost use Rattle.lab_judge.specs.declared.report.Grade.{Grade};
 ghost use Rattle.lab_parts.specs.Whole.{whole};
 ghost use Rattle.lab_chain.specs.Chain.{Part, IsPart, summary_of};
 ghost use Rattle.lab_chain.specs.ChainLaws.{IsSerialInParts, IsSnapshotInParts, AreSound, TellsOf};
+ghost use Rattle.lab_chain.specs.Coherence.{is_coherent};
 ghost use Rattle.lab_chain.specs.Difference.{IsLeastDifference, first_difference};
 ghost use Rattle.lab_chain.specs.Levels.{level_of};
 ghost use Rattle.lab_chain.specs.Summary.{clear_lines, joined};
@@ -43,6 +44,17 @@ pub fn yes_is_a_serial_run()
 /// parts before.
 pub fn yes_is_a_snapshot_run()
     ensures { (ps : List Part) → ps ≢ [] → All IsPart ps → (summary_of ps).lines.snapshot ≡ Clear → IsSnapshotInParts ps }
+{}
+
+/// The level, the lines and the ends of the summary of a run agree, so no summary that `chain --json` prints is refused
+/// for them.
+pub fn runs_are_coherent()
+    ensures { (ps : List Part) → ps ≢ [] → All IsPart ps → is_coherent (summary_of ps) ≡ true }
+{}
+
+/// Coherent pieces of a run are joined to a coherent one.
+pub fn joining_keeps_coherence()
+    ensures { (a b : Summary) → is_coherent a ≡ true → is_coherent b ≡ true → is_coherent (joined a b) ≡ true }
 {}
 
 /// If the parts of a run are sound and fit, the lines about cycles are true of its history, and the level is its level.

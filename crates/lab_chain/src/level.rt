@@ -66,7 +66,7 @@ impl Level {
     }
 
     /// How bad it is: 0 is the best.
-    fn rank(self) -> u8
+    pub(crate) fn rank(self) -> u8
         ensures { result ≡ level_rank self }
     {
         match self {

@@ -10,6 +10,7 @@ use crate::summary::{Ends, Lines, Summary};
 use lab_deps::{Edge, LocalFault};
 use lab_history::FileFault;
 use lab_judge::{Finding, Places, Point, Report, Serial, put_circle, put_fault, put_walk};
+use lab_streams::is_idle;
 use lab_table::{NoMemory, RowName, Table, TxnNo};
 use std::alloc::Global;
 
@@ -138,6 +139,7 @@ fn unjudged_summary(alloc: Global, part: &[u8]) -> Result<Summary, NoMemory>
         parts: 1,
         lines: unjudged_lines(alloc, part)?,
         level: Level::NotJudged,
+        committed: true,
         ends: Some(Ends {
             first: text_of(alloc, part)?,
             initial: None,
@@ -162,6 +164,7 @@ fn judged_summary(
         parts: 1,
         lines,
         level: Level::of(report.level),
+        committed: !is_idle(report),
         ends: Some(Ends {
             first,
             initial: Some(initial),

@@ -67,6 +67,17 @@ fn parted_at(last: &Option<Table>, initial: &Option<Table>) -> Option<RowName>
     }
 }
 
+/// Returns the least row at which a piece of a run doesn't fit to the one before it, or `None` if it fits or the rows
+/// at the seam aren't known.
+pub fn row_between(first: &Option<Ends>, next: &Option<Ends>) -> Option<RowName>
+    ensures { result ≡ spec.row_between first.now next.now }
+{
+    match (first, next) {
+        (Some(first), Some(next)) => parted_at(&first.last, &next.initial),
+        _ => None,
+    }
+}
+
 /// Why a part doesn't fit to the one before it.
 fn seam_reason(alloc: Global, row: RowName) -> Result<Text, NoMemory>
     ensures { IfOk result (λ text. text ≡ spec.seam_reason row) }

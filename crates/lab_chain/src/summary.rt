@@ -41,6 +41,8 @@ pub struct Summary {
     pub parts: u64,
     pub lines: Lines,
     pub level: Level,
+    /// Whether a transaction committed: false only if each part's report says that none did.
+    pub committed: bool,
     /// Its ends, or `None` if it has no parts.
     pub ends: Option<Ends>,
 }
@@ -122,6 +124,7 @@ impl Summary {
             parts: 0,
             lines: Lines::clear(),
             level: Level::Pl3,
+            committed: false,
             ends: None,
         }
     }
@@ -135,6 +138,7 @@ impl Summary {
             parts: self.parts.saturating_add(next.parts),
             lines: self.lines.joined(lines.joined(next.lines)),
             level: self.level.worse(level).worse(next.level),
+            committed: self.committed || next.committed,
             ends: ends_joined(self.ends, next.ends),
         })
     }

@@ -120,6 +120,7 @@ fn summary_json(alloc: Global, summary: &Summary) -> Result<Json, NoMemory>
     ensures { IfOk result (λ v. view v ≡ chain_tree summary.now) }
 {
     json!(in alloc; {
+        "committed": summary.committed,
         "end": last_json(alloc, &summary.ends)?,
         "first": first_json(alloc, &summary.ends)?,
         "initial": initial_json(alloc, &summary.ends)?,

@@ -1,8 +1,10 @@
 //! Reads the summary of a run in parts.
 
-ghost use Rattle.std.specs.Prelude.{◌≡◌, IsTrue, IfOk, IfSome};
+ghost use Rattle.std.specs.Prelude.{◌≡◌, true, IsTrue, IfOk, IfSome};
+ghost use Rattle.lab_chain.specs.Coherence as spec;
 ghost use Rattle.lab_chain.specs.ChainTree.{IsLines, IsLastLine, IsAnswerOf};
 
+use crate::coherence::{are_one_line, is_coherent};
 use crate::level::Level;
 use crate::line::{Line, Text, text_of};
 use crate::summary::{Ends, Lines, Summary};
@@ -115,6 +117,10 @@ fn summary_in(alloc: Global, json: &Json) -> Result<Summary, NoMemory> {
         parts: json.get("parts").and_then(Json::as_u64).unwrap_or(0),
         lines,
         level: level_in(json.get("level")),
+        committed: json
+            .get("committed")
+            .and_then(Json::as_bool)
+            .unwrap_or(false),
         ends,
     })
 }
@@ -155,11 +161,43 @@ fn ends_in_line(bytes: &[u8], line: &[u8]) -> bool
     is_same(end, line) && is_lines(front)
 }
 
+/// Whether what is read is that of a run, as far as can be seen: it has a part, its level, lines and ends agree, and its
+/// reasons are texts of one line.
+fn is_possible(summary: &Summary) -> bool
+    ensures coherent { IsTrue result → spec.is_coherent summary.now ≡ true }
+    ensures one_line { IsTrue result → spec.are_one_line summary.now.lines ≡ true }
+{
+    is_coherent(summary) && are_one_line(&summary.lines)
+}
+
+/// Whether a line begins as those of `print_summary_json` do.
+fn begins_summary(line: &[u8]) -> bool {
+    line.starts_with(b"{\"committed\":")
+}
+
+/// Returns whether more than one line of a text begins as those of `print_summary_json` do.
+pub fn has_more_summaries(bytes: &[u8]) -> bool {
+    let mut is_met = false;
+    for line in bytes.split(|byte| *byte == b'\n') {
+        if begins_summary(line) {
+            if is_met {
+                return true;
+            }
+            is_met = true;
+        }
+    }
+    false
+}
+
 /// Returns the summary in the last line of a text, as `print_summary_json` writes it, or `None` if the text ends with
-/// no such line or the summary has no parts.
+/// no such line, its level, lines and ends don't agree as those of a run do ([`is_coherent`]), or another line of the text
+/// begins as a summary does.
 pub fn read_summary(alloc: Global, bytes: &[u8]) -> Result<Option<Summary>, NoMemory>
     ensures { IfOk result (λ read. IfSome read (IsAnswerOf bytes.now)) }
 {
+    if has_more_summaries(bytes) {
+        return Ok(None);
+    }
     let json = match Json::from_slice(alloc, last_line(bytes)) {
         Ok(json) => json,
         Err(error) if error.is_memory() => return Err(AllocError),
@@ -168,7 +206,7 @@ pub fn read_summary(alloc: Global, bytes: &[u8]) -> Result<Option<Summary>, NoMe
     let summary = summary_in(alloc, &json)?;
     drop(json);
     let line = print_summary_json(alloc, &summary)?;
-    if summary.ends.is_some() && ends_in_line(bytes, &line) {
+    if is_possible(&summary) && ends_in_line(bytes, &line) {
         Ok(Some(summary))
     } else {
         Ok(None)

@@ -92,7 +92,7 @@ module _ (asked : Asked) where
     begun_with_all = (parts_text asked told.parts, told.written, record { front = names; rest = []; parts = told.parts; cut = sym (append-nil names); are = told.are; text_is = refl })
 
     -- what was told of the parts, and then of the run, is the answer
-    pub answered : (new : Option (List ℕ)) (text : List ℕ) (total : ℕ) → text ≡ whole_text asked.format s → Appends mid new text → total ≡ max status (whole_status asked.requirement s)
+    pub answered : (new : Option (List ℕ)) (text : List ℕ) (total : ℕ) → text ≡ whole_text asked.format s → Appends mid new text → total ≡ max status (whole_status asked s)
         → (said : List ℕ) × Appends old new said × IsChainAnswer asked names said total
     answered new text total text_is written total_is = (
       parts_text asked told.parts ++ text,
@@ -101,6 +101,6 @@ module _ (asked : Asked) where
         parts = told.parts;
         are = told.are;
         text_is = ap (λ t. parts_text asked told.parts ++ t) (text_is ∙ ap (whole_text asked.format) told.summary_is);
-        status_is = total_is ∙ ap (λ n. max n (whole_status asked.requirement s)) told.status_is ∙ ap (λ t. max (parts_status told.parts) (whole_status asked.requirement t)) told.summary_is;
+        status_is = total_is ∙ ap (λ n. max n (whole_status asked s)) told.status_is ∙ ap (λ t. max (parts_status told.parts) (whole_status asked t)) told.summary_is;
       },
     )

@@ -1,6 +1,6 @@
 -- The output of `chain`: the text of each part in order, then the report on the run; the status is the greatest that
 -- a part or the run calls for.
-use Rattle.std.specs.Prelude.{◌≡◌, ℕ, max, cond, Option, Some, None, List, [], ◌++◌, map, fold}
+use Rattle.std.specs.Prelude.{◌≡◌, ◌==◌, ℕ, max, cond, Option, Some, None, List, [], ◌++◌, map, fold}
 use Rattle.std.specs.Io.KnownBytes.{Appends}
 use Rattle.std.specs.List.{All, flat_map}
 use Rattle.lab_commands.specs.Batching.{name_line, unreadable_text}
@@ -9,7 +9,7 @@ use Rattle.lab_reports.specs.declared.requirement.Requirement.{Requirement}
 use Rattle.lab_streams.specs.Reports.{said_of, refused_text}
 use Rattle.lab_streams.specs.declared.reporting.Format.{Format}
 use Rattle.lab_streams.specs.declared.reporting.Format.TheVariants.{Lines, Json}
-use Rattle.lab_chain.specs.Chain.{Part, IsPart, summary_of, chain_meets}
+use Rattle.lab_chain.specs.Chain.{Part, IsPart, summary_of, chain_keeps}
 use Rattle.lab_chain.specs.ChainText.{chain_text}
 use Rattle.lab_chain.specs.ChainTree.{chain_tree}
 use Rattle.lab_chain.specs.declared.part.Outcome.{Outcome}
@@ -42,10 +42,19 @@ outcome_status Unreadable = 3
 abbrev pub parts_status : List Part → ℕ
 parts_status ps = fold (λ s p. max s (outcome_status p.outcome)) 0 ps
 
--- the exit status that the whole run calls for, by what is required
-abbrev pub whole_status : Option Requirement → Summary → ℕ
-whole_status None s = 0
-whole_status (Some requirement) s = cond (chain_meets requirement s) 0 1
+-- the exit status that the whole run calls for, by the level that is required
+abbrev pub level_status : Option Requirement → Summary → ℕ
+level_status None s = 0
+level_status (Some requirement) s = cond (chain_keeps requirement s) 0 1
+
+-- the exit status that it calls for, by the number of parts that it must have
+abbrev pub count_status : Option ℕ → Summary → ℕ
+count_status None s = 0
+count_status (Some parts) s = cond (parts == s.parts) 0 1
+
+-- the exit status that it calls for
+abbrev pub whole_status : Asked → Summary → ℕ
+whole_status asked s = max (level_status asked.requirement s) (count_status asked.parts s)
 
 -- parts with these names, each of which came to what its bytes call for
 pub record AreParts (names : List (List ℕ)) (ps : List Part) : Type 0 where
@@ -57,7 +66,7 @@ pub record IsChainAnswer (asked : Asked) (names : List (List ℕ)) (text : List 
   pub parts : List Part
   pub are : AreParts names parts
   pub text_is : text ≡ parts_text asked parts ++ whole_text asked.format (summary_of parts)
-  pub status_is : status ≡ max (parts_status parts) (whole_status asked.requirement (summary_of parts))
+  pub status_is : status ≡ max (parts_status parts) (whole_status asked (summary_of parts))
 
 -- the text tells of the first of the parts of these names
 pub record IsFrontOf (asked : Asked) (names : List (List ℕ)) (text : List ℕ) : Type 0 where

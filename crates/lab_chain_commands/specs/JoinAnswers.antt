@@ -81,4 +81,4 @@ pub record IsJoinAnswer (asked : Asked) (names : List (List ℕ)) (text : List �
   pub named : map (λ p. p.name) pieces ≡ names
   pub read : All IsNamed pieces
   pub text_is : text ≡ refused_or (refusals_text asked.format pieces) (refusals_text asked.format pieces) (whole_text asked.format (joined_pieces pieces))
-  pub status_is : status ≡ refused_or (refusals_text asked.format pieces) (pieces_status pieces) (whole_status asked.requirement (joined_pieces pieces))
+  pub status_is : status ≡ refused_or (refusals_text asked.format pieces) (pieces_status pieces) (whole_status asked (joined_pieces pieces))

@@ -1,6 +1,7 @@
 //! What is said to people of a file that has no answer of `chain`. The texts aren't promised.
 
 use crate::piece::Piece;
+use lab_chain::has_more_summaries;
 use lab_commands::Inputs;
 use lab_history::MAX_FILE_BYTES;
 use lab_table::NoMemory;
@@ -15,6 +16,12 @@ const SHOWN_LINE: usize = 60;
 /// What is wanted, and where it comes from.
 const WANTED: &[u8] =
     b"; its last line is to be what 'hermitage_lab chain --json FILE..' writes of one part or more\n";
+
+/// What is wanted of a file with more than one answer.
+const APART: &[u8] = b"; each has to be in a file of its own\n";
+
+/// What the answer about a run without parts begins with.
+const NO_PART: &[u8] = b"{\"committed\":false,\"end\":null,\"first\":null,";
 
 /// The byte itself where it is printed ASCII, so that no input moves a terminal's cursor.
 fn printed(byte: u8) -> u8 {
@@ -44,15 +51,26 @@ fn last_line(lines: &[u8]) -> &[u8] {
     }
 }
 
+/// Whether a line is the answer about a run without parts.
+fn is_of_no_part(line: &[u8]) -> bool {
+    line.starts_with(NO_PART)
+}
+
 /// Appends what was found in a file in place of an answer.
 fn put_found(out: &mut Vec<u8>, bytes: &[u8]) -> Result<(), NoMemory> {
     if bytes.is_empty() {
         return out.extend_from_slice(b"found nothing");
     }
+    if has_more_summaries(bytes) {
+        return out.extend_from_slice(b"found more than one answer");
+    }
     if bytes.len() > MAX_FILE_BYTES {
         return out.extend_from_slice(b"found more than 8,388,608 bytes");
     }
     match bytes.strip_suffix(b"\n") {
+        Some(lines) if is_of_no_part(last_line(lines)) => {
+            out.extend_from_slice(b"found the answer for an empty list of parts")
+        }
         Some(lines) => {
             out.extend_from_slice(b"found '")?;
             put_shown(out, last_line(lines), SHOWN_LINE)?;
@@ -68,7 +86,11 @@ fn no_answer_hint(alloc: Global, name: &str, bytes: &[u8]) -> Result<Vec<u8>, No
     put_shown(&mut line, name.as_bytes(), SHOWN_NAME)?;
     line.extend_from_slice(b": ")?;
     put_found(&mut line, bytes)?;
-    line.extend_from_slice(WANTED)?;
+    line.extend_from_slice(if has_more_summaries(bytes) {
+        APART
+    } else {
+        WANTED
+    })?;
     Ok(line)
 }
 

@@ -8,8 +8,9 @@ ghost use Rattle.lab_chain_commands.specs.ChainAnswers.{IsChainAnswer, IsBegun, 
 use crate::asked::Asked;
 use crate::judged_part::read_parts;
 use crate::part_text::{print_whole, whole_status};
+use crate::shortfalls::{note_seam, note_shortfalls};
 use crate::window::{Window, judge_and_read};
-use lab_chain::{Summary, put_chain_shortfall};
+use lab_chain::Summary;
 use lab_commands::Progress;
 use lab_streams::{RunFault, note_text, write_text};
 use std::alloc::Global;
@@ -27,11 +28,13 @@ struct SoFar {
     status: u8,
 }
 
-/// Adds the parts of a window to what is said so far, and writes what there is to say of each.
+/// Adds the parts of a window to what is said so far, and writes what there is to say of each. `seam` has the line on the
+/// seam before the window, or nothing.
 fn write_window<W: Write, N: Write>(
     alloc: Global,
     so_far: SoFar,
     window: Window,
+    seam: &[u8],
     writer: &mut W,
     notes: &mut N,
 ) -> Result<SoFar, RunFault>
@@ -47,8 +50,33 @@ fn write_window<W: Write, N: Write>(
         drop(summary);
         return Err(fault);
     }
+    note_text(seam, notes);
     note_text(&window.hints, notes);
     Ok(SoFar { summary, status })
+}
+
+/// The line on the seam before a window, or nothing. Removes the line of the progress, if `done` parts are on it, where
+/// something is to be written.
+fn seam_before<P: Write>(
+    alloc: Global,
+    asked: Asked,
+    so_far: &SoFar,
+    window: &Window,
+    done: usize,
+    progress: &mut Progress<'_, P>,
+) -> Vec<u8> {
+    let mut seam = Vec::new(alloc);
+    note_seam(
+        alloc,
+        asked,
+        &so_far.summary.ends,
+        &window.summary.ends,
+        &mut seam,
+    );
+    if done > 0 && !(window.text.is_empty() && window.hints.is_empty() && seam.is_empty()) {
+        progress.clear();
+    }
+    seam
 }
 
 /// Reads and judges the parts, and writes what there is to say of each. While those of a window are judged, those of the
@@ -83,7 +111,8 @@ fn chain_windows<T: Files + Threads + Sync, W: Write, N: Write, P: Write>(
             drop(so_far);
             return Err(RunFault::NoMemory);
         };
-        so_far = match write_window(alloc, so_far, window, writer, notes) {
+        let seam = seam_before(alloc, asked, &so_far, &window, done, progress);
+        so_far = match write_window(alloc, so_far, window, &seam, writer, notes) {
             Ok(next) => next,
             Err(fault) => return Err(fault),
         };
@@ -99,29 +128,16 @@ fn chain_windows<T: Files + Threads + Sync, W: Write, N: Write, P: Write>(
     Ok(so_far)
 }
 
-/// Gives `notes` a line that says why a run doesn't meet what is required of it, if it doesn't; what fails is let go.
-pub fn note_shortfall<N: Write>(alloc: Global, asked: Asked, summary: &Summary, notes: &mut N) {
-    let mut line = Vec::new(alloc);
-    if let Some(requirement) = asked.requirement
-        && whole_status(asked.requirement, summary) != 0
-        && line.extend_from_slice(b"chain: ").is_ok()
-        && put_chain_shortfall(&mut line, requirement, summary).is_ok()
-        && line.extend_from_slice(b"\n").is_ok()
-    {
-        note_text(&line, notes);
-    }
-}
-
 /// Reads and judges the parts of a run, several at a time, and writes the summary of the whole run: the number of
 /// parts, and ten lines like those of a report; or a line of JSON. Before the summary, as `batch` does, it writes why a
 /// part has no report, and each part's report if these are asked for; this is written as it is computed. Returns the
-/// greatest exit status: 1 if the run doesn't meet the requirement, 2 if a part is refused, 3 if a part can't be opened
-/// or read.
+/// greatest exit status: 1 if the run doesn't meet the requirement or hasn't the number of parts that it must have, 2 if a
+/// part is refused, 3 if a part can't be opened or read.
 ///
 /// Parts are read while others are judged, and at most 32 are held in memory. Fails with `NoMemory`, when the output
 /// for the first parts may already be written, and with `Unwritten` if a write fails. `notes` gets a line for each part
-/// that is refused or can't be read, and the reason if the run doesn't meet the requirement; failures of `notes` are
-/// ignored.
+/// that is refused or can't be read, or doesn't fit to the one before it if a level is required, and the reason if the run
+/// doesn't meet the requirement; failures of `notes` are ignored.
 pub fn chain<T: Files + Threads + Sync, W: Write, N: Write, P: Write>(
     rt: &T,
     alloc: Global,
@@ -148,9 +164,9 @@ pub fn chain<T: Files + Threads + Sync, W: Write, N: Write, P: Write>(
     };
     let written = write_text(writer, &text);
     if written.is_ok() {
-        note_shortfall(alloc, asked, &summary, notes);
+        note_shortfalls(alloc, asked, &summary, notes);
     }
-    let status = status.max(whole_status(asked.requirement, &summary));
+    let status = status.max(whole_status(asked, &summary));
     drop(summary);
     match written {
         Ok(()) => Ok(status),

@@ -12,6 +12,7 @@ mod joining;
 mod judged_part;
 mod part_text;
 mod piece;
+mod shortfalls;
 mod window;
 
 pub use asked::Asked;

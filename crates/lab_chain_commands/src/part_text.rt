@@ -3,7 +3,7 @@
 
 ghost use Rattle.std.specs.Prelude.{◌≡◌, ◌++◌, Some, IfOk, OnOk};
 ghost use Rattle.lab_commands.specs.Batching.{name_line, unreadable_text};
-ghost use Rattle.lab_chain_commands.specs.ChainAnswers.{outcome_text, whole_text, outcome_status, whole_status};
+ghost use Rattle.lab_chain_commands.specs.ChainAnswers.{outcome_text, whole_text, outcome_status, level_status, count_status, whole_status};
 ghost use Rattle.lab_streams.specs.Reports.{said_of, refused_text};
 
 use crate::asked::Asked;
@@ -115,12 +115,29 @@ pub fn print_whole(alloc: Global, format: Format, summary: &Summary) -> Result<V
     }
 }
 
-/// The exit status that a run calls for.
-pub fn whole_status(requirement: Option<Requirement>, summary: &Summary) -> u8
-    ensures { result ≡ whole_status requirement summary.now }
+/// The exit status that a run calls for, by the level that is required.
+pub fn level_status(requirement: Option<Requirement>, summary: &Summary) -> u8
+    ensures { result ≡ level_status requirement summary.now }
 {
     match requirement {
         Some(requirement) if !is_met(requirement, summary) => 1,
         _ => 0,
     }
+}
+
+/// The exit status that a run calls for, by the number of parts that it must have.
+pub fn count_status(parts: Option<u64>, summary: &Summary) -> u8
+    ensures { result ≡ count_status parts summary.now }
+{
+    match parts {
+        Some(parts) if parts != summary.parts => 1,
+        _ => 0,
+    }
+}
+
+/// The exit status that a run calls for.
+pub fn whole_status(asked: Asked, summary: &Summary) -> u8
+    ensures { result ≡ whole_status asked summary.now }
+{
+    level_status(asked.requirement, summary).max(count_status(asked.parts, summary))
 }

@@ -11,6 +11,7 @@ ghost use Rattle.lab_chain_commands.specs.JudgedParts.{part_of, IsWindow};
 use crate::asked::Asked;
 use crate::judged_part::{Input, JudgedPart, judge_parts, read_parts};
 use crate::part_text::{outcome_status, put_outcome};
+use crate::shortfalls::note_seam;
 use lab_chain::{Summary, part_summary};
 use lab_table::NoMemory;
 use std::alloc::Global;
@@ -53,6 +54,7 @@ fn with_part(
     hints.extend_from_slice(&hint)?;
     let status = status.max(outcome_status(&outcome));
     let next = part_summary(alloc, name, outcome)?;
+    note_seam(alloc, asked, &summary.ends, &next.ends, &mut hints);
     let summary = summary.joined(alloc, next)?;
     Ok(Window {
         summary,

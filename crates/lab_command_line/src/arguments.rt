@@ -5,7 +5,7 @@ ghost use Rattle.lab_command_line.specs.Subcommands.{IsNamed};
 
 use crate::help;
 use crate::names::Names;
-use clap::{Arg, ArgAction, Command};
+use clap::{Arg, ArgAction, Command, value_parser};
 use std::alloc::{AllocError, Global};
 
 /// An option whose value is one of some names.
@@ -82,6 +82,16 @@ pub fn files<'a>(alloc: Global) -> Result<Arg<'a>, AllocError> {
         .action(ArgAction::Append)
         .required_unless_present("files-from")?
         .conflicts_with("files-from")
+}
+
+/// The option that gives the number of parts that a run must have.
+pub fn parts<'a>(alloc: Global) -> Arg<'a> {
+    Arg::new(alloc, "parts")
+        .long("parts")
+        .help(help::PARTS)
+        .value_name("N")
+        .action(ArgAction::Set)
+        .value_parser(value_parser!(u64))
 }
 
 /// The flag that has NULs end the names of a list.

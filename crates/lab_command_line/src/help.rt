@@ -5,7 +5,8 @@ pub const ABOUT: &str = "A laboratory for transaction isolation, whose answers a
 pub const STATUSES: &str = "\
 Exit status:
   0  done
-  1  done, and a report doesn't meet what --require asks of it; standard error says which, and why
+  1  done, and what --require asks isn't met, as by no file or no committed transaction, or --parts
+     isn't the number of parts; standard error says which, and why
   2  the input was refused
   3  a read, an open or a write failed; standard error says which
   4  there was no memory for it; nothing was written, but by `chain` its beginning; standard error says so
@@ -86,7 +87,7 @@ pub const COMPARED: &str =
     "An engine that is compared, any number of times; all where none is named";
 
 pub const REQUIRE: &str =
-    "Asks for a level, or for a snapshot run, and ends with 1 where a report doesn't meet it";
+    "Asks for a level, or for a snapshot run, and ends with 1 where a report doesn't meet it, or nothing committed";
 
 pub const JSON: &str = "Writes the report as one line of JSON";
 
@@ -139,8 +140,13 @@ Any number of parts takes the memory of some: 16 are held at a time.
 With `--join` the files are answers of `chain --json` about consecutive pieces of a run, and what is written
 is the answer about the whole of it.
 
+A missing first or last part leaves no gap between two others: `--parts N` says how many parts the run has,
+and the status is 1 if there are more or fewer.
+
     hermitage_lab chain part1.json part2.json part3.json
     find parts -name '*.json' -print0 | sort -zV | hermitage_lab chain --files-from - -0";
+
+pub const PARTS: &str = "How many parts the run has; status 1 if there are more or fewer";
 
 pub const REPORTS: &str = "Writes the report of each part before what is said of the run";
 

@@ -5,7 +5,7 @@ ghost use Rattle.lab_command_line.specs.Subcommands.{HasSubcommands, IsNamed, su
 ghost use Rattle.clap.specs.Words.{subcommand_names};
 
 use crate::arguments::{
-    choice, engines, files, flag, json_of_run, null, phenomenon, requirement, rows, with_arg,
+    choice, engines, files, flag, json_of_run, null, parts, phenomenon, requirement, rows, with_arg,
 };
 use crate::help;
 use crate::names::Names;
@@ -96,6 +96,7 @@ fn chain_command<'a>(alloc: Global, names: &'a Names) -> Result<Command<'a>, All
 {
     let command = plain_command(alloc, "chain", help::CHAIN, help::CHAIN_WHOLE);
     let command = files_command(alloc, command, names);
+    let command = with_arg(command, Ok(parts(alloc)));
     let command = with_arg(command, Ok(flag(alloc, "reports", help::REPORTS)));
     with_arg(
         command,

@@ -82,6 +82,7 @@ pub const PLAIN: Wanted = Wanted {
 pub const LINES: Asked = Asked {
     format: Format::Lines,
     requirement: None,
+    parts: None,
     reports: false,
 };
 
@@ -89,6 +90,7 @@ pub const LINES: Asked = Asked {
 pub const JSON: Asked = Asked {
     format: Format::Json,
     requirement: None,
+    parts: None,
     reports: false,
 };
 

@@ -29,6 +29,7 @@ pub struct Due {
 pub const REPORTS: Asked = Asked {
     format: Format::Lines,
     requirement: None,
+    parts: None,
     reports: true,
 };
 
@@ -36,6 +37,7 @@ pub const REPORTS: Asked = Asked {
 const REQUIRED: Asked = Asked {
     format: Format::Lines,
     requirement: Some(Requirement::Pl1),
+    parts: None,
     reports: false,
 };
 
@@ -52,7 +54,7 @@ pub const RUNS: [Due; 16] = [
     Due {
         task: Task::Chain(JSON),
         names: &["first", "second"],
-        text: b"{\"end\":[[\"test\",1,12]],\"first\":\"first\",\"initial\":[[\"test\",1,10]],\"level\":\"PL-3\",\"parts\":2,\"phenomena\":{\"G-single\":{\"verdict\":\"absent\"},\"G0\":{\"verdict\":\"absent\"},\"G1a\":{\"verdict\":\"absent\"},\"G1b\":{\"verdict\":\"absent\"},\"G1c\":{\"verdict\":\"absent\"},\"G2\":{\"verdict\":\"absent\"},\"G2-item\":{\"verdict\":\"absent\"}},\"serializable\":{\"verdict\":\"yes\"},\"snapshot\":{\"verdict\":\"yes\"}}\n",
+        text: b"{\"committed\":true,\"end\":[[\"test\",1,12]],\"first\":\"first\",\"initial\":[[\"test\",1,10]],\"level\":\"PL-3\",\"parts\":2,\"phenomena\":{\"G-single\":{\"verdict\":\"absent\"},\"G0\":{\"verdict\":\"absent\"},\"G1a\":{\"verdict\":\"absent\"},\"G1b\":{\"verdict\":\"absent\"},\"G1c\":{\"verdict\":\"absent\"},\"G2\":{\"verdict\":\"absent\"},\"G2-item\":{\"verdict\":\"absent\"}},\"serializable\":{\"verdict\":\"yes\"},\"snapshot\":{\"verdict\":\"yes\"}}\n",
         status: 0,
         is_hinted: false,
         shown: b"\r2 of 2 files\r\x1b[K",
@@ -78,7 +80,7 @@ pub const RUNS: [Due; 16] = [
     Due {
         task: Task::Chain(JSON),
         names: &["first", "none"],
-        text: b"{\"file\":\"none\",\"unreadable\":true}\n{\"end\":null,\"first\":\"first\",\"initial\":[[\"test\",1,10]],\"level\":\"not judged\",\"parts\":2,\"phenomena\":{\"G-single\":{\"file\":\"none\",\"verdict\":\"not judged\"},\"G0\":{\"file\":\"none\",\"verdict\":\"not judged\"},\"G1a\":{\"file\":\"none\",\"verdict\":\"not judged\"},\"G1b\":{\"file\":\"none\",\"verdict\":\"not judged\"},\"G1c\":{\"file\":\"none\",\"verdict\":\"not judged\"},\"G2\":{\"file\":\"none\",\"verdict\":\"not judged\"},\"G2-item\":{\"file\":\"none\",\"verdict\":\"not judged\"}},\"serializable\":{\"file\":\"none\",\"verdict\":\"not judged\"},\"snapshot\":{\"file\":\"none\",\"verdict\":\"not judged\"}}\n",
+        text: b"{\"file\":\"none\",\"unreadable\":true}\n{\"committed\":true,\"end\":null,\"first\":\"first\",\"initial\":[[\"test\",1,10]],\"level\":\"not judged\",\"parts\":2,\"phenomena\":{\"G-single\":{\"file\":\"none\",\"verdict\":\"not judged\"},\"G0\":{\"file\":\"none\",\"verdict\":\"not judged\"},\"G1a\":{\"file\":\"none\",\"verdict\":\"not judged\"},\"G1b\":{\"file\":\"none\",\"verdict\":\"not judged\"},\"G1c\":{\"file\":\"none\",\"verdict\":\"not judged\"},\"G2\":{\"file\":\"none\",\"verdict\":\"not judged\"},\"G2-item\":{\"file\":\"none\",\"verdict\":\"not judged\"}},\"serializable\":{\"file\":\"none\",\"verdict\":\"not judged\"},\"snapshot\":{\"file\":\"none\",\"verdict\":\"not judged\"}}\n",
         status: 3,
         is_hinted: true,
         shown: b"\r2 of 2 files\r\x1b[K",
@@ -87,7 +89,7 @@ pub const RUNS: [Due; 16] = [
     Due {
         task: Task::Chain(JSON),
         names: &["first", "cut", "second"],
-        text: b"{\"file\":\"cut\",\"refused\":{\"kind\":\"NotJson\"}}\n{\"end\":[[\"test\",1,12]],\"first\":\"first\",\"initial\":[[\"test\",1,10]],\"level\":\"not judged\",\"parts\":3,\"phenomena\":{\"G-single\":{\"file\":\"cut\",\"verdict\":\"not judged\"},\"G0\":{\"file\":\"cut\",\"verdict\":\"not judged\"},\"G1a\":{\"file\":\"cut\",\"verdict\":\"not judged\"},\"G1b\":{\"file\":\"cut\",\"verdict\":\"not judged\"},\"G1c\":{\"file\":\"cut\",\"verdict\":\"not judged\"},\"G2\":{\"file\":\"cut\",\"verdict\":\"not judged\"},\"G2-item\":{\"file\":\"cut\",\"verdict\":\"not judged\"}},\"serializable\":{\"file\":\"cut\",\"verdict\":\"not judged\"},\"snapshot\":{\"file\":\"cut\",\"verdict\":\"not judged\"}}\n",
+        text: b"{\"file\":\"cut\",\"refused\":{\"kind\":\"NotJson\"}}\n{\"committed\":true,\"end\":[[\"test\",1,12]],\"first\":\"first\",\"initial\":[[\"test\",1,10]],\"level\":\"not judged\",\"parts\":3,\"phenomena\":{\"G-single\":{\"file\":\"cut\",\"verdict\":\"not judged\"},\"G0\":{\"file\":\"cut\",\"verdict\":\"not judged\"},\"G1a\":{\"file\":\"cut\",\"verdict\":\"not judged\"},\"G1b\":{\"file\":\"cut\",\"verdict\":\"not judged\"},\"G1c\":{\"file\":\"cut\",\"verdict\":\"not judged\"},\"G2\":{\"file\":\"cut\",\"verdict\":\"not judged\"},\"G2-item\":{\"file\":\"cut\",\"verdict\":\"not judged\"}},\"serializable\":{\"file\":\"cut\",\"verdict\":\"not judged\"},\"snapshot\":{\"file\":\"cut\",\"verdict\":\"not judged\"}}\n",
         status: 2,
         is_hinted: true,
         shown: b"\r3 of 3 files\r\x1b[K",
@@ -134,7 +136,7 @@ pub const RUNS: [Due; 16] = [
     Due {
         task: Task::Join(JSON),
         names: &["answer", "answer"],
-        text: b"{\"end\":[[\"test\",1,10]],\"first\":\"a\",\"initial\":[[\"test\",1,10]],\"level\":\"PL-3\",\"parts\":2,\"phenomena\":{\"G-single\":{\"verdict\":\"absent\"},\"G0\":{\"verdict\":\"absent\"},\"G1a\":{\"verdict\":\"absent\"},\"G1b\":{\"verdict\":\"absent\"},\"G1c\":{\"verdict\":\"absent\"},\"G2\":{\"verdict\":\"absent\"},\"G2-item\":{\"verdict\":\"absent\"}},\"serializable\":{\"verdict\":\"yes\"},\"snapshot\":{\"verdict\":\"yes\"}}\n",
+        text: b"{\"committed\":false,\"end\":[[\"test\",1,10]],\"first\":\"a\",\"initial\":[[\"test\",1,10]],\"level\":\"PL-3\",\"parts\":2,\"phenomena\":{\"G-single\":{\"verdict\":\"absent\"},\"G0\":{\"verdict\":\"absent\"},\"G1a\":{\"verdict\":\"absent\"},\"G1b\":{\"verdict\":\"absent\"},\"G1c\":{\"verdict\":\"absent\"},\"G2\":{\"verdict\":\"absent\"},\"G2-item\":{\"verdict\":\"absent\"}},\"serializable\":{\"verdict\":\"yes\"},\"snapshot\":{\"verdict\":\"yes\"}}\n",
         status: 0,
         is_hinted: false,
         shown: b"",

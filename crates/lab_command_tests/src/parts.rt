@@ -22,15 +22,15 @@ pub const FRONT: &[u8] = br#"{"format":"hermitage-history""#;
 
 /// What `chain --json` writes of a part without transactions, which is named a.
 pub const ANSWER: &[u8] =
-    b"{\"end\":[[\"test\",1,10]],\"first\":\"a\",\"initial\":[[\"test\",1,10]],\"level\":\"PL-3\",\"parts\":1,\"phenomena\":{\"G-single\":{\"verdict\":\"absent\"},\"G0\":{\"verdict\":\"absent\"},\"G1a\":{\"verdict\":\"absent\"},\"G1b\":{\"verdict\":\"absent\"},\"G1c\":{\"verdict\":\"absent\"},\"G2\":{\"verdict\":\"absent\"},\"G2-item\":{\"verdict\":\"absent\"}},\"serializable\":{\"verdict\":\"yes\"},\"snapshot\":{\"verdict\":\"yes\"}}\n";
+    b"{\"committed\":false,\"end\":[[\"test\",1,10]],\"first\":\"a\",\"initial\":[[\"test\",1,10]],\"level\":\"PL-3\",\"parts\":1,\"phenomena\":{\"G-single\":{\"verdict\":\"absent\"},\"G0\":{\"verdict\":\"absent\"},\"G1a\":{\"verdict\":\"absent\"},\"G1b\":{\"verdict\":\"absent\"},\"G1c\":{\"verdict\":\"absent\"},\"G2\":{\"verdict\":\"absent\"},\"G2-item\":{\"verdict\":\"absent\"}},\"serializable\":{\"verdict\":\"yes\"},\"snapshot\":{\"verdict\":\"yes\"}}\n";
 
 /// The same with another value.
 pub const OTHER_ANSWER: &[u8] =
-    b"{\"end\":[[\"test\",1,11]],\"first\":\"a\",\"initial\":[[\"test\",1,11]],\"level\":\"PL-3\",\"parts\":1,\"phenomena\":{\"G-single\":{\"verdict\":\"absent\"},\"G0\":{\"verdict\":\"absent\"},\"G1a\":{\"verdict\":\"absent\"},\"G1b\":{\"verdict\":\"absent\"},\"G1c\":{\"verdict\":\"absent\"},\"G2\":{\"verdict\":\"absent\"},\"G2-item\":{\"verdict\":\"absent\"}},\"serializable\":{\"verdict\":\"yes\"},\"snapshot\":{\"verdict\":\"yes\"}}\n";
+    b"{\"committed\":false,\"end\":[[\"test\",1,11]],\"first\":\"a\",\"initial\":[[\"test\",1,11]],\"level\":\"PL-3\",\"parts\":1,\"phenomena\":{\"G-single\":{\"verdict\":\"absent\"},\"G0\":{\"verdict\":\"absent\"},\"G1a\":{\"verdict\":\"absent\"},\"G1b\":{\"verdict\":\"absent\"},\"G1c\":{\"verdict\":\"absent\"},\"G2\":{\"verdict\":\"absent\"},\"G2-item\":{\"verdict\":\"absent\"}},\"serializable\":{\"verdict\":\"yes\"},\"snapshot\":{\"verdict\":\"yes\"}}\n";
 
 /// What it writes of the two parts that each add 1.
 const PIECE: &[u8] =
-    b"{\"end\":[[\"test\",1,12]],\"first\":\"first\",\"initial\":[[\"test\",1,10]],\"level\":\"PL-3\",\"parts\":2,\"phenomena\":{\"G-single\":{\"verdict\":\"absent\"},\"G0\":{\"verdict\":\"absent\"},\"G1a\":{\"verdict\":\"absent\"},\"G1b\":{\"verdict\":\"absent\"},\"G1c\":{\"verdict\":\"absent\"},\"G2\":{\"verdict\":\"absent\"},\"G2-item\":{\"verdict\":\"absent\"}},\"serializable\":{\"verdict\":\"yes\"},\"snapshot\":{\"verdict\":\"yes\"}}\n";
+    b"{\"committed\":true,\"end\":[[\"test\",1,12]],\"first\":\"first\",\"initial\":[[\"test\",1,10]],\"level\":\"PL-3\",\"parts\":2,\"phenomena\":{\"G-single\":{\"verdict\":\"absent\"},\"G0\":{\"verdict\":\"absent\"},\"G1a\":{\"verdict\":\"absent\"},\"G1b\":{\"verdict\":\"absent\"},\"G1c\":{\"verdict\":\"absent\"},\"G2\":{\"verdict\":\"absent\"},\"G2-item\":{\"verdict\":\"absent\"}},\"serializable\":{\"verdict\":\"yes\"},\"snapshot\":{\"verdict\":\"yes\"}}\n";
 
 /// Files of these, by their names.
 pub fn files_in_memory() -> [Held; 6] {

@@ -1,6 +1,6 @@
 -- The output of `batch`: for each file, in the order of the names, a line with its name and then its report or its
 -- fault; the status is the greatest that a file calls for.
-use Rattle.std.specs.Prelude.{◌≡◌, ◌≤◌, ◌⊎◌, ℕ, ◌++◌, List, [], map, Bool, true, false, Option, Some, None, Result, Ok, Err, codes}
+use Rattle.std.specs.Prelude.{◌≡◌, ◌≤◌, ◌⊎◌, ℕ, ◌++◌, List, [], ◌∷◌, map, max, Bool, true, false, Option, Some, None, Result, Ok, Err, codes}
 use Rattle.std.specs.List.{All, Contains, flat_map}
 use Rattle.lab_printing.specs.Printed.{newline}
 use Rattle.lab_history.specs.declared.fault.FileFault.{FileFault}
@@ -71,6 +71,18 @@ pub record IsBatchAnswer (wanted : Wanted) (names : List (List ℕ)) (inputs : L
   pub said : All (λ p. IsSaid wanted p.name p.input p.said p.status) parts
   pub text_is : text ≡ flat_map (λ p. name_line wanted.format p.name ++ p.said) parts
   pub status_is : IsGreatest (map (λ p. p.status) parts) status
+
+-- the exit status that the lack of files calls for: where a level is required, no file doesn't meet it
+abbrev pub lack_status : Option Requirement → List (List ℕ) → ℕ
+lack_status None names = 0
+lack_status (Some requirement) [] = 1
+lack_status (Some requirement) (name ∷ names) = 0
+
+-- the text is that of `batch` for these files, and the status the greatest that one of them calls for, or their lack
+pub record IsWholeBatch (wanted : Wanted) (names : List (List ℕ)) (inputs : List (Option (List ℕ))) (text : List ℕ) (status : ℕ) : Type 0 where
+  pub judged : ℕ
+  pub answer : IsBatchAnswer wanted names inputs text judged
+  pub status_is : status ≡ max judged (lack_status wanted.requirement names)
 
 -- what was read of a file, by whether it was read
 abbrev pub input_of : Bool → List ℕ → Option (List ℕ)

@@ -2,11 +2,12 @@
 
 ghost use Rattle.std.specs.Prelude.{◌≡◌, ◌≢◌, ◌⊎◌, ◌++◌, List, ℕ, Option, map, max, IfOk, IfErr, OnOk, OnErr};
 ghost use Rattle.std.specs.Io.KnownBytes.{Appends, Keeps};
-ghost use Rattle.lab_commands.specs.Batching.{IsBatchAnswer};
+ghost use Rattle.lab_commands.specs.Batching.{IsBatchAnswer, IsWholeBatch, lack_status};
 
 use crate::files::{note_files, read_files};
 use crate::judged_files::batch_answer;
 use crate::progress::Progress;
+use lab_reports::Requirement;
 use lab_streams::{RunFault, Wanted, note_text, write_text};
 use lab_table::NoMemory;
 use std::alloc::Global;
@@ -72,15 +73,46 @@ fn judge_windows<T: Files + Threads + Sync, P: Write>(
     Ok(judged)
 }
 
+/// The exit status that the lack of files calls for: 1 if a level is required and there is no file.
+fn lack_status(requirement: Option<Requirement>, names: &[&str]) -> u8
+    ensures { result ≡ lack_status requirement (map (λ name. name.now) names.now) }
+{
+    match requirement {
+        Some(_) if names.is_empty() => 1,
+        _ => 0,
+    }
+}
+
+/// Gives `notes` a line that says that no file was given, if a level is required; what fails is dropped.
+fn note_lack<N: Write>(
+    alloc: Global,
+    requirement: Option<Requirement>,
+    names: &[&str],
+    notes: &mut N,
+) {
+    let mut line = Vec::new(alloc);
+    if let Some(requirement) = requirement
+        && names.is_empty()
+        && line.extend_from_slice(b"batch: ").is_ok()
+        && line
+            .extend_from_slice(requirement.name().as_bytes())
+            .is_ok()
+        && line.extend_from_slice(b" asked, no file given\n").is_ok()
+    {
+        note_text(&line, notes);
+    }
+}
+
 /// Reads and judges files, as many at a time as there are processors. Then writes, for each file in order, a line
 /// `== NAME` and the report, the line of the file's fault, or `file: unreadable` if it can't be opened or read; in
 /// JSON, one line for each file, with its name. Returns the greatest exit status of the files; 1 is that of a report
-/// that doesn't meet the requirement.
+/// that doesn't meet the requirement, of a history in which no transaction committed if there is a requirement, and
+/// then also of no file at all.
 ///
 /// All files are read and judged before the first write. At most 64 files are held in memory. Fails with `NoMemory`
 /// before anything is written, and with `Unwritten` if a write fails. After the output, `notes` gets a line for each
-/// file that is refused, can't be read, or doesn't meet the requirement, with the file's name; failures of `notes` are
-/// ignored.
+/// file that is refused, can't be read, or doesn't meet the requirement, with the file's name, or says that no file was
+/// given; failures of `notes` are ignored.
 pub fn batch<T: Files + Threads + Sync, W: Write, N: Write, P: Write>(
     rt: &T,
     alloc: Global,
@@ -91,7 +123,7 @@ pub fn batch<T: Files + Threads + Sync, W: Write, N: Write, P: Write>(
     progress: &mut Progress<'_, P>,
 ) -> Result<u8, RunFault>
     ensures written { IfOk result (λ status. (inputs : List (Option (List ℕ))) × (text : List ℕ)
-        × Appends (W.contents writer.old) (W.contents writer.new) text × IsBatchAnswer wanted (map (λ name. name.now) names.now) inputs text status) }
+        × Appends (W.contents writer.old) (W.contents writer.new) text × IsWholeBatch wanted (map (λ name. name.now) names.now) inputs text status) }
     ensures unread_is_told { IfErr result (λ fault. fault ≢ RunFault.Unread) }
     ensures silent { IfErr result (λ fault. (fault ≡ RunFault.Unwritten) ⊎ Keeps (W.contents writer.old) (W.contents writer.new)) }
     ensures hint_last { OnErr result (Keeps (N.contents notes.old) (N.contents notes.new)) }
@@ -102,5 +134,6 @@ pub fn batch<T: Files + Threads + Sync, W: Write, N: Write, P: Write>(
     write_text(writer, &judged.text)?;
     note_text(&judged.hints, notes);
     note_text(&judged.shortfalls, notes);
-    Ok(judged.status)
+    note_lack(alloc, wanted.requirement, names, notes);
+    Ok(judged.status.max(lack_status(wanted.requirement, names)))
 }

@@ -1,3 +1,4 @@
 pub mod Taken
 pub mod ToldFiles
 pub mod Unchanged
+mod IdleReports

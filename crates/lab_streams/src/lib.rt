@@ -10,6 +10,7 @@
 
 mod ending;
 mod input;
+mod laws;
 mod output;
 mod reporting;
 mod subcommand;
@@ -17,7 +18,10 @@ mod telling;
 
 pub use ending::{Ending, RunFault, status};
 pub use input::read_input;
+pub use laws::idle_histories_are_idle;
 pub use output::{Answer, note_text, write_text};
-pub use reporting::{Format, Wanted, ending_of, print_refused, print_said, shortfall_line};
+pub use reporting::{
+    Format, Wanted, ending_of, is_idle, print_refused, print_said, shortfall_line,
+};
 pub use subcommand::{Subcommand, answer_input};
 pub use telling::{Teller, tell_history};

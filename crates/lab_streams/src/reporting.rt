@@ -1,12 +1,12 @@
 //! The formats of a report, and requirements on it.
 
-ghost use Rattle.std.specs.Prelude.{◌≡◌, IfOk};
+ghost use Rattle.std.specs.Prelude.{◌≡◌, ◌++◌, IfOk, OnOk};
 ghost use Rattle.std.specs.Option.{option_copied};
-ghost use Rattle.lab_streams.specs.Reports.{said_of, refused_text, ending_due, shortfall_line};
+ghost use Rattle.lab_streams.specs.Reports.{said_of, refused_text, is_idle, keeps, ending_due, idle_text, unkept_text, shortfall_line};
 
 use crate::ending::Ending;
 use lab_history::FileFault;
-use lab_judge::{Report, print_file_fault, print_report};
+use lab_judge::{Report, Serial, print_file_fault, print_report};
 use lab_reports::{Requirement, print_refusal_json, print_report_json, put_shortfall};
 use lab_table::NoMemory;
 use std::alloc::Global;
@@ -58,18 +58,55 @@ pub fn print_refused(
     }
 }
 
-/// Returns how a subcommand that wrote a report ends.
+/// Returns whether a report says that no transaction of its history committed: its serial order is empty.
+pub fn is_idle(report: &Report) -> bool
+    ensures { result ≡ is_idle report.now }
+{
+    match &report.serial {
+        Serial::Yes(order) => order.as_slice().is_empty(),
+        Serial::NoFault(_) | Serial::NoCycle(_) => false,
+    }
+}
+
+/// Whether a report meets a requirement, and a transaction of its history committed.
+fn keeps(requirement: Requirement, report: &Report) -> bool
+    ensures { result ≡ keeps requirement report.now }
+{
+    requirement.is_met(report) && !is_idle(report)
+}
+
+/// Returns how a subcommand that wrote a report ends: `Unmet` if the report doesn't meet the requirement, or no
+/// transaction of its history committed.
 pub fn ending_of(requirement: Option<Requirement>, report: &Report) -> Ending
     ensures { result ≡ ending_due requirement report.now }
 {
     match requirement {
-        Some(requirement) if !requirement.is_met(report) => Ending::Unmet,
+        Some(requirement) if !keeps(requirement, report) => Ending::Unmet,
         _ => Ending::Done,
     }
 }
 
-/// Returns a line with the name of a file that says why its report doesn't meet the requirement, or an empty text if it
-/// does.
+/// Appends what is required of a history in which no transaction committed.
+fn put_idle(out: &mut Vec<u8>, requirement: Requirement) -> Result<(), NoMemory>
+    ensures { OnOk result (out.new.items ≡ out.old.items ++ idle_text requirement) }
+{
+    out.extend_from_slice(requirement.name().as_bytes())?;
+    out.extend_from_slice(b" asked, no transaction committed")
+}
+
+/// Appends why a report doesn't meet a requirement, or that no transaction of its history committed.
+fn put_unkept(out: &mut Vec<u8>, requirement: Requirement, report: &Report) -> Result<(), NoMemory>
+    ensures { OnOk result (out.new.items ≡ out.old.items ++ unkept_text requirement report.now) }
+{
+    if is_idle(report) {
+        put_idle(out, requirement)
+    } else {
+        put_shortfall(out, requirement, report)
+    }
+}
+
+/// Returns a line with the name of a file that says why `ending_of` is `Unmet`, or an empty text if it isn't: the report
+/// doesn't meet the requirement, or no transaction of its history committed.
 pub fn shortfall_line(
     alloc: Global,
     file: &str,
@@ -80,10 +117,10 @@ pub fn shortfall_line(
 {
     let mut line = Vec::new(alloc);
     match requirement {
-        Some(requirement) if !requirement.is_met(report) => {
+        Some(requirement) if !keeps(requirement, report) => {
             line.extend_from_slice(file.as_bytes())?;
             line.extend_from_slice(b": ")?;
-            put_shortfall(&mut line, requirement, report)?;
+            put_unkept(&mut line, requirement, report)?;
             line.push(b'\n')?;
         }
         _ => {}
