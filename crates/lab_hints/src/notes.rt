@@ -114,6 +114,8 @@ pub fn note_named_file<N: Write>(
 fn name_rule(name: &str) -> &'static str {
     if name.ends_with('\r') {
         "; the name ends with a carriage return, as in a list whose lines end with CRLF"
+    } else if name == "-" {
+        "; '-' is a file of this name, and not standard input"
     } else {
         ""
     }

@@ -118,7 +118,7 @@ impl<'a> Tables<'a> {
     /// Adds the tables of a line's statements. The line begins with one.
     fn add_line(&mut self, text: &'a [u8], line: usize) -> Result<(), NoMemory> {
         let mut rest = text;
-        for _ in 0..=text.len() {
+        for _ in 0..text.len() {
             if let Some(name) = table_of(rest) {
                 self.add(name, line, false)?;
             }
