@@ -6,8 +6,9 @@ use crate::wanting::wanted;
 use clap::ArgMatches;
 use lab_chain_commands::{Asked, chain, join};
 use lab_commands::{Progress, batch, listed_names};
+use lab_hints::{note_unopened, note_unread};
 use lab_history::MAX_FILE_BYTES;
-use lab_streams::{RunFault, note_text, read_input};
+use lab_streams::{RunFault, note_text, read_input, status};
 use std::alloc::{AllocError, Global};
 use std::io::{ErrorKind, Read, Write};
 use std::rt::Files;
@@ -20,21 +21,44 @@ pub enum Task {
     Chain,
 }
 
-/// The bytes of a list of names; `-` is the input.
-fn read_list<T: Files, R: Read>(
+/// Reads a file, and says in `notes` why it can't be opened or read, if it can't.
+fn read_named<T: Files, N: Write>(
+    rt: &T,
+    alloc: Global,
+    name: &str,
+    notes: &mut N,
+) -> Result<Option<Vec<u8>>, RunFault> {
+    match std::fs::open(rt, name) {
+        Ok(mut file) => match read_input(alloc, &mut file) {
+            Ok(bytes) => Ok(Some(bytes)),
+            Err(RunFault::NoMemory) => Err(RunFault::NoMemory),
+            Err(_) => {
+                let why = file.read(&mut [0u8; 1]).err();
+                note_unread(alloc, name, why.as_ref(), notes);
+                Ok(None)
+            }
+        },
+        Err(error) if error.kind() == ErrorKind::OutOfMemory => Err(RunFault::NoMemory),
+        Err(error) => {
+            note_unopened(alloc, name, &error, notes);
+            Ok(None)
+        }
+    }
+}
+
+/// The bytes of a list of names, of which `-` is the input; None where it can't be opened or read, and then `notes` is
+/// told.
+fn read_list<T: Files, R: Read, N: Write>(
     rt: &T,
     alloc: Global,
     reader: &mut R,
+    notes: &mut N,
     list: &str,
-) -> Result<Vec<u8>, RunFault> {
+) -> Result<Option<Vec<u8>>, RunFault> {
     if list == "-" {
-        return read_input(alloc, reader);
+        return Ok(Some(read_input(alloc, reader)?));
     }
-    match std::fs::open(rt, list) {
-        Ok(mut file) => read_input(alloc, &mut file),
-        Err(error) if error.kind() == ErrorKind::OutOfMemory => Err(RunFault::NoMemory),
-        Err(_) => Err(RunFault::Unread),
-    }
+    read_named(rt, alloc, list, notes)
 }
 
 /// The text of a list of names; None where it is too long or isn't UTF-8, and then `notes` is told.
@@ -122,7 +146,8 @@ fn run_named<T: Files + Threads + Sync, R: Read, W: Write, N: Write>(
     }
 }
 
-/// Runs a subcommand over files, and answers the exit status. A list of names that is too long, or isn't UTF-8, is refused.
+/// Runs a subcommand over files, and answers the exit status. A list of names that is too long, or isn't UTF-8, is refused,
+/// and one that can't be opened or read ends the run.
 pub fn run_files<T: Files + Threads + Sync, R: Read, W: Write, N: Write>(
     rt: &T,
     alloc: Global,
@@ -134,7 +159,9 @@ pub fn run_files<T: Files + Threads + Sync, R: Read, W: Write, N: Write>(
         let names = given_names(alloc, matches)?;
         return run_named(rt, alloc, streams, matches, task, &names);
     };
-    let bytes = read_list(rt, alloc, streams.reader, list)?;
+    let Some(bytes) = read_list(rt, alloc, streams.reader, streams.notes, list)? else {
+        return Ok(status(Err(RunFault::Unread)));
+    };
     let Some(text) = text_of(&bytes, streams.notes) else {
         return Ok(ARGUMENTS_REFUSED);
     };

@@ -26,14 +26,14 @@ use lab_case_commands::{case, matrix, matrix_at};
 use lab_command_line::{Names, command};
 use lab_commands::{judge, serial};
 use lab_explain::explain;
-use lab_hints::{Choices, note_words};
+use lab_hints::{Choices, note_words, shown_text};
 use lab_matrix::CaseName;
 use lab_page::page;
 use lab_picture::picture;
 use lab_reports::Phenomenon;
 use lab_shrink_commands::{Progress, shrink};
 use lab_streams::{Ending, RunFault, status};
-use std::alloc::Global;
+use std::alloc::{AllocError, Global};
 use std::io::{ErrorKind, IsTerminal, Read, Write};
 use std::process::ExitCode;
 use std::rt::Files;
@@ -121,6 +121,8 @@ fn run_page<R: Read, W: Write, N: Write>(
     matches: &ArgMatches<'_>,
 ) -> Result<u8, RunFault> {
     let title = matches.get_str("title").unwrap_or("");
+    // A title is one line of text, whatever a shell put into it.
+    let shown = shown_text(alloc, title, ' ')?;
     if MAX_TITLE < title.len() {
         let _ = notes.write_all(b"error: the value of --title has more than 1,000 bytes\n");
         return Ok(ARGUMENTS_REFUSED);
@@ -131,7 +133,7 @@ fn run_page<R: Read, W: Write, N: Write>(
         writer,
         notes,
         asked(matches),
-        title.as_bytes(),
+        shown.as_bytes(),
     ))
 }
 
@@ -198,6 +200,40 @@ fn run_subcommand<T: Files + Threads + Wait + Sync, R: Read, W: Write, N: Write>
     }
 }
 
+/// The arguments, with a question mark in place of each character that a terminal doesn't show as it is.
+fn shown_arguments(alloc: Global, given: &[String]) -> Result<Vec<String>, AllocError> {
+    let mut shown = Vec::new(alloc);
+    for argument in given {
+        shown.push(shown_text(alloc, argument.as_str(), '?')?)?;
+    }
+    Ok(shown)
+}
+
+/// Whether two lists have the same texts.
+fn are_equal(texts: &[String], others: &[String]) -> bool {
+    texts
+        .iter()
+        .zip(others.iter())
+        .all(|(text, other)| text.as_str() == other.as_str())
+}
+
+/// Reports why arguments are refused, as `report` does, with nothing in it that controls a terminal.
+fn report_shown(
+    rt: &HostRuntime,
+    error: &clap::Error,
+    given: &[String],
+    names: &Names,
+) -> Result<u8, RunFault> {
+    let shown = shown_arguments(rt.alloc(), given)?;
+    if are_equal(given, &shown) {
+        return report(rt, error);
+    }
+    match command(rt.alloc(), names)?.try_get_matches_from(shown.as_slice()) {
+        Ok(_) => report(rt, error),
+        Err(error) => report(rt, &error),
+    }
+}
+
 /// What arguments that name no run come to: what there is to report, and what to type instead.
 fn refused(
     rt: &HostRuntime,
@@ -205,12 +241,13 @@ fn refused(
     given: &[String],
     names: &Names,
 ) -> Result<u8, RunFault> {
-    let status = report(rt, error)?;
+    let status = report_shown(rt, error, given, names)?;
     if status == ARGUMENTS_REFUSED {
         let choices = Choices {
             engines: &names.engines,
             phenomena: &names.phenomena,
             requirements: &names.requirements,
+            tellings: &names.tellings,
         };
         note_words(rt.alloc(), given, choices, &mut rt.stderr());
     }

@@ -7,7 +7,7 @@ use lab_history::FileFault;
 use lab_streams::{RunFault, read_input};
 use lab_table::NoMemory;
 use std::alloc::{AllocError, Global};
-use std::io::{Error, ErrorKind, Write};
+use std::io::{Error, ErrorKind, Read, Write};
 use std::rt::Files;
 
 /// Why there is nothing of a file.
@@ -15,8 +15,14 @@ use std::rt::Files;
 enum Missing {
     /// It can't be opened.
     Unopened(Error),
-    /// A read of it failed.
-    Unread,
+    /// A read of it failed; why, if the next read failed too.
+    Unread(Option<Error>),
+}
+
+/// Why the next read of a file fails, if it does.
+fn read_error<R: Read>(file: &mut R) -> Option<Error> {
+    let mut byte = [0u8; 1];
+    file.read(&mut byte).err()
 }
 
 /// The bytes of a file, up to 8,388,609 of them; None where it can't be opened or read, and that is noted.
@@ -31,7 +37,7 @@ fn read_file<T: Files>(
             Ok(bytes) => Ok(Some(bytes)),
             Err(RunFault::NoMemory) => Err(AllocError),
             Err(_) => {
-                *why = Some(Missing::Unread);
+                *why = Some(Missing::Unread(read_error(&mut file)));
                 Ok(None)
             }
         },
@@ -87,7 +93,7 @@ pub fn note_files<N: Write>(
     for ((name, (file, missing)), fault) in names.iter().zip(files).zip(faults.iter()) {
         match (missing, fault) {
             (Some(Missing::Unopened(error)), _) => note_unopened(alloc, name, error, notes),
-            (Some(Missing::Unread), _) => note_unread(alloc, name, notes),
+            (Some(Missing::Unread(error)), _) => note_unread(alloc, name, error.as_ref(), notes),
             (None, Some(fault)) => note_named_file(alloc, name, file, fault, notes),
             (None, None) => {}
         }

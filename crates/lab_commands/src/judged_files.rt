@@ -5,6 +5,7 @@ ghost use Rattle.std.specs.List.{zip};
 ghost use Rattle.lab_commands.specs.Batching.{IsBatchAnswer, input_of, unreadable_text, part_text, part_status};
 
 use crate::files::Inputs;
+use lab_hints::shown_text;
 use lab_history::FileFault;
 use lab_judge::{Report, judge_all};
 use lab_reports::print_unreadable_json;
@@ -91,7 +92,8 @@ fn shortfalls(
     let mut lines = Vec::new(alloc);
     for (name, answer) in names.iter().zip(answers.iter()) {
         if let Ok(report) = answer {
-            let line = shortfall_line(alloc, name, wanted.requirement, report)?;
+            let shown = shown_text(alloc, name, '?')?;
+            let line = shortfall_line(alloc, &shown, wanted.requirement, report)?;
             lines.extend_from_slice(&line)?;
         }
     }

@@ -8,6 +8,7 @@
 #![tactic(auto)]
 
 mod batching;
+mod excess;
 mod files;
 mod free;
 mod judged_files;

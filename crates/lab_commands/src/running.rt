@@ -8,6 +8,7 @@ ghost use Rattle.lab_engine.specs.RecordedLog.{RecordedLog};
 ghost use Rattle.lab_commands.specs.Playing.{IsScriptedPlay, IsScriptedRefusal, IsFreePlay, IsFreeRefusal, IsRunAnswer, IsRecordingAnswer};
 ghost use Rattle.lab_commands.specs.ReadScripts.{run_whole};
 
+use crate::excess::note_excess;
 use crate::free::Free;
 use crate::play_note::note_play;
 use crate::player::Player;
@@ -36,6 +37,8 @@ struct TellsPlay<P: Player> {
     shortfall: Vec<u8>,
     /// Why a play was refused.
     why: Option<PlayFault>,
+    /// The level, if one thread plays the script.
+    level: Option<Level>,
 }
 
 /// What a play of a script that prints tells, or why there is nothing to tell; why the report doesn't meet what is required
@@ -96,6 +99,9 @@ impl<P: Player> Subcommand for TellsPlay<P> {
 
     fn note<N: Write>(&self, alloc: Global, input: &[u8], ending: Ending, notes: &mut N) {
         note_play(alloc, input, ending == Ending::Refused, self.why, notes);
+        if let (Some(level), Some(fault)) = (self.level, &self.why) {
+            note_excess(alloc, input, level, fault, notes);
+        }
         note_text(&self.shortfall, notes);
     }
 
@@ -131,6 +137,7 @@ pub fn run<R: Read, W: Write, N: Write>(
         wanted,
         shortfall: Vec::new(alloc),
         why: None,
+        level: Some(level),
     };
     answer_input(alloc, scripted, reader, writer, notes)
 }
@@ -159,6 +166,7 @@ pub fn run_free<T: Threads + Wait + Sync, R: Read, W: Write, N: Write>(
         wanted,
         shortfall: Vec::new(alloc),
         why: None,
+        level: None,
     };
     answer_input(alloc, free, reader, writer, notes)
 }

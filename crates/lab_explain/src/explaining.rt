@@ -5,30 +5,45 @@ ghost use Rattle.std.specs.Io.KnownBytes.{Appends, Keeps};
 ghost use Rattle.lab_streams.specs.Input.{ReadsFirst};
 ghost use Rattle.lab_explain.specs.Answer.{IsExplanationOf, Explains, IsExplainAnswer};
 
+use crate::client_mistakes::client_mistake_in;
 use crate::newer_rows::may_have_read_newer_rows;
 use crate::sections::explanation;
 use lab_hints::note_newer_rows;
 use lab_history::History;
 use lab_judge::judge;
 use lab_reports::Phenomenon;
-use lab_streams::{Answer, Ending, Format, RunFault, Teller, tell_history};
+use lab_streams::{Answer, Ending, Format, RunFault, Teller, note_text, tell_history};
 use lab_table::NoMemory;
 use std::alloc::{AllocError, Global};
 use std::io::{Read, Write};
 
-/// The explanation of a judgement of a history; a fault that may come of newer rows is noted where its cause is told.
+/// Causes that a fault may have besides the one that an explanation names.
+#[derive(Clone, Copy)]
+struct OtherCauses {
+    /// Whether it may come of newer rows.
+    are_newer_rows: bool,
+    /// What a client or a cut may have done; empty if nothing.
+    client: &'static [u8],
+}
+
+/// The explanation of a judgement of a history; other causes of a fault are noted where its cause is told.
 fn explained(
     alloc: Global,
     history: &History,
     asked: Option<Phenomenon>,
-    may_be_newer: &mut bool,
+    causes: &mut OtherCauses,
 ) -> Result<Vec<u8>, NoMemory>
     ensures { IfOk result (λ text. IsExplanationOf history.now asked text.items) }
 {
     let Ok(report) = judge(alloc, history) else {
         return Err(AllocError);
     };
-    *may_be_newer = asked.is_none() && may_have_read_newer_rows(history, &report);
+    if asked.is_none() {
+        *causes = OtherCauses {
+            are_newer_rows: may_have_read_newer_rows(history, &report),
+            client: client_mistake_in(&report),
+        };
+    }
     explanation(alloc, history, &report, asked)
 }
 
@@ -36,8 +51,8 @@ fn explained(
 #[derive(Drop)]
 struct TellsExplanation {
     asked: Option<Phenomenon>,
-    /// Whether a fault of the record that was told may come of newer rows.
-    may_be_newer: bool,
+    /// Those of the fault of the record that was told.
+    causes: OtherCauses,
 }
 
 impl Teller for TellsExplanation {
@@ -45,21 +60,22 @@ impl Teller for TellsExplanation {
 
     fn tell(&mut self, alloc: Global, history: &History) -> Result<Answer, NoMemory> {
         Ok(Answer {
-            text: explained(alloc, history, self.asked, &mut self.may_be_newer)?,
+            text: explained(alloc, history, self.asked, &mut self.causes)?,
             ending: Ending::Done,
         })
     }
 
     fn note<N: Write>(&self, notes: &mut N) {
-        if self.may_be_newer {
+        if self.causes.are_newer_rows {
             note_newer_rows(notes);
         }
+        note_text(self.causes.client, notes);
     }
 }
 
 /// Reads a history file, and explains the judgement of its history in sentences: all of it, or the finding about a
 /// phenomenon. If the file is refused, writes the line of its first fault. Reads, writes and ends as `tell_history`
-/// does. A hint is also written to `notes` if a fault can have a cause other than the explained one.
+/// does. A hint is also written to `notes` if a fault can have causes other than the explained one.
 pub fn explain<R: Read, W: Write, N: Write>(
     alloc: Global,
     reader: &mut R,
@@ -75,7 +91,10 @@ pub fn explain<R: Read, W: Write, N: Write>(
 {
     let explanation = TellsExplanation {
         asked,
-        may_be_newer: false,
+        causes: OtherCauses {
+            are_newer_rows: false,
+            client: b"",
+        },
     };
     tell_history(alloc, explanation, Format::Lines, reader, writer, notes)
 }

@@ -11,6 +11,7 @@
 
 mod beside;
 mod clauses;
+mod client_mistakes;
 mod explaining;
 mod fault_parts;
 mod fault_steps;

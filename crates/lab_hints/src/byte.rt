@@ -13,6 +13,21 @@ pub fn foreign_byte(code: &[u8]) -> Option<(usize, u8)> {
     None
 }
 
+/// The character that begins a text, where editors, chats and web pages put it in place of a byte of code.
+pub fn sign_name(text: &[u8]) -> &'static str {
+    match text {
+        [0xE2, 0x80, 0x93, ..] => ", an en dash in place of '--'",
+        [0xE2, 0x80, 0x94 | 0x95, ..] => ", an em dash in place of '--'",
+        [0xE2, 0x80, 0x90 | 0x91 | 0x92, ..] | [0xE2, 0x88, 0x92, ..] => {
+            ", a dash in place of '-'"
+        }
+        [0xE2, 0x80, 0x98..=0x9F, ..] => ", a quotation mark of a printed text",
+        [0xC2, 0xA0, ..] => ", a no-break space",
+        [0, ..] => ", as in UTF-16",
+        _ => "",
+    }
+}
+
 /// Appends that a byte of this name was found where this rule is.
 pub fn put_byte<'a>(
     out: &mut Vec<u8>,

@@ -1,8 +1,9 @@
 //! What is said of a file that is no history.
 
+use crate::found::{item_text, put_found_value, text_at};
 use crate::json_text::put_no_json;
 use crate::limits::{limit_rule, put_over};
-use crate::path::{put_value, put_wrong_value, value_at};
+use crate::path::{put_wrong_value, value_at};
 use crate::rows::{has_number, items_at, unsorted_place};
 use crate::statement::put_bad_statement;
 use crate::text::{Part, put};
@@ -60,9 +61,11 @@ fn put_repeated(out: &mut Vec<u8>, json: &Json, no: TxnNo) -> Result<(), NoMemor
 fn put_unsorted(
     out: &mut Vec<u8>,
     alloc: Global,
+    bytes: &[u8],
     json: &Json,
     path: &Path,
 ) -> Result<(), NoMemory> {
+    let list = text_at(alloc, bytes, path)?.unwrap_or(b"");
     let Some(members) = value_at(alloc, json, path)?.and_then(Json::as_array) else {
         return Ok(());
     };
@@ -78,9 +81,9 @@ fn put_unsorted(
             Part::Say(": found "),
         ],
     )?;
-    put_value(out, alloc, members.get(place))?;
+    put_found_value(out, alloc, item_text(alloc, list, place)?)?;
     put(out, &[Part::Say(" behind ")])?;
-    put_value(out, alloc, members.get(place.saturating_sub(1)))?;
+    put_found_value(out, alloc, item_text(alloc, list, place.saturating_sub(1))?)?;
     let rule = "; rows rise by table and then by id, and none comes twice";
     put(out, &[Part::Say(rule)])
 }
@@ -89,12 +92,13 @@ fn put_unsorted(
 fn put_fault(
     out: &mut Vec<u8>,
     alloc: Global,
+    bytes: &[u8],
     json: &Json,
     fault: &FileFault,
 ) -> Result<(), NoMemory> {
     match fault {
         FileFault::NoMemory | FileFault::NotJson => Ok(()),
-        FileFault::WrongFormat { path } => put_wrong_value(out, alloc, json, path),
+        FileFault::WrongFormat { path } => put_wrong_value(out, alloc, bytes, json, path),
         FileFault::WrongVersion { number } => put(
             out,
             &[
@@ -105,7 +109,7 @@ fn put_fault(
         ),
         FileFault::RepeatedTxn { no } => put_repeated(out, json, *no),
         FileFault::BadStatement { txn, op } => put_bad_statement(out, alloc, json, *txn, *op),
-        FileFault::Unsorted { path } => put_unsorted(out, alloc, json, path),
+        FileFault::Unsorted { path } => put_unsorted(out, alloc, bytes, json, path),
         FileFault::OverLimit { which } => put_over(out, alloc, json, *which),
     }
 }
@@ -118,7 +122,7 @@ fn put_read(
     fault: &FileFault,
 ) -> Result<(), NoMemory> {
     match Json::from_slice(alloc, bytes) {
-        Ok(json) => put_fault(out, alloc, &json, fault),
+        Ok(json) => put_fault(out, alloc, bytes, &json, fault),
         Err(error) if error.is_memory() => Err(AllocError),
         Err(error) => put_no_json(out, alloc, bytes, &error),
     }

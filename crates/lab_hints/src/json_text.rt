@@ -1,7 +1,7 @@
 //! Where a text stops being JSON, and why.
 
 use crate::json_string::{StringFlaw, put_string_flaw, string_flaw};
-use crate::text::{BYTE_ORDER_MARK, Part, put, put_shown};
+use crate::text::{BYTE_ORDER_MARK, Part, UTF_16, is_utf_16, put, put_shown};
 use json::{Reader, Scratch, Token};
 use lab_table::NoMemory;
 use serde_json::{Error, Value as Json};
@@ -199,9 +199,12 @@ pub fn put_no_json(
         let words = "found a byte order mark (EF BB BF) at the front, which is no part of JSON";
         return put(out, &[Part::Say(words)]);
     }
+    if is_utf_16(bytes) {
+        return put(out, &[Part::Say(UTF_16)]);
+    }
     let end = bytes_to(bytes, error.line(), error.column());
     if error.is_eof() {
-        put_place(out, bytes, end.saturating_sub(1))?;
+        put_place(out, bytes, bytes.len())?;
         let words = "the text ends before its JSON value does";
         return put(out, &[Part::Say(words)]);
     }

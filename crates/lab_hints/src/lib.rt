@@ -15,13 +15,16 @@
 
 mod byte;
 mod file;
+mod found;
 mod grammar;
 mod json_string;
 mod json_text;
 mod kind;
 mod limits;
 mod long;
+mod meant;
 mod notes;
+mod options;
 mod path;
 mod play;
 mod position;
@@ -33,6 +36,7 @@ mod session;
 mod silent;
 mod statement;
 mod stop;
+mod tables;
 mod text;
 mod token;
 mod walk;
@@ -40,8 +44,10 @@ mod wanted;
 mod words;
 
 pub use limits::limit_rule;
+pub use meant::Choices;
 pub use notes::{
     note_file, note_named_file, note_newer_rows, note_play, note_rule, note_script, note_unopened,
     note_unread,
 };
-pub use words::{Choices, note_words};
+pub use text::shown_text;
+pub use words::note_words;

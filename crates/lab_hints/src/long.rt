@@ -1,8 +1,9 @@
 //! What is said where a line of a script, or what ends in it, is over a limit.
 
 use crate::said::Said;
-use crate::text::Part;
+use crate::text::{Part, line_numbered};
 use crate::token::tokens_of;
+use lab_history::MAX_FILE_BYTES;
 use lab_printing::MAX_LINE_BYTES;
 use lab_script::{MAX_COMMANDS, MAX_LINES, parse_script};
 use lab_statement::{ScriptFault, ScriptFaultKind, blanks_len, parse_statement};
@@ -53,6 +54,16 @@ fn count_commands(alloc: Global, text: &[u8]) -> Result<usize, NoMemory> {
     }
 }
 
+/// What precedes the length of a line: of an input that is longer than what is read of it, the last line may go on.
+fn length_words(text: &[u8], number: u32) -> &'static str {
+    let is_last = line_numbered(text, (number as usize).saturating_add(1)).is_none();
+    if text.len() > MAX_FILE_BYTES && is_last {
+        "the line has at least "
+    } else {
+        "the line has "
+    }
+}
+
 /// What is said of the first statement of a line that is over a limit, behind so many commands.
 fn over_said(alloc: Global, code: &[u8], commands: usize) -> Result<Said, NoMemory> {
     let mut count = commands;
@@ -89,7 +100,7 @@ pub fn long_said(
             alloc,
             MAX_LINE_BYTES + 1,
             &[
-                Part::Say("the line has "),
+                Part::Say(length_words(text, number)),
                 Part::Number(line.len() as u64),
                 Part::Say(" bytes; a line has at most 4,000"),
             ],

@@ -4,6 +4,7 @@ use crate::file::file_hint;
 use crate::play::{long_file_hint, rule_hint};
 use crate::script::script_hint;
 use crate::silent::{left_out_hint, silent_play_hint};
+use crate::tables::lone_tables_hint;
 use crate::text::put_shown;
 use lab_history::FileFault;
 use lab_script::parse_script;
@@ -33,13 +34,14 @@ fn hint_of_script(alloc: Global, input: &[u8]) -> Result<Vec<u8>, NoMemory> {
     }
 }
 
-/// Writes hints on a script beside its transcript: on its fault if it was refused, or that a session begins no
-/// transaction.
+/// Writes hints on a script beside its transcript: on its fault if it was refused, else that a session begins no
+/// transaction, and which tables one statement alone has.
 pub fn note_script<N: Write>(alloc: Global, input: &[u8], is_refused: bool, notes: &mut N) {
     if is_refused {
         put_hint(notes, hint_of_script(alloc, input));
     } else {
         put_hint(notes, left_out_hint(alloc, input));
+        put_hint(notes, lone_tables_hint(alloc, input));
     }
 }
 
@@ -54,13 +56,14 @@ fn hint_of_refused_play(alloc: Global, input: &[u8]) -> Result<Vec<u8>, NoMemory
     }
 }
 
-/// Writes hints on a play that keeps the rules: on the fault of its script or of its history's file, or that no
-/// transaction begins in it.
+/// Writes hints on a play that keeps the rules: on the fault of its script or of its history's file, else that no
+/// transaction begins in it, and which tables one statement alone has.
 pub fn note_play<N: Write>(alloc: Global, input: &[u8], is_refused: bool, notes: &mut N) {
     if is_refused {
         put_hint(notes, hint_of_refused_play(alloc, input));
     } else {
         put_hint(notes, silent_play_hint(alloc, input));
+        put_hint(notes, lone_tables_hint(alloc, input));
     }
 }
 
@@ -107,8 +110,20 @@ pub fn note_named_file<N: Write>(
     put_hint(notes, hint_of_named_file(alloc, name, bytes, fault));
 }
 
+/// What else is said of a name that names no file.
+fn name_rule(name: &str) -> &'static str {
+    if name.ends_with('\r') {
+        "; the name ends with a carriage return, as in a list whose lines end with CRLF"
+    } else if name == "-" {
+        "; '-' is a file of this name, and not standard input"
+    } else {
+        ""
+    }
+}
+
 fn hint_of_unopened(alloc: Global, name: &str, error: &Error) -> Result<Vec<u8>, NoMemory> {
-    let why = format!(in alloc; "it can't be opened: {error}\n")?;
+    let rule = name_rule(name);
+    let why = format!(in alloc; "it can't be opened: {error}{rule}\n")?;
     named(alloc, name, why.as_bytes())
 }
 
@@ -117,9 +132,19 @@ pub fn note_unopened<N: Write>(alloc: Global, name: &str, error: &Error, notes: 
     put_hint(notes, hint_of_unopened(alloc, name, error));
 }
 
-/// Writes the name of a file, and that it can't be read.
-pub fn note_unread<N: Write>(alloc: Global, name: &str, notes: &mut N) {
-    put_hint(notes, named(alloc, name, b"a read failed\n"));
+fn hint_of_unread(alloc: Global, name: &str, error: Option<&Error>) -> Result<Vec<u8>, NoMemory> {
+    match error {
+        None => named(alloc, name, b"a read failed\n"),
+        Some(error) => {
+            let why = format!(in alloc; "a read failed: {error}\n")?;
+            named(alloc, name, why.as_bytes())
+        }
+    }
+}
+
+/// Writes the name of a file, that a read of it failed, and why if that is known.
+pub fn note_unread<N: Write>(alloc: Global, name: &str, error: Option<&Error>, notes: &mut N) {
+    put_hint(notes, hint_of_unread(alloc, name, error));
 }
 
 /// What else a fault may come of whose view was read before an update or a delete.

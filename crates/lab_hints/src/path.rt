@@ -1,5 +1,6 @@
 //! What is found at a place of a history file, and what is wanted there.
 
+use crate::found::{put_found_value, text_at};
 use crate::stop::NAME_RULE;
 use crate::text::{Part, put};
 use lab_history::{ListPlace, Path};
@@ -179,26 +180,18 @@ fn put_wanted(out: &mut Vec<u8>, json: &Json, value: &Json, path: &Path) -> Resu
     }
 }
 
-/// Appends a value as it would be written, at most 60 bytes of it.
-pub fn put_value(out: &mut Vec<u8>, alloc: Global, value: Option<&Json>) -> Result<(), NoMemory> {
-    let Some(value) = value else {
-        return put(out, &[Part::Say("nothing")]);
-    };
-    let text = value.to_vec(alloc)?;
-    put(out, &[Part::Shown(&text)])
-}
-
 /// Appends what was found at a place where something else is wanted, and what that is.
 pub fn put_wrong_value(
     out: &mut Vec<u8>,
     alloc: Global,
+    bytes: &[u8],
     json: &Json,
     path: &Path,
 ) -> Result<(), NoMemory> {
     let value = value_at(alloc, json, path)?;
     out.extend_from_slice(&path.print(alloc)?)?;
     put(out, &[Part::Say(": found ")])?;
-    put_value(out, alloc, value)?;
+    put_found_value(out, alloc, text_at(alloc, bytes, path)?)?;
     put(out, &[Part::Say("; wanted: ")])?;
     put_wanted(out, json, value.unwrap_or(&Json::Null), path)
 }

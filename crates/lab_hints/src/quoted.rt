@@ -1,5 +1,6 @@
 //! Words as they are typed in a shell.
 
+use crate::text::is_shown;
 use lab_table::NoMemory;
 
 /// The most bytes of a word that is to be typed.
@@ -7,7 +8,7 @@ const MAX_WORD: usize = 255;
 
 /// Whether a word can be typed: it is short, and has nothing that would move a terminal's cursor.
 pub fn is_typed(word: &str) -> bool {
-    word.len() <= MAX_WORD && !word.chars().any(|sign| sign.is_control())
+    word.len() <= MAX_WORD && word.chars().all(|sign| is_shown(sign))
 }
 
 /// Whether a byte stands for itself in a shell.

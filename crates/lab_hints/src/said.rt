@@ -1,12 +1,14 @@
 //! What is said of each kind of fault of a script.
 
-use crate::byte::{foreign_byte, put_byte};
+use crate::byte::{foreign_byte, put_byte, sign_name};
 use crate::grammar::Place;
 use crate::kind::{is_told, kind_rule};
 use crate::long::long_said;
 use crate::session::{SESSION_RULE, session_in};
 use crate::stop::{LINE_RULE, put_stop};
-use crate::text::{BYTE_ORDER_MARK, Part, code_and_remark, is_blank, line_numbered, text_of};
+use crate::text::{
+    BYTE_ORDER_MARK, Part, UTF_16, code_and_remark, is_blank, is_utf_16, line_numbered, text_of,
+};
 use crate::token::tokens_of;
 use crate::walk::{Stop, Walk};
 use bstr::ByteSlice;
@@ -114,11 +116,11 @@ fn front_said<'a>(alloc: Global, code: &'a [u8], rule: &'a str) -> Result<Said, 
     }
 }
 
-/// What else is said of a byte.
-fn byte_name(byte: u8) -> &'static str {
-    match byte {
-        b'\r' => ", a carriage return that no newline follows",
-        _ => "",
+/// What else is said of the byte that begins a part of a line.
+fn byte_name(rest: &[u8]) -> &'static str {
+    match rest {
+        [b'\r', ..] => ", a carriage return that no newline follows",
+        _ => sign_name(rest),
     }
 }
 
@@ -128,12 +130,16 @@ fn byte_said(alloc: Global, text: &[u8], number: u32, code: &[u8]) -> Result<Sai
         let words = "found a byte order mark (EF BB BF), which is no part of a script";
         return Said::at(alloc, 1, &[Part::Say(words)]);
     }
+    if number == 1 && is_utf_16(text) {
+        return Said::at(alloc, 1, &[Part::Say(UTF_16)]);
+    }
     let rule = "code has tabs and the bytes 32 to 126";
     let Some((column, byte)) = foreign_byte(code) else {
         return Said::of_line(alloc, rule);
     };
     let mut words = Vec::new(alloc);
-    put_byte(&mut words, byte, byte_name(byte), rule)?;
+    let (_, rest) = code.split_at(column.saturating_sub(1).min(code.len()));
+    put_byte(&mut words, byte, byte_name(rest), rule)?;
     Ok(Said {
         column: Some(column),
         words,

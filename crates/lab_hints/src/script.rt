@@ -57,13 +57,14 @@ fn line_hint(
     kind: ScriptFaultKind,
 ) -> Result<Vec<u8>, NoMemory> {
     let Some(line) = line_numbered(text, number as usize) else {
+        let found = if text.is_empty() {
+            "the input is empty; "
+        } else {
+            "found no setup; "
+        };
         return text_of(
             alloc,
-            &[
-                Part::Say("found no setup; "),
-                Part::Say(SETUP_RULE),
-                Part::Say("\n"),
-            ],
+            &[Part::Say(found), Part::Say(SETUP_RULE), Part::Say("\n")],
         );
     };
     let said = said_of_kind(alloc, text, number, kind, line)?;

@@ -1,6 +1,6 @@
 //! What is said of a statement that a history file can't have.
 
-use crate::byte::{foreign_byte, put_byte};
+use crate::byte::{foreign_byte, put_byte, sign_name};
 use crate::grammar::Place;
 use crate::kind::{is_told, kind_rule};
 use crate::rows::{has_number, items_at};
@@ -35,12 +35,12 @@ fn put_column(out: &mut Vec<u8>, column: usize) -> Result<(), NoMemory> {
     )
 }
 
-/// What else is said of a byte.
-fn byte_name(byte: u8) -> &'static str {
-    match byte {
-        b'\n' => ", a newline",
-        b'\r' => ", a carriage return",
-        _ => "",
+/// What else is said of the byte that begins a part of a statement.
+fn byte_name(rest: &[u8]) -> &'static str {
+    match rest {
+        [b'\n', ..] => ", a newline",
+        [b'\r', ..] => ", a carriage return",
+        _ => sign_name(rest),
     }
 }
 
@@ -50,7 +50,8 @@ fn put_foreign_byte(out: &mut Vec<u8>, text: &[u8]) -> Result<(), NoMemory> {
         return put(out, &[Part::Say(BYTE_RULE)]);
     };
     put_column(out, column)?;
-    put_byte(out, byte, byte_name(byte), BYTE_RULE)
+    let (_, rest) = text.split_at(column.saturating_sub(1).min(text.len()));
+    put_byte(out, byte, byte_name(rest), BYTE_RULE)
 }
 
 /// Appends which limit of a statement is broken.

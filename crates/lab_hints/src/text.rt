@@ -11,6 +11,37 @@ const SHOWN_BYTES: usize = 60;
 /// What some editors write in front of a text.
 pub const BYTE_ORDER_MARK: &[u8] = b"\xEF\xBB\xBF";
 
+/// What begins a text in UTF-16, such as PowerShell writes by `>`.
+const UTF_16_MARKS: [&[u8]; 2] = [b"\xFF\xFE", b"\xFE\xFF"];
+
+/// What is said of a text in UTF-16.
+pub const UTF_16: &str =
+    "found UTF-16 (a byte order mark FF FE or FE FF), as PowerShell writes it; save it as UTF-8 without a mark";
+
+/// Whether a text begins as one in UTF-16 does.
+pub fn is_utf_16(text: &[u8]) -> bool {
+    UTF_16_MARKS.iter().any(|mark| text.starts_with(mark))
+}
+
+/// Whether a terminal shows a character as it is: it is no control character, and doesn't change the direction or the
+/// place of others.
+pub fn is_shown(sign: char) -> bool {
+    !sign.is_control()
+        && !matches!(
+            sign,
+            '\u{200B}'..='\u{200F}' | '\u{2028}'..='\u{202E}' | '\u{2060}'..='\u{206F}' | '\u{FEFF}'
+        )
+}
+
+/// Returns a text with `instead` in place of each character that a terminal doesn't show as it is.
+pub fn shown_text(alloc: Global, text: &str, instead: char) -> Result<String, NoMemory> {
+    let mut shown = String::with_capacity(alloc, text.len())?;
+    for sign in text.chars() {
+        shown.push(if is_shown(sign) { sign } else { instead })?;
+    }
+    Ok(shown)
+}
+
 /// A part of a text.
 #[derive(Clone, Copy)]
 pub enum Part<'a> {
