@@ -5,7 +5,7 @@ use crate::named::put_in_order;
 use lab_deps::{Edge, FaultParts, LocalFault};
 use lab_history::{History, Op, VersionName};
 use lab_judge::{Finding, Report, Serial, judge};
-use lab_reports::PHENOMENA;
+use lab_reports::Phenomenon;
 use lab_table::{NoMemory, RowName, TxnNo};
 use std::alloc::Global;
 
@@ -201,7 +201,7 @@ fn shorter<'a>(walk: &'a [Edge], finding: &'a Finding) -> &'a [Edge] {
 /// The shortest of the cycles that a report has: that of its serial verdict, or of a phenomenon that is present.
 fn shortest<'a>(report: &'a Report, walk: &'a [Edge]) -> &'a [Edge] {
     let mut least = walk;
-    for phenomenon in PHENOMENA {
+    for phenomenon in Phenomenon::ALL {
         least = shorter(least, phenomenon.found_in(report));
     }
     least
