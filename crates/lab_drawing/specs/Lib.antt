@@ -1,4 +1,11 @@
 pub mod Cycles
+pub mod Values
+pub mod Reads
+pub mod Pairs
+pub mod Forks
+pub mod Orderable
+pub mod Dependence
+pub mod Readers
 pub mod Nicknames
 pub mod Titles
 pub mod TitleLaws

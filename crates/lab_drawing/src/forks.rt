@@ -1,7 +1,7 @@
 //! Long forks and phantoms.
 
 ghost use Rattle.std.specs.Prelude.{◌≡◌, false};
-ghost use Rattle.lab_drawing.specs.Forks.{splits, forks_beside, forks_at, is_fork, fork_of, is_long_fork, follows, ties_otherwise, is_tied_otherwise, is_predicate_anti, is_phantom_at, is_phantom};
+ghost use Rattle.lab_drawing.specs.Forks.{splits, forks_beside, forks_at, is_fork, fork_of, is_long_fork, follows, depends, ties_otherwise, is_tied_otherwise, is_predicate_anti, is_phantom_at, is_phantom};
 
 use crate::installs::installers_of;
 use crate::making::is_made;
@@ -80,7 +80,7 @@ pub fn is_long_fork(history: &History, walk: &[Edge]) -> bool
 }
 
 /// Whether one number comes right after another in a list.
-fn follows(numbers: &[TxnNo], first: TxnNo, next: TxnNo) -> bool
+pub fn follows(numbers: &[TxnNo], first: TxnNo, next: TxnNo) -> bool
     ensures { result ≡ follows first next false numbers.now }
 {
     let mut is_behind = false;
@@ -103,7 +103,7 @@ fn ties_otherwise(history: &History, from: TxnNo, to: TxnNo, row: RowName) -> bo
                 || depends(history, from, to, Kind::ItemAnti, row)))
 }
 
-fn depends(history: &History, from: TxnNo, to: TxnNo, kind: Kind, row: RowName) -> bool
+pub fn depends(history: &History, from: TxnNo, to: TxnNo, kind: Kind, row: RowName) -> bool
     ensures { result ≡ depends history.now from to kind row }
 {
     let edge = Edge { from, to, kind, row };

@@ -10,6 +10,7 @@
 #![tactic(auto)]
 
 mod cycles;
+mod dependence;
 mod drawing;
 mod fault_drawing;
 mod forks;

@@ -1,11 +1,26 @@
 //! The read-only anomaly.
 
+ghost use Rattle.std.specs.Prelude.{◌≡◌, ◌<◌, ◌*◌, ◌≤◌, length, slice_index, IfOk, OnOk};
+ghost use Rattle.lab_order.specs.Arrows.{nodes_of, has_arrow};
+ghost use Rattle.lab_drawing.specs.Orderable.{is_orderable};
+ghost use Rattle.lab_drawing.specs.Readers.{is_nothing, wrote_nothing, is_read_only, some_read_only, is_before, is_led, node_count, leads, can_order, stands_in_the_way, some_stand_in_the_way, is_read_only_anomaly};
+
+use crate::dependence::Dependence;
 use crate::states::ops_of;
-use lab_deps::{Dependencies, Edge, Kinds, check_local};
+use lab_deps::Edge;
 use lab_history::{History, Op, Writes};
 use lab_order::{Graph, Ordered, order};
 use lab_table::{NoMemory, TxnNo};
 use std::alloc::Global;
+
+/// What is to be put in an order.
+#[derive(Clone, Copy, Debug)]
+pub enum Ordering {
+    /// The starts and commits of transactions: the p-th one starts at the node 2p and commits at the node 2p + 1.
+    Points,
+    /// The transactions but this one.
+    Without(TxnNo),
+}
 
 /// Whether nothing is written.
 fn is_nothing(writes: &Writes) -> bool
@@ -35,61 +50,130 @@ fn some_read_only(history: &History, walk: &[Edge]) -> bool
     walk.iter().any(|edge| is_read_only(history, edge.from))
 }
 
-/// Whether an order has every arrow of a graph point forward.
-fn is_ordered(alloc: Global, graph: &Graph) -> Result<bool, NoMemory> {
-    let ordered = order(alloc, graph)?;
+/// Whether one transaction comes before another, neither of which is this one.
+fn is_before(ties: &Dependence<'_>, without: TxnNo, from: TxnNo, to: TxnNo) -> bool
+    ensures { result ≡ is_before ties.now without from to }
+{
+    from != without && (to != without && (ties.flows(from, to) || ties.passes(from, to)))
+}
+
+/// Whether the start or commit of one transaction comes before that of another.
+fn is_led(ties: &Dependence<'_>, from: TxnNo, is_start: bool, to: TxnNo, to_start: bool) -> bool
+    ensures { result ≡ is_led ties.now from is_start to to_start }
+{
+    if is_start {
+        !to_start && (from == to || ties.passes(from, to))
+    } else {
+        to_start && ties.flows(from, to)
+    }
+}
+
+impl Ordering {
+    /// How many nodes there are.
+    fn count(self, numbers: u32) -> u32
+        requires { numbers ≤ 1000 }
+        ensures { result ≡ node_count self numbers }
+    {
+        match self {
+            Ordering::Points => 2 * numbers,
+            Ordering::Without(_) => numbers,
+        }
+    }
+
+    /// Whether one node comes before another.
+    fn leads(self, ties: &Dependence<'_>, numbers: &[TxnNo], from: u32, to: u32) -> bool
+        requires from { from < node_count self (length numbers.now) }
+        requires to { to < node_count self (length numbers.now) }
+        ensures { result ≡ leads ties.now self numbers.now from to }
+    {
+        match self {
+            Ordering::Points => is_led(
+                ties,
+                numbers[from as usize / 2],
+                from % 2 == 0,
+                numbers[to as usize / 2],
+                to % 2 == 0,
+            ),
+            Ordering::Without(txn) => {
+                is_before(ties, txn, numbers[from as usize], numbers[to as usize])
+            }
+        }
+    }
+}
+
+/// Adds an arrow from each node that comes before this one.
+fn add_arrows_to(
+    alloc: Global,
+    graph: &mut Graph,
+    ordering: Ordering,
+    ties: &Dependence<'_>,
+    to: u32,
+) -> Result<(), NoMemory> {
+    let numbers = ties.numbers();
+    for from in 0..ordering.count(numbers.len() as u32) {
+        if ordering.leads(ties, numbers, from, to) {
+            graph.add(alloc, from, to)?;
+        }
+    }
+    Ok(())
+}
+
+/// The graph of what comes before what.
+fn graph_of(
+    alloc: Global,
+    ordering: Ordering,
+    ties: &Dependence<'_>,
+) -> Result<Graph, NoMemory> {
+    let count = ordering.count(ties.numbers().len() as u32);
+    let mut graph = Graph::new(alloc, count)?;
+    for to in 0..count {
+        add_arrows_to(alloc, &mut graph, ordering, ties, to)?;
+    }
+    Ok(graph)
+}
+
+/// Whether there is an order.
+fn can_order(
+    alloc: Global,
+    ordering: Ordering,
+    ties: &Dependence<'_>,
+) -> Result<bool, NoMemory>
+    ensures { IfOk result (λ can. can ≡ can_order ties.now ordering) }
+{
+    let graph = graph_of(alloc, ordering, ties)?;
+    let ordered = order(alloc, &graph)?;
     Ok(matches!(ordered, Ordered::Order(_)))
 }
 
-/// Whether starts and commits of the transactions can be ordered.
-fn is_snapshot(alloc: Global, net: &Dependencies<'_>) -> Result<bool, NoMemory> {
-    let count = net.len();
-    let mut graph = Graph::new(alloc, 2 * count)?;
-    for from in 0..count {
-        graph.add(alloc, 2 * from, 2 * from + 1)?;
-        for to in 0..count {
-            let kinds = net.kinds_at(from, to);
-            if kinds.meets(Kinds::FLOW) {
-                graph.add(alloc, 2 * from + 1, 2 * to)?;
-            }
-            if kinds.meets(Kinds::ANTI) {
-                graph.add(alloc, 2 * from, 2 * to + 1)?;
-            }
-        }
-    }
-    is_ordered(alloc, &graph)
-}
-
-/// Whether the transactions but one can be ordered.
-fn is_ordered_without(
-    alloc: Global,
-    net: &Dependencies<'_>,
-    txn: TxnNo,
-) -> Result<bool, NoMemory> {
-    let count = net.len();
-    let mut graph = Graph::new(alloc, count)?;
-    for from in 0..count {
-        for to in 0..count {
-            if net.number(from) != txn
-                && net.number(to) != txn
-                && net.kinds_at(from, to).meets(Kinds::ALL)
-            {
-                graph.add(alloc, from, to)?;
-            }
-        }
-    }
-    is_ordered(alloc, &graph)
-}
-
-/// Whether the others can be ordered without one of the transactions of a cycle that wrote no row.
-fn some_stands_in_the_way(
+/// Whether a transaction wrote nothing, and the others can be ordered.
+fn stands_in_the_way(
     alloc: Global,
     history: &History,
-    net: &Dependencies<'_>,
+    ties: &Dependence<'_>,
+    txn: TxnNo,
+) -> Result<bool, NoMemory>
+    requires { ties.now ≡ history.now }
+    ensures { IfOk result (λ stands. stands ≡ stands_in_the_way history.now txn) }
+{
+    if is_read_only(history, txn) {
+        can_order(alloc, Ordering::Without(txn), ties)
+    } else {
+        Ok(false)
+    }
+}
+
+/// The same of some transaction of a cycle.
+fn some_stand_in_the_way(
+    alloc: Global,
+    history: &History,
+    ties: &Dependence<'_>,
     walk: &[Edge],
-) -> Result<bool, NoMemory> {
+) -> Result<bool, NoMemory>
+    requires { ties.now ≡ history.now }
+    ensures { IfOk result (λ some. some ≡ some_stand_in_the_way history.now walk.now) }
+{
     for edge in walk {
-        if is_read_only(history, edge.from) && is_ordered_without(alloc, net, edge.from)? {
+        if stands_in_the_way(alloc, history, ties, edge.from)? {
             return Ok(true);
         }
     }
@@ -101,16 +185,16 @@ pub fn is_read_only_anomaly(
     alloc: Global,
     history: &History,
     walk: &[Edge],
-) -> Result<bool, NoMemory> {
+) -> Result<bool, NoMemory>
+    ensures { IfOk result (λ is_one. is_one ≡ is_read_only_anomaly history.now walk.now) }
+{
     if !some_read_only(history, walk) {
         return Ok(false);
     }
-    let Ok(sound) = check_local(alloc, history) else {
-        return Ok(false);
-    };
-    let net = Dependencies::of(alloc, history, &sound)?;
-    if !is_snapshot(alloc, &net)? {
-        return Ok(false);
+    let ties = Dependence::of(alloc, history)?;
+    if can_order(alloc, Ordering::Points, &ties)? {
+        some_stand_in_the_way(alloc, history, &ties, walk)
+    } else {
+        Ok(false)
     }
-    some_stands_in_the_way(alloc, history, &net, walk)
 }

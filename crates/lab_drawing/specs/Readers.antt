@@ -1,0 +1,73 @@
+-- The read-only anomaly: under snapshot isolation, a transaction that writes nothing makes a history not serializable that
+-- is serializable without it. Since it writes nothing, the dependencies between the others are the same without it.
+--
+-- Origin: Fekete, O'Neil and O'Neil, "A Read-Only Transaction Anomaly Under Snapshot Isolation" (2004); snapshot runs by
+-- the order of starts and commits, and serializable histories by that of transactions: Adya, Liskov and O'Neil,
+-- "Generalized Isolation Level Definitions" (2000).
+use Rattle.std.specs.Prelude.{◌≡◌, ◌≢◌, ℕ, ◌<◌, ◌*◌, ◌/◌, ◌%◌, ◌==◌, Bool, true, false, not, ◌&&◌, ◌||◌, cond, List, length, slice_index}
+use Rattle.std.specs.List.{list_any, list_all, Any, Contains}
+use Rattle.std.specs.FinMap as finite
+use Rattle.lab_table.specs.Row.{Row}
+use Rattle.lab_table.specs.Table.{Writes}
+use Rattle.lab_history.specs.History.{History}
+use Rattle.lab_history.specs.Version.{ops_of, WritesAt}
+use Rattle.lab_history.specs.declared.operation.Op.{Op}
+use Rattle.lab_deps.specs.declared.edge.Edge.{Edge}
+use Rattle.lab_drawing.specs.Dependence.{flows, passes, committed}
+use Rattle.lab_drawing.specs.Orderable.{is_orderable}
+use Rattle.lab_drawing.specs.declared.readers.Ordering.{Ordering}
+use Rattle.lab_drawing.specs.declared.readers.Ordering.TheVariants.{Points, Without}
+
+-- ---- what is to be put in an order
+
+-- whether one transaction comes before another, neither of which is this one
+abbrev pub is_before : History → ℕ → ℕ → ℕ → Bool
+is_before h without from to = not (from == without) && (not (to == without) && (flows h from to || passes h from to))
+
+-- whether the start or commit of one transaction comes before that of another: a start before its own commit, and before that of a transaction whose write isn't seen; a commit before the start of a transaction that depends on what was written
+abbrev pub is_led : History → ℕ → Bool → ℕ → Bool → Bool
+is_led h from is_start to to_start = cond is_start (not to_start && (from == to || passes h from to)) (to_start && flows h from to)
+
+-- how many nodes there are of so many transactions: their starts and commits, or themselves
+abbrev pub node_count : Ordering → ℕ → ℕ
+node_count Points numbers = 2 * numbers
+node_count (Without n) numbers = numbers
+
+-- whether one node comes before another: of the p-th transaction, the start is the node 2p and the commit 2p + 1
+abbrev pub leads : History → Ordering → List ℕ → ℕ → ℕ → Bool
+leads h Points ns a b = is_led h (slice_index ns (a / 2)) (a % 2 == 0) (slice_index ns (b / 2)) (b % 2 == 0)
+leads h (Without n) ns a b = is_before h n (slice_index ns a) (slice_index ns b)
+
+-- whether the nodes can be put in an order
+abbrev pub can_order : History → Ordering → Bool
+can_order h o = is_orderable (leads h o (committed h)) (node_count o (length (committed h)))
+
+-- ---- the anomaly
+
+-- whether nothing is written
+abbrev pub is_nothing : Writes → Bool
+is_nothing writes = length (finite.entries writes) == 0
+
+-- whether an operation wrote no row
+abbrev pub wrote_nothing : Op → Bool
+wrote_nothing op = is_nothing op.writes
+
+-- whether none of a transaction's operations wrote a row
+abbrev pub is_read_only : History → ℕ → Bool
+is_read_only h n = list_all wrote_nothing (ops_of h n)
+
+-- whether some transaction of a cycle wrote no row
+abbrev pub some_read_only : History → List Edge → Bool
+some_read_only h walk = list_any (λ e. is_read_only h e.from) walk
+
+-- whether a transaction wrote nothing, and the others can be ordered
+abbrev pub stands_in_the_way : History → ℕ → Bool
+stands_in_the_way h n = cond (is_read_only h n) (can_order h (Without n)) false
+
+-- the same of some transaction of a cycle
+abbrev pub some_stand_in_the_way : History → List Edge → Bool
+some_stand_in_the_way h walk = list_any (λ e. stands_in_the_way h e.from) walk
+
+-- whether a cycle is a read-only anomaly: it has a transaction that wrote nothing, the history is a snapshot run, and the others can be ordered
+abbrev pub is_read_only_anomaly : History → List Edge → Bool
+is_read_only_anomaly h walk = cond (some_read_only h walk) (cond (can_order h Points) (some_stand_in_the_way h walk) false) false
