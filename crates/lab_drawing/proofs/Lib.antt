@@ -8,5 +8,11 @@ pub mod DrawnWalks
 mod NamedInstalls
 pub mod Escapes
 mod TitledWalks
+mod Orderables
+mod RowEntries
+mod ReadForms
+mod PairForms
+mod ForkForms
+mod ReaderForms
 mod NicknameForms
 pub mod SaidNames

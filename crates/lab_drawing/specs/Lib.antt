@@ -7,6 +7,7 @@ pub mod Orderable
 pub mod Dependence
 pub mod Readers
 pub mod Nicknames
+pub mod Anomalies
 pub mod Titles
 pub mod TitleLaws
 pub mod Ties

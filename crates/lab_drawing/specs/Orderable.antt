@@ -3,7 +3,7 @@
 -- Nodes to which no arrow leads are taken away, round by round: what is left in the end goes round in cycles.
 --
 -- Origin: topological order: Kahn, "Topological Sorting of Large Networks" (1962).
-use Rattle.std.specs.Prelude.{◌≡◌, ℕ, zero, suc, ◌<◌, ◌==◌, Bool, true, List, [], ◌∷◌, ◌++◌, filter, length}
+use Rattle.std.specs.Prelude.{◌≡◌, ℕ, zero, suc, ◌<◌, Bool, true, false, List, [], ◌∷◌, filter}
 use Rattle.std.specs.List.{list_any}
 
 -- the nodes below a number
@@ -24,9 +24,14 @@ abbrev pub left_after : ℕ → (ℕ → ℕ → Bool) → List ℕ → List ℕ
 left_after zero leads nodes = nodes
 left_after (suc rounds) leads nodes = left_after rounds leads (led_to leads nodes)
 
+-- whether there are none
+abbrev pub are_none : List ℕ → Bool
+are_none [] = true
+are_none (n ∷ ns) = false
+
 -- whether none of so many nodes is left after as many rounds
 abbrev pub is_orderable : (ℕ → ℕ → Bool) → ℕ → Bool
-is_orderable leads count = length (left_after count leads (below count)) == 0
+is_orderable leads count = are_none (left_after count leads (below count))
 
 -- so many nodes have places along which every arrow points forward
 abbrev pub HasPlaces : (ℕ → ℕ → Bool) → ℕ → Type 0
