@@ -13,6 +13,8 @@ mod RowEntries
 mod ReadForms
 mod PairForms
 mod ForkForms
+mod KnownDependence
+mod KnownOrders
 mod ReaderForms
 mod NicknameForms
 pub mod SaidNames

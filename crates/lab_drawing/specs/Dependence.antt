@@ -32,13 +32,17 @@ depends_at h from to PredicateAnti row = depends h from to PredicateAnti row
 abbrev pub is_tied : History → Kind → ℕ → ℕ → Bool
 is_tied h kind from to = list_any (λ e. depends_at h from to kind e.0) (finite.entries h.installed)
 
+-- whether two transactions have committed, and aren't one
+abbrev pub are_two : History → ℕ → ℕ → Bool
+are_two h from to = has_committed (outcome_of h from) && (has_committed (outcome_of h to) && not (from == to))
+
 -- whether one transaction depends on what another one wrote
 abbrev pub flows : History → ℕ → ℕ → Bool
-flows h from to = not (from == to) && (is_tied h Write from to || (is_tied h ItemRead from to || is_tied h PredicateRead from to))
+flows h from to = are_two h from to && (is_tied h Write from to || (is_tied h ItemRead from to || is_tied h PredicateRead from to))
 
 -- whether a transaction doesn't see what another one wrote
 abbrev pub passes : History → ℕ → ℕ → Bool
-passes h from to = not (from == to) && (is_tied h ItemAnti from to || is_tied h PredicateAnti from to)
+passes h from to = are_two h from to && (is_tied h ItemAnti from to || is_tied h PredicateAnti from to)
 
 -- what is known of a history's dependencies: the history is sound, and these are all
 abbrev pub AreKnown : History → Option KindsBetween → Type 0

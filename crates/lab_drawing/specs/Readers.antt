@@ -4,15 +4,15 @@
 -- Origin: Fekete, O'Neil and O'Neil, "A Read-Only Transaction Anomaly Under Snapshot Isolation" (2004); snapshot runs by
 -- the order of starts and commits, and serializable histories by that of transactions: Adya, Liskov and O'Neil,
 -- "Generalized Isolation Level Definitions" (2000).
-use Rattle.std.specs.Prelude.{◌≡◌, ◌≢◌, ℕ, ◌<◌, ◌*◌, ◌/◌, ◌%◌, ◌==◌, Bool, true, false, not, ◌&&◌, ◌||◌, cond, List, length, slice_index}
-use Rattle.std.specs.List.{list_any, list_all, Any, Contains}
+use Rattle.std.specs.Prelude.{◌≡◌, ℕ, ◌*◌, ◌/◌, ◌%◌, ◌==◌, nat_lt, Bool, false, not, ◌&&◌, ◌||◌, cond, List, length, slice_index}
+use Rattle.std.specs.List.{list_any, list_all}
 use Rattle.std.specs.FinMap as finite
-use Rattle.lab_table.specs.Row.{Row}
 use Rattle.lab_table.specs.Table.{Writes}
 use Rattle.lab_history.specs.History.{History}
-use Rattle.lab_history.specs.Version.{ops_of, WritesAt}
+use Rattle.lab_history.specs.Version.{ops_of}
 use Rattle.lab_history.specs.declared.operation.Op.{Op}
 use Rattle.lab_deps.specs.declared.edge.Edge.{Edge}
+use Rattle.lab_order.specs.Arrows.{Arrows, nodes_of, has_arrow}
 use Rattle.lab_drawing.specs.Dependence.{flows, passes, committed}
 use Rattle.lab_drawing.specs.Orderable.{is_orderable}
 use Rattle.lab_drawing.specs.declared.readers.Ordering.{Ordering}
@@ -37,6 +37,15 @@ node_count (Without n) numbers = numbers
 abbrev pub leads : History → Ordering → List ℕ → ℕ → ℕ → Bool
 leads h Points ns a b = is_led h (slice_index ns (a / 2)) (a % 2 == 0) (slice_index ns (b / 2)) (b % 2 == 0)
 leads h (Without n) ns a b = is_before h n (slice_index ns a) (slice_index ns b)
+
+-- whether one of so many nodes comes before another one
+abbrev pub arrives : History → Ordering → ℕ → ℕ → ℕ → Bool
+arrives h o limit a b = nat_lt a limit && leads h o (committed h) a b
+
+-- a graph has an arrow exactly where one node comes before another
+pub record IsGraphOf (h : History) (o : Ordering) (graph : Arrows) : Type 0 where
+  pub size : nodes_of graph ≡ node_count o (length (committed h))
+  pub arrows : (a b : ℕ) → has_arrow graph a b ≡ (nat_lt b (node_count o (length (committed h))) && arrives h o (node_count o (length (committed h))) a b)
 
 -- whether the nodes can be put in an order
 abbrev pub can_order : History → Ordering → Bool

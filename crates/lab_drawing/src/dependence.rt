@@ -5,7 +5,7 @@ ghost use Rattle.lab_history.specs.Version.{outcome_of};
 ghost use Rattle.lab_deps.specs.Edges.{IsEdge};
 ghost use Rattle.lab_deps.specs.Soundness.{IsSound, has_committed};
 ghost use Rattle.lab_deps.specs.declared.edge.Edge.{Edge as Spelled};
-ghost use Rattle.lab_drawing.specs.Dependence.{depends_at, is_tied, flows, passes, committed};
+ghost use Rattle.lab_drawing.specs.Dependence.{depends_at, is_tied, are_two, flows, passes, committed};
 
 use crate::forks::{depends, follows};
 use crate::installs::installers_of;
@@ -137,11 +137,18 @@ fn is_tied(history: &History, kind: Kind, from: TxnNo, to: TxnNo) -> bool
         .any(|entry| depends_at(history, from, to, kind, entry.0))
 }
 
+/// Whether two transactions have committed, and aren't one.
+fn are_two(history: &History, from: TxnNo, to: TxnNo) -> bool
+    ensures { result ≡ are_two history.now from to }
+{
+    has_committed(history, from) && (has_committed(history, to) && from != to)
+}
+
 /// Whether one transaction depends on what another one wrote, by its operations.
 fn flows(history: &History, from: TxnNo, to: TxnNo) -> bool
     ensures { result ≡ flows history.now from to }
 {
-    from != to
+    are_two(history, from, to)
         && (is_tied(history, Kind::Write, from, to)
             || (is_tied(history, Kind::ItemRead, from, to)
                 || is_tied(history, Kind::PredicateRead, from, to)))
@@ -151,7 +158,7 @@ fn flows(history: &History, from: TxnNo, to: TxnNo) -> bool
 fn passes(history: &History, from: TxnNo, to: TxnNo) -> bool
     ensures { result ≡ passes history.now from to }
 {
-    from != to
+    are_two(history, from, to)
         && (is_tied(history, Kind::ItemAnti, from, to)
             || is_tied(history, Kind::PredicateAnti, from, to))
 }

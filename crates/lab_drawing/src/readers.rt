@@ -1,9 +1,9 @@
 //! The read-only anomaly.
 
-ghost use Rattle.std.specs.Prelude.{◌≡◌, ◌<◌, ◌*◌, ◌≤◌, length, slice_index, IfOk, OnOk};
+ghost use Rattle.std.specs.Prelude.{◌≡◌, ◌<◌, ◌≤◌, ◌==◌, ◌&&◌, ◌||◌, ℕ, length, IfOk};
 ghost use Rattle.lab_order.specs.Arrows.{nodes_of, has_arrow};
-ghost use Rattle.lab_drawing.specs.Orderable.{is_orderable};
-ghost use Rattle.lab_drawing.specs.Readers.{is_nothing, wrote_nothing, is_read_only, some_read_only, is_before, is_led, node_count, leads, can_order, stands_in_the_way, some_stand_in_the_way, is_read_only_anomaly};
+ghost use Rattle.lab_drawing.specs.Dependence.{committed};
+ghost use Rattle.lab_drawing.specs.Readers.{is_nothing, wrote_nothing, is_read_only, some_read_only, is_before, is_led, node_count, leads, arrives, IsGraphOf, can_order, stands_in_the_way, some_stand_in_the_way, is_read_only_anomaly};
 
 use crate::dependence::Dependence;
 use crate::states::ops_of;
@@ -108,7 +108,12 @@ fn add_arrows_to(
     ordering: Ordering,
     ties: &Dependence<'_>,
     to: u32,
-) -> Result<(), NoMemory> {
+) -> Result<(), NoMemory>
+    requires size { nodes_of graph.old ≡ node_count ordering (length (committed ties.now)) }
+    requires to { to < node_count ordering (length (committed ties.now)) }
+    ensures nodes { nodes_of graph.new ≡ nodes_of graph.old }
+    ensures arrows { IfOk result (λ _. (a b : ℕ) → has_arrow graph.new a b ≡ ((to == b && arrives ties.now ordering (node_count ordering (length (committed ties.now))) a to) || has_arrow graph.old a b)) }
+{
     let numbers = ties.numbers();
     for from in 0..ordering.count(numbers.len() as u32) {
         if ordering.leads(ties, numbers, from, to) {
@@ -123,7 +128,9 @@ fn graph_of(
     alloc: Global,
     ordering: Ordering,
     ties: &Dependence<'_>,
-) -> Result<Graph, NoMemory> {
+) -> Result<Graph, NoMemory>
+    ensures { IfOk result (IsGraphOf ties.now ordering) }
+{
     let count = ordering.count(ties.numbers().len() as u32);
     let mut graph = Graph::new(alloc, count)?;
     for to in 0..count {
@@ -141,8 +148,10 @@ fn can_order(
     ensures { IfOk result (λ can. can ≡ can_order ties.now ordering) }
 {
     let graph = graph_of(alloc, ordering, ties)?;
-    let ordered = order(alloc, &graph)?;
-    Ok(matches!(ordered, Ordered::Order(_)))
+    match order(alloc, &graph)? {
+        Ordered::Order(_) => Ok(true),
+        Ordered::Circle(_) => Ok(false),
+    }
 }
 
 /// Whether a transaction wrote nothing, and the others can be ordered.
