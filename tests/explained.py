@@ -101,8 +101,7 @@ class Explained:
     """The explanation of a history whose report is known."""
 
     def __init__(self, history):
-        whole = json.loads(history)
-        self.whole = History(whole)
+        self.given = whole = json.loads(history)
         self.operations = {it["no"]: it["ops"] for it in whole["transactions"]}
         self.initial = {tuple(entry[:2]): entry[2] for entry in whole["initial"]}
         self.installed = {tuple(entry[:2]): entry[2] for entry in whole["installed"]}
@@ -177,7 +176,7 @@ class Explained:
     def nicknames(self, walk):
         """The nicknames of a cycle, in the order in which they are printed."""
         cycle = [Edge(int(first), kind, row_of(row), int(second)) for first, kind, row, second in dependencies(walk)]
-        found = names_of(self.whole, cycle)
+        found = names_of(History(self.given), cycle)
         return [name for name in NAMES if name in found]
 
     def name(self, phenomenon, walk):
