@@ -10,6 +10,7 @@ pub mod Escapes
 mod TitledWalks
 mod Orderables
 mod RowEntries
+mod WrittenRows
 mod ReadForms
 mod PairForms
 mod ForkForms

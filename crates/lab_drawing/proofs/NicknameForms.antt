@@ -3,27 +3,26 @@ use Rattle.std.{proofs.{Common.{◌≡◌, ℕ, true, List, arith, refl}, lemmas
 use Rattle.std.proofs.lemmas.List.Elements.{filter_passes}
 use Rattle.lab_history.specs.History.{History}
 use Rattle.lab_deps.specs.declared.edge.Edge.{Edge}
-use Rattle.lab_drawing.specs.Anomalies.{IsLostUpdate, IsReadSkew, IsFuzzyRead, IsWriteSkew, HasForm}
+use Rattle.lab_drawing.specs.Anomalies.{HasForm}
 use Rattle.lab_drawing.specs.Nicknames.{all_nicknames, has_form, nicknames_of}
-use Rattle.lab_drawing.specs.Pairs.{is_lost_update, is_read_skew, is_fuzzy_read, is_write_skew}
 use Rattle.lab_drawing.specs.declared.nicknames.Nickname.{Nickname, TheVariants.{LostUpdate, ReadSkew, FuzzyRead, WriteSkew, LongFork, ReadOnlyAnomaly, Phantom}}
-use Rattle.lab_drawing.proofs.{Orderables.{kept}, PairForms.{lost_so, so_lost, skew_so, so_skew, fuzzy_so, so_fuzzy, write_skew_so, so_write_skew, pair_so, so_pair}, ForkForms.{long_fork_so, so_long_fork, phantom_so, so_phantom}, ReaderForms.{read_only_anomaly_so, so_read_only_anomaly}}
+use Rattle.lab_drawing.proofs.{Orderables.{kept}, PairForms.{lost_update_so, so_lost_update, read_skew_so, so_read_skew, fuzzy_read_so, so_fuzzy_read, skewed_so, so_skewed}, ForkForms.{long_fork_so, so_long_fork, phantom_so, so_phantom}, ReaderForms.{read_only_anomaly_so, so_read_only_anomaly}}
 
 -- each nickname's test finds its form
 form_so : (h : History) (walk : List Edge) (n : Nickname) → has_form h walk n ≡ true → HasForm h walk n
-form_so h walk LostUpdate is = pair_so (is_lost_update h) (IsLostUpdate h) walk (lost_so h) is
-form_so h walk ReadSkew is = pair_so (is_read_skew h) (IsReadSkew h) walk (skew_so h) is
-form_so h walk FuzzyRead is = pair_so (is_fuzzy_read h) (IsFuzzyRead h) walk (fuzzy_so h) is
-form_so h walk WriteSkew is = pair_so (is_write_skew h) (IsWriteSkew h) walk (write_skew_so h) is
+form_so h walk LostUpdate is = lost_update_so h walk is
+form_so h walk ReadSkew is = read_skew_so h walk is
+form_so h walk FuzzyRead is = fuzzy_read_so h walk is
+form_so h walk WriteSkew is = skewed_so h walk is
 form_so h walk LongFork is = long_fork_so h walk is
 form_so h walk ReadOnlyAnomaly is = read_only_anomaly_so h walk is
 form_so h walk Phantom is = phantom_so h walk is
 
 so_form : (h : History) (walk : List Edge) (n : Nickname) → HasForm h walk n → has_form h walk n ≡ true
-so_form h walk LostUpdate is = so_pair (is_lost_update h) (IsLostUpdate h) walk (so_lost h) is
-so_form h walk ReadSkew is = so_pair (is_read_skew h) (IsReadSkew h) walk (so_skew h) is
-so_form h walk FuzzyRead is = so_pair (is_fuzzy_read h) (IsFuzzyRead h) walk (so_fuzzy h) is
-so_form h walk WriteSkew is = so_pair (is_write_skew h) (IsWriteSkew h) walk (so_write_skew h) is
+so_form h walk LostUpdate is = so_lost_update h walk is
+so_form h walk ReadSkew is = so_read_skew h walk is
+so_form h walk FuzzyRead is = so_fuzzy_read h walk is
+so_form h walk WriteSkew is = so_skewed h walk is
 so_form h walk LongFork is = so_long_fork h walk is
 so_form h walk ReadOnlyAnomaly is = so_read_only_anomaly h walk is
 so_form h walk Phantom is = so_phantom h walk is

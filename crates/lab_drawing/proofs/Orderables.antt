@@ -8,7 +8,7 @@ use Rattle.lab_drawing.specs.Orderable.{below, are_none, is_led_to, led_to, left
 -- ---- filters
 
 -- what a filter keeps was there, and passes
-passed : {X : Type 0} (test : X → Bool) (xs : List X) (x : X) → Contains (filter test xs) x → Contains xs x × (test x ≡ true)
+pub passed : {X : Type 0} (test : X → Bool) (xs : List X) (x : X) → Contains (filter test xs) x → Contains xs x × (test x ≡ true)
 passed test [] x there = absurd (no_member x there)
 passed test (y ∷ xs) x there =
     elim (test y) as (λ b. test y ≡ b → Contains (cond b (y ∷ filter test xs) (filter test xs)) x → Contains (y ∷ xs) x × (test x ≡ true)) [

@@ -3,7 +3,7 @@ use Rattle.std.{proofs.{Common.{◌≡◌, ℕ, zero, suc, ◌<◌, ◌≤◌, B
 use Rattle.lab_table.{specs.Row.{Row}, proofs.Members.{member_at}}
 use Rattle.lab_history.specs.{History.{History}, Version.{ops_of, IsOp, installers, place_in}, declared.operation.Op.{Op}}
 use Rattle.lab_drawing.specs.Reads.{reads, place_seen, is_below, is_above, is_older_read, is_newer_read, has_older, has_newer, older_at, newer_at, read_older, read_newer}
-use Rattle.lab_drawing.specs.Anomalies.{Read, Installed, ReadBefore, ReadAfter}
+use Rattle.lab_drawing.specs.Anomalies.{Read, Wrote, ReadBefore, ReadAfter}
 use Rattle.lab_drawing.proofs.Orderables.{some_passes}
 
 module _ (h : History) (n : ℕ) where
@@ -52,22 +52,29 @@ module _ (h : History) (n : ℕ) where
         (and_from (reads op row) (is_above (place_seen h n row op) p) reads_it (ap (λ s. is_above s p) seen ∙ le-leb p v le))
 
     -- reads before and after another transaction's write
-    before_at : (m : ℕ) (o : Option ℕ) → place_in (installers h row) m ≡ o → older_at h n row o ≡ true → ReadBefore h n row m
-    before_at m None placed is = absurd (false≢true is)
-    before_at m (Some p) placed is = let found = older_so p is in (found.0, p, found.1, placed, found.2)
+    before_at : (m : ℕ) (o : Option ℕ) → Wrote h m row → place_in (installers h row) m ≡ o → older_at h n row o ≡ true → ReadBefore h n row m
+    before_at m None wrote placed is = absurd (false≢true is)
+    before_at m (Some p) wrote placed is = let found = older_so p is in (found.0, p, found.1, (wrote, placed), found.2)
 
-    after_at : (m : ℕ) (o : Option ℕ) → place_in (installers h row) m ≡ o → newer_at h n row o ≡ true → ReadAfter h n row m
-    after_at m None placed is = absurd (false≢true is)
-    after_at m (Some p) placed is = let found = newer_so p is in (found.0, p, found.1, placed, found.2)
+    after_at : (m : ℕ) (o : Option ℕ) → Wrote h m row → place_in (installers h row) m ≡ o → newer_at h n row o ≡ true → ReadAfter h n row m
+    after_at m None wrote placed is = absurd (false≢true is)
+    after_at m (Some p) wrote placed is = let found = newer_so p is in (found.0, p, found.1, (wrote, placed), found.2)
 
-    pub before_so : (m : ℕ) → read_older h n row m ≡ true → ReadBefore h n row m
-    before_so m is = before_at m (place_in (installers h row) m) refl is
+    pub before_so : (m : ℕ) → Wrote h m row → read_older h n row m ≡ true → ReadBefore h n row m
+    before_so m wrote is = before_at m (place_in (installers h row) m) wrote refl is
 
-    pub after_so : (m : ℕ) → read_newer h n row m ≡ true → ReadAfter h n row m
-    after_so m is = after_at m (place_in (installers h row) m) refl is
+    pub after_so : (m : ℕ) → Wrote h m row → read_newer h n row m ≡ true → ReadAfter h n row m
+    after_so m wrote is = after_at m (place_in (installers h row) m) wrote refl is
 
     pub so_before : (m : ℕ) → ReadBefore h n row m → read_older h n row m ≡ true
-    so_before m (v, p, read, placed, lt) = ap (older_at h n row) placed ∙ so_older v p read lt
+    so_before m (v, p, read, installed, lt) = ap (older_at h n row) installed.1 ∙ so_older v p read lt
 
     pub so_after : (m : ℕ) → ReadAfter h n row m → read_newer h n row m ≡ true
-    so_after m (v, p, read, placed, le) = ap (newer_at h n row) placed ∙ so_newer v p read le
+    so_after m (v, p, read, installed, le) = ap (newer_at h n row) installed.1 ∙ so_newer v p read le
+
+-- the row was written by the other transaction
+pub before_wrote : (h : History) (n m : ℕ) (row : Row) → ReadBefore h n row m → Wrote h m row
+before_wrote h n m row (v, p, read, installed, lt) = installed.0
+
+pub after_wrote : (h : History) (n m : ℕ) (row : Row) → ReadAfter h n row m → Wrote h m row
+after_wrote h n m row (v, p, read, installed, le) = installed.0

@@ -1,11 +1,12 @@
 -- The test for read-only anomalies finds them.
-use Rattle.std.{proofs.{Common.{◌≡◌, ℕ, zero, suc, ◌==◌, Bool, true, false, cond, Option, Some, None, List, [], ◌∷◌, length, refl, sym, ap, ◌∙◌, arith}, lemmas.{Bool.{false≢true, true≢false, eqb-true}, Option.{none-some, slice_get-get_or}, List.{Elements.{All-contains}, Folds.{Any-from_list_any, list_any-from_Any}, Sums.{AllPass-from_list_all, list_all-from_AllPass}}}}, specs.{Prelude.{is_some, slice_index_or}, List.{list_any, list_all, Any}, FinMap.{find, entries, get-entries}}}
+use Rattle.std.{proofs.{Common.{◌≡◌, ℕ, zero, suc, ◌==◌, Bool, true, false, cond, Option, Some, None, List, [], ◌∷◌, length, refl, sym, ap, ◌∙◌, arith}, lemmas.{Bool.{false≢true, true≢false, eqb-true, and_parts, and_from}, Option.{none-some, slice_get-get_or}, List.{Elements.{All-contains}, Folds.{Any-from_list_any, list_any-from_Any}, Sums.{AllPass-from_list_all, list_all-from_AllPass}}}}, specs.{Prelude.{is_some, slice_index_or}, List.{list_any, list_all, Any}, FinMap.{find, entries, get-entries}}}
 use Rattle.lab_table.{specs.{Row.{Row, row_cmp}, Table.{State}}, proofs.{Maps.{row_eq_self}, Members.{member_at}}}
 use Rattle.lab_history.specs.{History.{History}, Version.{ops_of, new_state}, declared.operation.Op.{Op}}
 use Rattle.lab_deps.specs.declared.edge.Edge.{Edge}
 use Rattle.lab_drawing.specs.Anomalies.{Wrote, CanBePlaced, CanBeOrderedWithout, IsReadOnlyAnomaly}
+use Rattle.lab_drawing.specs.Cycles.{walk_phenomenon}
 use Rattle.lab_drawing.specs.Dependence.{committed}
-use Rattle.lab_drawing.specs.Readers.{wrote_nothing, is_read_only, some_read_only, node_count, leads, can_order, stands_in_the_way, some_stand_in_the_way, is_read_only_anomaly}
+use Rattle.lab_drawing.specs.Readers.{wrote_nothing, is_read_only, some_read_only, is_g2, may_be, node_count, leads, can_order, stands_in_the_way, some_stand_in_the_way, is_read_only_anomaly}
 use Rattle.lab_drawing.specs.declared.readers.Ordering.{Ordering, TheVariants.{Points, Without}}
 use Rattle.lab_drawing.proofs.{Orderables.{orders, places}, PairForms.{any_so}}
 
@@ -62,15 +63,18 @@ module _ (h : History) where
 
   pub read_only_anomaly_so : (walk : List Edge) → is_read_only_anomaly h walk ≡ true → IsReadOnlyAnomaly h walk
   read_only_anomaly_so walk is =
-      let parts = both_true (some_read_only h walk) (cond (can_order h Points) (some_stand_in_the_way h walk) false) is in
+      let parts = both_true (may_be h walk) (cond (can_order h Points) (some_stand_in_the_way h walk) false) is in
+      let may = and_parts (is_g2 (walk_phenomenon walk)) (some_read_only h walk) parts.0 in
       let more = both_true (can_order h Points) (some_stand_in_the_way h walk) parts.1 in (
+        may.0,
         places (leads h Points (committed h)) (node_count Points (length (committed h))) more.0,
         any_so (λ e. stands_in_the_way h e.from ≡ true) InTheWay walk (λ e stands. in_the_way_so e.from stands) (Any-from_list_any (λ (e : Edge). stands_in_the_way h e.from) walk more.1),
       )
 
   pub so_read_only_anomaly : (walk : List Edge) → IsReadOnlyAnomaly h walk → is_read_only_anomaly h walk ≡ true
-  so_read_only_anomaly walk (placed, some) =
-      so_both (some_read_only h walk) (cond (can_order h Points) (some_stand_in_the_way h walk) false)
-      (list_any-from_Any (λ (e : Edge). is_read_only h e.from) walk (any_so InTheWay (λ e. is_read_only h e.from ≡ true) walk (λ e way. so_read_only e.from way.0) some))
+  so_read_only_anomaly walk (two, placed, some) =
+      so_both (may_be h walk) (cond (can_order h Points) (some_stand_in_the_way h walk) false)
+      (and_from (is_g2 (walk_phenomenon walk)) (some_read_only h walk) two
+      (list_any-from_Any (λ (e : Edge). is_read_only h e.from) walk (any_so InTheWay (λ e. is_read_only h e.from ≡ true) walk (λ e way. so_read_only e.from way.0) some)))
       (so_both (can_order h Points) (some_stand_in_the_way h walk) (orders (leads h Points (committed h)) (node_count Points (length (committed h))) placed)
       (list_any-from_Any (λ (e : Edge). stands_in_the_way h e.from) walk (any_so InTheWay (λ e. stands_in_the_way h e.from ≡ true) walk (λ e way. so_in_the_way e.from way) some)))

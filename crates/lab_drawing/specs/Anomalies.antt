@@ -21,7 +21,8 @@ use Rattle.lab_drawing.specs.Making.{makes}
 use Rattle.lab_drawing.specs.Orderable.{HasPlaces}
 use Rattle.lab_drawing.specs.Pairs.{overwrites}
 use Rattle.lab_drawing.specs.Reads.{reads, place_seen}
-use Rattle.lab_drawing.specs.Readers.{leads, node_count}
+use Rattle.lab_drawing.specs.Cycles.{walk_phenomenon}
+use Rattle.lab_drawing.specs.Readers.{leads, node_count, is_g2}
 use Rattle.lab_drawing.specs.declared.forks.Fork.{Fork}
 use Rattle.lab_drawing.specs.declared.nicknames.Nickname.{Nickname}
 use Rattle.lab_drawing.specs.declared.nicknames.Nickname.TheVariants as name
@@ -31,9 +32,17 @@ use Rattle.lab_drawing.specs.declared.readers.Ordering.TheVariants.{Points, With
 abbrev pub Read : History → ℕ → Row → ℕ → Type 0
 Read h n row v = (op : Op) × ((k : ℕ) × IsOp h n k op) × (reads op row ≡ true) × (place_seen h n row op ≡ Some v)
 
--- a transaction installed the version of a row at a position
+-- a transaction wrote a row: one of its operations did
+abbrev pub Wrote : History → ℕ → Row → Type 0
+Wrote h n row = (k : ℕ) × WritesAt (ops_of h n) k row
+
+-- a transaction has a position among the installers of a row
+abbrev pub Placed : History → ℕ → Row → ℕ → Type 0
+Placed h n row p = place_in (installers h row) n ≡ Some p
+
+-- a transaction wrote a row, and installed its version at a position
 abbrev pub Installed : History → ℕ → Row → ℕ → Type 0
-Installed h n row p = place_in (installers h row) n ≡ Some p
+Installed h n row p = Wrote h n row × Placed h n row p
 
 -- a transaction read a row in a version before another one's
 abbrev pub ReadBefore : History → ℕ → Row → ℕ → Type 0
@@ -45,7 +54,7 @@ ReadAfter h n row m = (v p : ℕ) × Read h n row v × Installed h m row p × (p
 
 -- P4, r1[x] .. w2[x] .. w1[x]: T1 installed x later, and its first operation that wrote x saw an older version than T2's, or wrote blindly after its last read of x had seen one
 abbrev pub IsLostUpdate : History → ℕ → ℕ → Type 0
-IsLostUpdate h two one = (x : Row) × (p q : ℕ) × Installed h two x p × Installed h one x q × (p < q) × (overwrites h one x p false (ops_of h one) ≡ true)
+IsLostUpdate h two one = (x : Row) × (p q : ℕ) × Installed h two x p × Placed h one x q × (p < q) × (overwrites h one x p false (ops_of h one) ≡ true)
 
 -- A5A, r1[x] .. w2[x] .. w2[y] .. c2 .. r1[y]: of two rows that T2 wrote, T1 read one in an older version, and the other one in T2's or a later one
 abbrev pub IsReadSkew : History → ℕ → ℕ → Type 0
@@ -55,9 +64,9 @@ IsReadSkew h one two = (x y : Row) × (x ≢ y) × ReadBefore h one x two × Rea
 abbrev pub IsFuzzyRead : History → ℕ → ℕ → Type 0
 IsFuzzyRead h one two = (x : Row) × ReadBefore h one x two × ReadAfter h one x two
 
--- an operation makes an item anti-dependency at a row from one transaction to another
+-- an operation makes an item anti-dependency at a row from one transaction to another, which wrote the row
 abbrev pub Misses : History → ℕ → ℕ → Row → Type 0
-Misses h from to row = (op : Op) × ((k : ℕ) × IsOp h from k op) × (makes h (record { from = from; to = to; kind = ItemAnti; row = row }) op ≡ true)
+Misses h from to row = Wrote h to row × (op : Op) × ((k : ℕ) × IsOp h from k op) × (makes h (record { from = from; to = to; kind = ItemAnti; row = row }) op ≡ true)
 
 -- A5B, r1[x] .. r2[y] .. w1[y] .. w2[x]: each of two transactions has an item anti-dependency to the other one, at two rows
 abbrev pub IsWriteSkew : History → ℕ → ℕ → Type 0
@@ -77,11 +86,7 @@ IsLongFork h walk = (a b c d : Edge) × (walk ≡ a ∷ b ∷ c ∷ d ∷ []) ×
 
 -- P3, r1[P] .. w2[y in P]: T1 comes before T2 by a predicate anti-dependency, and by no dependency of another kind
 abbrev pub IsPhantomAt : History → Edge → Type 0
-IsPhantomAt h e = (e.kind ≡ PredicateAnti) × ((row : Row) → ties_otherwise h e.from e.to row ≡ true → ⊥)
-
--- a transaction wrote a row: one of its operations did
-abbrev pub Wrote : History → ℕ → Row → Type 0
-Wrote h n row = (k : ℕ) × WritesAt (ops_of h n) k row
+IsPhantomAt h e = (e.kind ≡ PredicateAnti) × ((row : Row) → (Wrote h e.from row ⊎ Wrote h e.to row) → ties_otherwise h e.from e.to row ≡ true → ⊥)
 
 -- starts and commits can be ordered: the history is a snapshot run
 abbrev pub CanBePlaced : History → Type 0
@@ -91,9 +96,9 @@ CanBePlaced h = HasPlaces (leads h Points (committed h)) (node_count Points (len
 abbrev pub CanBeOrderedWithout : History → ℕ → Type 0
 CanBeOrderedWithout h n = HasPlaces (leads h (Without n) (committed h)) (node_count (Without n) (length (committed h)))
 
--- a snapshot run has a transaction in a cycle that wrote nothing, and without which it is serializable
+-- a snapshot run has a transaction in a cycle that wrote nothing, and without which it is serializable; the cycle has two anti-dependencies at least, as each in a snapshot run
 abbrev pub IsReadOnlyAnomaly : History → List Edge → Type 0
-IsReadOnlyAnomaly h walk = CanBePlaced h × Any (λ e. ((row : Row) → ¬ Wrote h e.from row) × CanBeOrderedWithout h e.from) walk
+IsReadOnlyAnomaly h walk = (is_g2 (walk_phenomenon walk) ≡ true) × CanBePlaced h × Any (λ e. ((row : Row) → ¬ Wrote h e.from row) × CanBeOrderedWithout h e.from) walk
 
 -- two neighbours in a cycle are so, one way or the other
 abbrev pub HasPair : (ℕ → ℕ → Type 0) → List Edge → Type 0

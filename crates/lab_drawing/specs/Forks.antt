@@ -4,10 +4,9 @@
 -- 3.1; phantom: Berenson and others, "A Critique of ANSI SQL Isolation Levels" (1995), section 2 (P3), as the predicate
 -- anti-dependency of Adya, "Weak Consistency: A Generalized Theory and Optimistic Implementations for Distributed
 -- Transactions" (1999).
-use Rattle.std.specs.Prelude.{ℕ, ◌==◌, Bool, true, false, not, ◌&&◌, ◌||◌, cond, List, [], ◌∷◌}
+use Rattle.std.specs.Prelude.{ℕ, ◌==◌, Bool, true, false, not, ◌&&◌, ◌||◌, cond, List, [], ◌∷◌, filter}
 use Rattle.std.specs.List.{list_any}
-use Rattle.std.specs.FinMap as map
-use Rattle.lab_table.specs.Row.{Row, row_test}
+use Rattle.lab_table.specs.Row.{Row}
 use Rattle.lab_history.specs.History.{History}
 use Rattle.lab_history.specs.Version.{installers}
 use Rattle.lab_deps.specs.declared.edge.Edge.{Edge}
@@ -15,6 +14,7 @@ use Rattle.lab_deps.specs.declared.edge.Kind.{Kind}
 use Rattle.lab_deps.specs.declared.edge.Kind.TheVariants.{Write, ItemRead, PredicateRead, ItemAnti, PredicateAnti}
 use Rattle.lab_drawing.specs.Making.{is_made}
 use Rattle.lab_drawing.specs.Reads.{read_older, read_newer}
+use Rattle.lab_drawing.specs.Written.{has_two, rows_by}
 use Rattle.lab_drawing.specs.declared.forks.Fork.{Fork}
 
 -- ---- long fork: each of two writes is seen by one reader, which misses the other write
@@ -23,17 +23,13 @@ use Rattle.lab_drawing.specs.declared.forks.Fork.{Fork}
 abbrev pub splits : History → ℕ → ℕ → ℕ → Row → Bool
 splits h writer saw missed row = read_newer h saw row writer && read_older h missed row writer
 
--- whether the second writer's write of a row that isn't this one is seen by its reader alone
-abbrev pub forks_beside : History → Fork → Row → Row → Bool
-forks_beside h f row other = not (row_test row other) && splits h f.second f.saw_second f.saw_first other
-
--- whether the first writer's write of this row is seen by its reader alone, and the second one's of another row by its
-abbrev pub forks_at : History → Fork → Row → Bool
-forks_at h f row = splits h f.first f.saw_first f.saw_second row && list_any (λ e. forks_beside h f row e.0) (map.entries h.installed)
+-- the rows of the writer at which this is so
+abbrev pub split_rows : History → ℕ → ℕ → ℕ → List Row
+split_rows h writer saw missed = filter (splits h writer saw missed) (rows_by h writer)
 
 -- whether each of two writes of two rows is seen by its reader alone
 abbrev pub is_fork : History → Fork → Bool
-is_fork h f = list_any (λ e. forks_at h f e.0) (map.entries h.installed)
+is_fork h f = has_two (split_rows h f.first f.saw_first f.saw_second) (split_rows h f.second f.saw_second f.saw_first)
 
 -- the transactions from which these dependencies lead
 abbrev pub fork_of : Edge → Edge → Edge → Edge → Fork
@@ -64,9 +60,13 @@ abbrev pub ties_otherwise : History → ℕ → ℕ → Row → Bool
 ties_otherwise h from to row =
     follows from to false (installers h row) || (depends h from to ItemRead row || (depends h from to PredicateRead row || depends h from to ItemAnti row))
 
--- the same at some row
+-- the same at one of these rows
+abbrev pub ties_at_some : History → ℕ → ℕ → List Row → Bool
+ties_at_some h from to rows = list_any (ties_otherwise h from to) rows
+
+-- the same at some row that one of the two wrote
 abbrev pub is_tied_otherwise : History → ℕ → ℕ → Bool
-is_tied_otherwise h from to = list_any (λ e. ties_otherwise h from to e.0) (map.entries h.installed)
+is_tied_otherwise h from to = ties_at_some h from to (rows_by h from) || ties_at_some h from to (rows_by h to)
 
 -- whether it is the kind of a dependency from a reader to a later writer that changes its matches
 abbrev pub is_predicate_anti : Kind → Bool

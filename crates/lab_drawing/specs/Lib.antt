@@ -1,6 +1,7 @@
 pub mod Cycles
 pub mod Values
 pub mod Reads
+pub mod Written
 pub mod Pairs
 pub mod Forks
 pub mod Orderable

@@ -4,14 +4,14 @@
 --
 -- Origin: see `Pairs`, `Forks` and `Readers`, which define the anomalies; their names for cycles are this project's
 -- profile.
-use Rattle.std.specs.Prelude.{◌≡◌, ℕ, Bool, ◌||◌, List, [], ◌∷◌, ◌++◌, filter, flat_map, codes}
-use Rattle.std.specs.List.{list_any}
+use Rattle.std.specs.Prelude.{ℕ, Bool, List, [], ◌∷◌, ◌++◌, filter, flat_map, codes}
 use Rattle.lab_history.specs.History.{History}
 use Rattle.lab_deps.specs.declared.edge.Edge.{Edge}
 use Rattle.lab_drawing.specs.Forks.{is_long_fork, is_phantom}
-use Rattle.lab_drawing.specs.Pairs.{is_lost_update, is_read_skew, is_fuzzy_read, is_write_skew}
+use Rattle.lab_drawing.specs.Pairs.{has_pair}
 use Rattle.lab_drawing.specs.Readers.{is_read_only_anomaly}
 use Rattle.lab_drawing.specs.declared.nicknames.Nickname.{Nickname}
+use Rattle.lab_drawing.specs.declared.pairs.Pair.TheVariants as pair
 use Rattle.lab_drawing.specs.declared.nicknames.Nickname.TheVariants.{LostUpdate, ReadSkew, FuzzyRead, WriteSkew, LongFork, ReadOnlyAnomaly, Phantom}
 
 -- all of them, in the order in which they are said
@@ -28,44 +28,12 @@ nickname_name LongFork = codes "long fork"
 nickname_name ReadOnlyAnomaly = codes "read-only anomaly"
 nickname_name Phantom = codes "phantom"
 
--- whether two transactions that a dependency joins have an anomaly, either way
-abbrev pub either : (ℕ → ℕ → Bool) → Edge → Bool
-either is_one e = is_one e.from e.to || is_one e.to e.from
-
--- whether two neighbours in a cycle have it
-abbrev pub has_pair : (ℕ → ℕ → Bool) → List Edge → Bool
-has_pair is_one walk = list_any (either is_one) walk
-
-abbrev pub loses_either : History → Edge → Bool
-loses_either h = either (is_lost_update h)
-
-abbrev pub skews_either : History → Edge → Bool
-skews_either h = either (is_read_skew h)
-
-abbrev pub rereads_either : History → Edge → Bool
-rereads_either h = either (is_fuzzy_read h)
-
-abbrev pub skews_writes_either : History → Edge → Bool
-skews_writes_either h = either (is_write_skew h)
-
-abbrev pub has_lost_update : History → List Edge → Bool
-has_lost_update h = has_pair (is_lost_update h)
-
-abbrev pub has_read_skew : History → List Edge → Bool
-has_read_skew h = has_pair (is_read_skew h)
-
-abbrev pub has_fuzzy_read : History → List Edge → Bool
-has_fuzzy_read h = has_pair (is_fuzzy_read h)
-
-abbrev pub has_write_skew : History → List Edge → Bool
-has_write_skew h = has_pair (is_write_skew h)
-
 -- whether a cycle has the form that a nickname is for
 abbrev pub has_form : History → List Edge → Nickname → Bool
-has_form h walk LostUpdate = has_lost_update h walk
-has_form h walk ReadSkew = has_read_skew h walk
-has_form h walk FuzzyRead = has_fuzzy_read h walk
-has_form h walk WriteSkew = has_write_skew h walk
+has_form h walk LostUpdate = has_pair h pair.LostUpdate walk
+has_form h walk ReadSkew = has_pair h pair.ReadSkew walk
+has_form h walk FuzzyRead = has_pair h pair.FuzzyRead walk
+has_form h walk WriteSkew = has_pair h pair.WriteSkew walk
 has_form h walk LongFork = is_long_fork h walk
 has_form h walk ReadOnlyAnomaly = is_read_only_anomaly h walk
 has_form h walk Phantom = is_phantom h walk

@@ -2,10 +2,9 @@
 --
 -- Origin: Berenson and others, "A Critique of ANSI SQL Isolation Levels" (1995), section 2 (P2, fuzzy read) and
 -- section 4.1 (P4, lost update) and 4.2 (A5A, read skew; A5B, write skew), over versions as in `Reads`.
-use Rattle.std.specs.Prelude.{ℕ, nat_lt, Bool, true, false, not, ◌&&◌, ◌||◌, cond, Option, Some, None, is_none, is_some, List, [], ◌∷◌}
+use Rattle.std.specs.Prelude.{ℕ, nat_lt, Bool, true, false, not, ◌&&◌, ◌||◌, cond, Option, Some, None, is_none, is_some, List, [], ◌∷◌, filter}
 use Rattle.std.specs.List.{list_any}
-use Rattle.std.specs.FinMap as map
-use Rattle.lab_table.specs.Row.{Row, row_test}
+use Rattle.lab_table.specs.Row.{Row}
 use Rattle.lab_table.specs.Statement.{inserted}
 use Rattle.lab_history.specs.History.{History}
 use Rattle.lab_history.specs.Version.{ops_of, new_state, installers, place_in}
@@ -13,8 +12,11 @@ use Rattle.lab_history.specs.declared.operation.Op.{Op}
 use Rattle.lab_deps.specs.declared.edge.Edge.{Edge}
 use Rattle.lab_deps.specs.declared.edge.Kind.TheVariants.{ItemAnti}
 use Rattle.lab_drawing.specs.Making.{is_made}
-use Rattle.lab_drawing.specs.Reads.{reads, saw_older, read_older, read_newer}
+use Rattle.lab_drawing.specs.Reads.{reads, saw_older, read_older, read_newer, older_rows, newer_rows}
 use Rattle.lab_drawing.specs.Values.{uses_values}
+use Rattle.lab_drawing.specs.Written.{has_two, rows_by}
+use Rattle.lab_drawing.specs.declared.pairs.Pair.{Pair}
+use Rattle.lab_drawing.specs.declared.pairs.Pair.TheVariants.{LostUpdate, ReadSkew, FuzzyRead, WriteSkew}
 
 -- ---- lost update: r1[x] .. w2[x] .. w1[x], where T1 writes based on its earlier read value
 
@@ -42,23 +44,15 @@ loses_at h by row (Some lost) (Some later) = nat_lt lost later && overwrites h b
 abbrev pub loses : History → ℕ → ℕ → Row → Bool
 loses h lost by row = loses_at h by row (place_in (installers h row) lost) (place_in (installers h row) by)
 
--- whether an update of one transaction is lost by another one's
-abbrev pub is_lost_update : History → ℕ → ℕ → Bool
-is_lost_update h lost by = list_any (λ e. loses h lost by e.0) (map.entries h.installed)
+-- the same of one of these rows
+abbrev pub loses_some : History → ℕ → ℕ → List Row → Bool
+loses_some h lost by rows = list_any (loses h lost by) rows
 
 -- ---- read skew: r1[x] .. w2[x] .. w2[y] .. c2 .. r1[y], of two rows
 
--- whether a transaction read a row that isn't this one in another one's version or a later one
-abbrev pub reads_beside : History → ℕ → ℕ → Row → Row → Bool
-reads_beside h n m row other = not (row_test row other) && read_newer h n other m
-
--- whether a transaction read this row in a version before another one's, and a second row in that one's or a later one
-abbrev pub skews_reads : History → ℕ → ℕ → Row → Bool
-skews_reads h n m row = read_older h n row m && list_any (λ e. reads_beside h n m row e.0) (map.entries h.installed)
-
--- whether a transaction's reads of two rows that another one wrote are skewed
-abbrev pub is_read_skew : History → ℕ → ℕ → Bool
-is_read_skew h n m = list_any (λ e. skews_reads h n m e.0) (map.entries h.installed)
+-- whether a transaction read one of these rows in a version before another one's, and another one of them in that one's or a later one
+abbrev pub has_read_skew : History → ℕ → ℕ → List Row → Bool
+has_read_skew h n m rows = has_two (older_rows h n m rows) (newer_rows h n m rows)
 
 -- ---- non-repeatable read: r1[x] .. w2[x] .. c2 .. r1[x], of one row
 
@@ -66,9 +60,9 @@ is_read_skew h n m = list_any (λ e. skews_reads h n m e.0) (map.entries h.insta
 abbrev pub rereads : History → ℕ → ℕ → Row → Bool
 rereads h n m row = read_older h n row m && read_newer h n row m
 
--- whether a transaction's reads of a row that another one wrote differ
-abbrev pub is_fuzzy_read : History → ℕ → ℕ → Bool
-is_fuzzy_read h n m = list_any (λ e. rereads h n m e.0) (map.entries h.installed)
+-- the same of one of these rows
+abbrev pub rereads_some : History → ℕ → ℕ → List Row → Bool
+rereads_some h n m rows = list_any (rereads h n m) rows
 
 -- ---- write skew: r1[x] .. r2[y] .. w1[y] .. w2[x], of two rows
 
@@ -76,14 +70,23 @@ is_fuzzy_read h n m = list_any (λ e. rereads h n m e.0) (map.entries h.installe
 abbrev pub misses : History → ℕ → ℕ → Row → Bool
 misses h from to row = is_made h (record { from = from; to = to; kind = ItemAnti; row = row })
 
--- the same at a row that isn't this one
-abbrev pub misses_beside : History → ℕ → ℕ → Row → Row → Bool
-misses_beside h from to row other = not (row_test row other) && misses h from to other
+-- whether there are item anti-dependencies both ways between two transactions: at one of the first rows there, and at one of the second back
+abbrev pub has_write_skew : History → ℕ → ℕ → List Row → List Row → Bool
+has_write_skew h one two there back = has_two (filter (misses h one two) there) (filter (misses h two one) back)
 
--- whether there is one at this row from one transaction to another, and one back at a second row
-abbrev pub skews_writes : History → ℕ → ℕ → Row → Bool
-skews_writes h one other row = misses h one other row && list_any (λ e. misses_beside h other one row e.0) (map.entries h.installed)
+-- ---- neighbours in a cycle
 
--- whether there are item anti-dependencies both ways between two transactions, at two rows
-abbrev pub is_write_skew : History → ℕ → ℕ → Bool
-is_write_skew h one other = list_any (λ e. skews_writes h one other e.0) (map.entries h.installed)
+-- whether two transactions have an anomaly; rows that nobody of them wrote don't matter
+abbrev pub is_pair : History → Pair → ℕ → ℕ → Bool
+is_pair h LostUpdate one two = loses_some h one two (rows_by h one)
+is_pair h ReadSkew one two = has_read_skew h one two (rows_by h two)
+is_pair h FuzzyRead one two = rereads_some h one two (rows_by h two)
+is_pair h WriteSkew one two = has_write_skew h one two (rows_by h two) (rows_by h one)
+
+-- whether the transactions of a dependency have it, one way or the other
+abbrev pub is_neighbour : History → Pair → Edge → Bool
+is_neighbour h pair e = is_pair h pair e.from e.to || is_pair h pair e.to e.from
+
+-- whether two neighbours in a cycle have it
+abbrev pub has_pair : History → Pair → List Edge → Bool
+has_pair h pair walk = list_any (is_neighbour h pair) walk

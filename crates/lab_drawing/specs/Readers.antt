@@ -4,7 +4,7 @@
 -- Origin: Fekete, O'Neil and O'Neil, "A Read-Only Transaction Anomaly Under Snapshot Isolation" (2004); snapshot runs by
 -- the order of starts and commits, and serializable histories by that of transactions: Adya, Liskov and O'Neil,
 -- "Generalized Isolation Level Definitions" (2000).
-use Rattle.std.specs.Prelude.{◌≡◌, ℕ, ◌*◌, ◌/◌, ◌%◌, ◌==◌, nat_lt, Bool, false, not, ◌&&◌, ◌||◌, cond, List, length, slice_index}
+use Rattle.std.specs.Prelude.{◌≡◌, ℕ, ◌*◌, ◌/◌, ◌%◌, ◌==◌, nat_lt, Bool, false, not, true, ◌&&◌, ◌||◌, cond, List, length, slice_index}
 use Rattle.std.specs.List.{list_any, list_all}
 use Rattle.std.specs.FinMap as finite
 use Rattle.lab_table.specs.Table.{Writes}
@@ -13,6 +13,9 @@ use Rattle.lab_history.specs.Version.{ops_of}
 use Rattle.lab_history.specs.declared.operation.Op.{Op}
 use Rattle.lab_deps.specs.declared.edge.Edge.{Edge}
 use Rattle.lab_order.specs.Arrows.{Arrows, nodes_of, has_arrow}
+use Rattle.lab_reports.specs.declared.phenomenon.Phenomenon.{Phenomenon}
+use Rattle.lab_reports.specs.declared.phenomenon.Phenomenon.TheVariants.{G0, G1a, G1b, G1c, GSingle, G2Item, G2}
+use Rattle.lab_drawing.specs.Cycles.{walk_phenomenon}
 use Rattle.lab_drawing.specs.Dependence.{flows, passes, committed}
 use Rattle.lab_drawing.specs.Orderable.{is_orderable}
 use Rattle.lab_drawing.specs.declared.readers.Ordering.{Ordering}
@@ -69,6 +72,16 @@ is_read_only h n = list_all wrote_nothing (ops_of h n)
 abbrev pub some_read_only : History → List Edge → Bool
 some_read_only h walk = list_any (λ e. is_read_only h e.from) walk
 
+-- whether a cycle of this phenomenon has two anti-dependencies at least
+abbrev pub is_g2 : Phenomenon → Bool
+is_g2 G0 = false
+is_g2 G1a = false
+is_g2 G1b = false
+is_g2 G1c = false
+is_g2 GSingle = false
+is_g2 G2Item = true
+is_g2 G2 = true
+
 -- whether a transaction wrote nothing, and the others can be ordered
 abbrev pub stands_in_the_way : History → ℕ → Bool
 stands_in_the_way h n = cond (is_read_only h n) (can_order h (Without n)) false
@@ -77,6 +90,10 @@ stands_in_the_way h n = cond (is_read_only h n) (can_order h (Without n)) false
 abbrev pub some_stand_in_the_way : History → List Edge → Bool
 some_stand_in_the_way h walk = list_any (λ e. stands_in_the_way h e.from) walk
 
--- whether a cycle is a read-only anomaly: it has a transaction that wrote nothing, the history is a snapshot run, and the others can be ordered
+-- whether a cycle may be a read-only anomaly
+abbrev pub may_be : History → List Edge → Bool
+may_be h walk = is_g2 (walk_phenomenon walk) && some_read_only h walk
+
+-- whether a cycle is a read-only anomaly: it has a transaction that wrote nothing, the history is a snapshot run, and the others can be ordered; each cycle of a snapshot run has two anti-dependencies at least
 abbrev pub is_read_only_anomaly : History → List Edge → Bool
-is_read_only_anomaly h walk = cond (some_read_only h walk) (cond (can_order h Points) (some_stand_in_the_way h walk) false) false
+is_read_only_anomaly h walk = cond (may_be h walk) (cond (can_order h Points) (some_stand_in_the_way h walk) false) false

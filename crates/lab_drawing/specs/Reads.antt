@@ -7,7 +7,7 @@
 --
 -- Origin: version orders: Adya, Liskov and O'Neil, "Generalized Isolation Level Definitions" (2000), section 4; reads
 -- before and after writes: Berenson and others, "A Critique of ANSI SQL Isolation Levels" (1995), section 2.
-use Rattle.std.specs.Prelude.{ℕ, nat_lt, nat_le, Bool, false, ◌&&◌, Option, Some, None, is_some}
+use Rattle.std.specs.Prelude.{ℕ, nat_lt, nat_le, Bool, false, ◌&&◌, Option, Some, None, is_some, List, filter}
 use Rattle.std.specs.List.{list_any}
 use Rattle.std.specs.FinMap as map
 use Rattle.lab_table.specs.Row.{Row}
@@ -70,3 +70,11 @@ read_older h n row m = older_at h n row (place_in (installers h row) m)
 -- whether a transaction read a row in another one's version or a later one
 abbrev pub read_newer : History → ℕ → Row → ℕ → Bool
 read_newer h n row m = newer_at h n row (place_in (installers h row) m)
+
+-- those of some rows that a transaction read in a version before another one's
+abbrev pub older_rows : History → ℕ → ℕ → List Row → List Row
+older_rows h n m rows = filter (λ row. read_older h n row m) rows
+
+-- those that it read in the other one's version or a later one
+abbrev pub newer_rows : History → ℕ → ℕ → List Row → List Row
+newer_rows h n m rows = filter (λ row. read_newer h n row m) rows

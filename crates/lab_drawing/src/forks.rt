@@ -1,15 +1,16 @@
 //! Long forks and phantoms.
 
-ghost use Rattle.std.specs.Prelude.{◌≡◌, false};
-ghost use Rattle.lab_drawing.specs.Forks.{splits, forks_beside, forks_at, is_fork, fork_of, is_long_fork, follows, depends, ties_otherwise, is_tied_otherwise, is_predicate_anti, is_phantom_at, is_phantom};
+ghost use Rattle.std.specs.Prelude.{◌≡◌, ◌||◌, false, IfOk};
+ghost use Rattle.lab_drawing.specs.Forks.{splits, split_rows, is_fork, fork_of, is_long_fork, follows, depends, ties_otherwise, ties_at_some, is_tied_otherwise, is_predicate_anti, is_phantom_at, is_phantom};
 
 use crate::installs::installers_of;
 use crate::making::is_made;
-use crate::pairs::is_same_row;
 use crate::reads::{read_newer, read_older};
+use crate::written::{has_two, rows_by};
 use lab_deps::{Edge, Kind};
 use lab_history::History;
-use lab_table::{RowName, TxnNo};
+use lab_table::{NoMemory, RowName, TxnNo};
+use std::alloc::Global;
 
 /// Two writers, and for each the reader that saw its write.
 #[derive(Clone, Copy, Debug)]
@@ -27,31 +28,33 @@ fn splits(history: &History, writer: TxnNo, saw: TxnNo, missed: TxnNo, row: RowN
     read_newer(history, saw, row, writer) && read_older(history, missed, row, writer)
 }
 
-/// Whether the second writer's write of a row that isn't this one is seen by its reader alone.
-fn forks_beside(history: &History, fork: &Fork, row: RowName, other: RowName) -> bool
-    ensures { result ≡ forks_beside history.now fork.now row other }
+/// Those of these rows at which this is so.
+fn split_rows(
+    alloc: Global,
+    history: &History,
+    writer: TxnNo,
+    saw: TxnNo,
+    missed: TxnNo,
+) -> Result<Vec<RowName>, NoMemory>
+    ensures { IfOk result (λ found. found.items ≡ split_rows history.now writer saw missed) }
 {
-    !is_same_row(row, other)
-        && splits(history, fork.second, fork.saw_second, fork.saw_first, other)
-}
-
-/// Whether the first writer's write of this row is seen by its reader alone, and the second one's of another row by its.
-fn forks_at(history: &History, fork: &Fork, row: RowName) -> bool
-    ensures { result ≡ forks_at history.now fork.now row }
-{
-    splits(history, fork.first, fork.saw_first, fork.saw_second, row)
-        && history
-            .installed()
-            .entries()
-            .iter()
-            .any(|entry| forks_beside(history, fork, row, entry.0))
+    let rows = rows_by(alloc, history, writer)?;
+    let mut found = Vec::new(alloc);
+    for row in rows.iter() {
+        if splits(history, writer, saw, missed, *row) {
+            found.push(*row)?;
+        }
+    }
+    Ok(found)
 }
 
 /// Whether each of two writes of two rows is seen by its reader alone.
-fn is_fork(history: &History, fork: &Fork) -> bool
-    ensures { result ≡ is_fork history.now fork.now }
+fn is_fork(alloc: Global, history: &History, fork: &Fork) -> Result<bool, NoMemory>
+    ensures { IfOk result (λ is_one. is_one ≡ is_fork history.now fork.now) }
 {
-    history.installed().entries().iter().any(|entry| forks_at(history, fork, entry.0))
+    let first = split_rows(alloc, history, fork.first, fork.saw_first, fork.saw_second)?;
+    let second = split_rows(alloc, history, fork.second, fork.saw_second, fork.saw_first)?;
+    Ok(has_two(&first, &second))
 }
 
 /// The transactions from which these dependencies lead.
@@ -66,16 +69,32 @@ fn fork_of(one: &Edge, two: &Edge, three: &Edge, four: &Edge) -> Fork
     }
 }
 
+/// Whether the transactions of four dependencies are a fork, if the first or the second writer is the first of them.
+fn are_fork(
+    alloc: Global,
+    history: &History,
+    fork: &Fork,
+    turned: &Fork,
+) -> Result<bool, NoMemory>
+    ensures { IfOk result (λ are. are ≡ (is_fork history.now fork.now || is_fork history.now turned.now)) }
+{
+    if is_fork(alloc, history, fork)? {
+        return Ok(true);
+    }
+    is_fork(alloc, history, turned)
+}
+
 /// Whether a cycle is a long fork.
-pub fn is_long_fork(history: &History, walk: &[Edge]) -> bool
-    ensures { result ≡ is_long_fork history.now walk.now }
+pub fn is_long_fork(alloc: Global, history: &History, walk: &[Edge]) -> Result<bool, NoMemory>
+    ensures { IfOk result (λ is_one. is_one ≡ is_long_fork history.now walk.now) }
 {
     match walk {
         [one, two, three, four] => {
-            is_fork(history, &fork_of(one, two, three, four))
-                || is_fork(history, &fork_of(two, three, four, one))
+            let fork = fork_of(one, two, three, four);
+            let turned = fork_of(two, three, four, one);
+            are_fork(alloc, history, &fork, &turned)
         }
-        _ => false,
+        _ => Ok(false),
     }
 }
 
@@ -110,15 +129,25 @@ pub fn depends(history: &History, from: TxnNo, to: TxnNo, kind: Kind, row: RowNa
     is_made(history, &edge)
 }
 
-/// The same at some row.
-fn is_tied_otherwise(history: &History, from: TxnNo, to: TxnNo) -> bool
-    ensures { result ≡ is_tied_otherwise history.now from to }
+/// The same at one of these rows.
+fn ties_at_some(history: &History, from: TxnNo, to: TxnNo, rows: &[RowName]) -> bool
+    ensures { result ≡ ties_at_some history.now from to rows.now }
 {
-    history
-        .installed()
-        .entries()
-        .iter()
-        .any(|entry| ties_otherwise(history, from, to, entry.0))
+    rows.iter().any(|row| ties_otherwise(history, from, to, *row))
+}
+
+/// The same at some row that one of the two wrote.
+fn is_tied_otherwise(
+    alloc: Global,
+    history: &History,
+    from: TxnNo,
+    to: TxnNo,
+) -> Result<bool, NoMemory>
+    ensures { IfOk result (λ is_tied. is_tied ≡ is_tied_otherwise history.now from to) }
+{
+    let rows = rows_by(alloc, history, from)?;
+    let others = rows_by(alloc, history, to)?;
+    Ok(ties_at_some(history, from, to, &rows) || ties_at_some(history, from, to, &others))
 }
 
 fn is_predicate_anti(kind: Kind) -> bool
@@ -128,15 +157,24 @@ fn is_predicate_anti(kind: Kind) -> bool
 }
 
 /// Whether a dependency is a predicate anti-dependency, and there is none of another kind between its transactions.
-fn is_phantom_at(history: &History, edge: &Edge) -> bool
-    ensures { result ≡ is_phantom_at history.now edge.now }
+fn is_phantom_at(alloc: Global, history: &History, edge: &Edge) -> Result<bool, NoMemory>
+    ensures { IfOk result (λ is_one. is_one ≡ is_phantom_at history.now edge.now) }
 {
-    is_predicate_anti(edge.kind) && !is_tied_otherwise(history, edge.from, edge.to)
+    if !is_predicate_anti(edge.kind) {
+        return Ok(false);
+    }
+    let is_tied = is_tied_otherwise(alloc, history, edge.from, edge.to)?;
+    Ok(!is_tied)
 }
 
 /// Whether a cycle is a phantom.
-pub fn is_phantom(history: &History, walk: &[Edge]) -> bool
-    ensures { result ≡ is_phantom history.now walk.now }
+pub fn is_phantom(alloc: Global, history: &History, walk: &[Edge]) -> Result<bool, NoMemory>
+    ensures { IfOk result (λ is_one. is_one ≡ is_phantom history.now walk.now) }
 {
-    walk.iter().any(|edge| is_phantom_at(history, edge))
+    for edge in walk {
+        if is_phantom_at(alloc, history, edge)? {
+            return Ok(true);
+        }
+    }
+    Ok(false)
 }

@@ -27,6 +27,7 @@ mod states;
 mod text;
 mod titles;
 mod values;
+mod written;
 
 pub use cycles::{cycle_of, walk_phenomenon};
 pub use drawing::{Arrow, Drawing, Spot, Tie, is_dashed};

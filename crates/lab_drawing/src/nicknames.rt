@@ -1,10 +1,10 @@
 //! Nicknames of cycles.
 
 ghost use Rattle.std.specs.Prelude.{◌≡◌, ◌++◌, filter, IfOk, OnOk};
-ghost use Rattle.lab_drawing.specs.Nicknames.{nickname_name, loses_either, skews_either, rereads_either, skews_writes_either, has_lost_update, has_read_skew, has_fuzzy_read, has_write_skew, has_form, nicknames_of, in_parentheses};
+ghost use Rattle.lab_drawing.specs.Nicknames.{nickname_name, has_form, nicknames_of, in_parentheses};
 
 use crate::forks::{is_long_fork, is_phantom};
-use crate::pairs::{is_fuzzy_read, is_lost_update, is_read_skew, is_write_skew};
+use crate::pairs::{Pair, has_pair};
 use crate::readers::is_read_only_anomaly;
 use lab_deps::Edge;
 use lab_history::History;
@@ -62,62 +62,6 @@ impl Nickname {
     }
 }
 
-/// Whether an update of one of two neighbours is lost by the other one's.
-fn loses_either(history: &History, edge: &Edge) -> bool
-    ensures { result ≡ loses_either history.now edge.now }
-{
-    is_lost_update(history, edge.from, edge.to) || is_lost_update(history, edge.to, edge.from)
-}
-
-/// The same of some neighbours in a cycle.
-fn has_lost_update(history: &History, walk: &[Edge]) -> bool
-    ensures { result ≡ has_lost_update history.now walk.now }
-{
-    walk.iter().any(|edge| loses_either(history, edge))
-}
-
-/// Whether the reads of one of two neighbours are skewed by the other's writes.
-fn skews_either(history: &History, edge: &Edge) -> bool
-    ensures { result ≡ skews_either history.now edge.now }
-{
-    is_read_skew(history, edge.from, edge.to) || is_read_skew(history, edge.to, edge.from)
-}
-
-/// The same of some neighbours in a cycle.
-fn has_read_skew(history: &History, walk: &[Edge]) -> bool
-    ensures { result ≡ has_read_skew history.now walk.now }
-{
-    walk.iter().any(|edge| skews_either(history, edge))
-}
-
-/// Whether one of two neighbours read a row before and after the other wrote it.
-fn rereads_either(history: &History, edge: &Edge) -> bool
-    ensures { result ≡ rereads_either history.now edge.now }
-{
-    is_fuzzy_read(history, edge.from, edge.to) || is_fuzzy_read(history, edge.to, edge.from)
-}
-
-/// The same of some neighbours in a cycle.
-fn has_fuzzy_read(history: &History, walk: &[Edge]) -> bool
-    ensures { result ≡ has_fuzzy_read history.now walk.now }
-{
-    walk.iter().any(|edge| rereads_either(history, edge))
-}
-
-/// Whether two neighbours have write skew.
-fn skews_writes_either(history: &History, edge: &Edge) -> bool
-    ensures { result ≡ skews_writes_either history.now edge.now }
-{
-    is_write_skew(history, edge.from, edge.to) || is_write_skew(history, edge.to, edge.from)
-}
-
-/// The same of some neighbours in a cycle.
-fn has_write_skew(history: &History, walk: &[Edge]) -> bool
-    ensures { result ≡ has_write_skew history.now walk.now }
-{
-    walk.iter().any(|edge| skews_writes_either(history, edge))
-}
-
 /// Whether a cycle has the form that a nickname is for.
 fn has_form(
     alloc: Global,
@@ -128,13 +72,13 @@ fn has_form(
     ensures { IfOk result (λ has. has ≡ has_form history.now walk.now nickname) }
 {
     match nickname {
-        Nickname::LostUpdate => Ok(has_lost_update(history, walk)),
-        Nickname::ReadSkew => Ok(has_read_skew(history, walk)),
-        Nickname::FuzzyRead => Ok(has_fuzzy_read(history, walk)),
-        Nickname::WriteSkew => Ok(has_write_skew(history, walk)),
-        Nickname::LongFork => Ok(is_long_fork(history, walk)),
+        Nickname::LostUpdate => has_pair(alloc, history, Pair::LostUpdate, walk),
+        Nickname::ReadSkew => has_pair(alloc, history, Pair::ReadSkew, walk),
+        Nickname::FuzzyRead => has_pair(alloc, history, Pair::FuzzyRead, walk),
+        Nickname::WriteSkew => has_pair(alloc, history, Pair::WriteSkew, walk),
+        Nickname::LongFork => is_long_fork(alloc, history, walk),
         Nickname::ReadOnlyAnomaly => is_read_only_anomaly(alloc, history, walk),
-        Nickname::Phantom => Ok(is_phantom(history, walk)),
+        Nickname::Phantom => is_phantom(alloc, history, walk),
     }
 }
 

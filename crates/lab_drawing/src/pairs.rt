@@ -1,21 +1,29 @@
 //! Anomalies of two transactions: lost update, read skew, non-repeatable read and write skew.
 
-ghost use Rattle.std.specs.Prelude.{◌≡◌, false};
-ghost use Rattle.lab_table.specs.Row.{row_test};
-ghost use Rattle.lab_drawing.specs.Pairs.{is_blind, is_lost_by, overwrites, loses, is_lost_update, reads_beside, skews_reads, is_read_skew, rereads, is_fuzzy_read, misses, misses_beside, skews_writes, is_write_skew};
+ghost use Rattle.std.specs.Prelude.{◌≡◌, false, filter, IfOk};
+ghost use Rattle.lab_drawing.specs.Pairs.{is_blind, is_lost_by, overwrites, loses, loses_some, has_read_skew, rereads, rereads_some, misses, has_write_skew, is_pair, is_neighbour, has_pair};
 
 use crate::making::is_made;
-use crate::reads::{read_newer, read_older, reads, saw_older};
+use crate::reads::{newer_rows, older_rows, read_newer, read_older, reads, saw_older};
 use crate::states::ops_of;
 use crate::values::uses_values;
+use crate::written::{has_two, rows_by};
 use lab_deps::{Edge, Kind};
 use lab_history::{History, Op};
-use lab_table::{RowName, TxnNo};
+use lab_table::{NoMemory, RowName, TxnNo};
+use std::alloc::Global;
 
-pub fn is_same_row(one: RowName, other: RowName) -> bool
-    ensures { result ≡ row_test one other }
-{
-    one == other
+/// An anomaly of two transactions.
+#[derive(Clone, Copy, Debug, PartialEq, Eq)]
+pub enum Pair {
+    /// The second transaction overwrote an update of the first one without having seen it.
+    LostUpdate,
+    /// The first transaction saw one of the second one's writes, and missed another one.
+    ReadSkew,
+    /// The first transaction read a row before and after the second one wrote it.
+    FuzzyRead,
+    /// Each of the two missed a write of the other one.
+    WriteSkew,
 }
 
 /// Whether an operation overwrites a row whatever its value, after the last read of the row saw a version before the
@@ -70,48 +78,11 @@ fn loses(history: &History, lost: TxnNo, by: TxnNo, row: RowName) -> bool
     place < later && overwrites(history, by, row, place, ops_of(history, by))
 }
 
-/// Whether an update of one transaction is lost by another one's.
-pub fn is_lost_update(history: &History, lost: TxnNo, by: TxnNo) -> bool
-    ensures { result ≡ is_lost_update history.now lost by }
+/// The same of one of these rows.
+fn loses_some(history: &History, lost: TxnNo, by: TxnNo, rows: &[RowName]) -> bool
+    ensures { result ≡ loses_some history.now lost by rows.now }
 {
-    history.installed().entries().iter().any(|entry| loses(history, lost, by, entry.0))
-}
-
-/// Whether a transaction read a row that isn't this one in another one's version or a later one.
-fn reads_beside(
-    history: &History,
-    reader: TxnNo,
-    writer: TxnNo,
-    row: RowName,
-    other: RowName,
-) -> bool
-    ensures { result ≡ reads_beside history.now reader writer row other }
-{
-    !is_same_row(row, other) && read_newer(history, reader, other, writer)
-}
-
-/// Whether a transaction read this row in a version before another one's, and a second row in that one's version or a later
-/// one.
-fn skews_reads(history: &History, reader: TxnNo, writer: TxnNo, row: RowName) -> bool
-    ensures { result ≡ skews_reads history.now reader writer row }
-{
-    read_older(history, reader, row, writer)
-        && history
-            .installed()
-            .entries()
-            .iter()
-            .any(|entry| reads_beside(history, reader, writer, row, entry.0))
-}
-
-/// Whether a transaction's reads of two rows of another one are skewed.
-pub fn is_read_skew(history: &History, reader: TxnNo, writer: TxnNo) -> bool
-    ensures { result ≡ is_read_skew history.now reader writer }
-{
-    history
-        .installed()
-        .entries()
-        .iter()
-        .any(|entry| skews_reads(history, reader, writer, entry.0))
+    rows.iter().any(|row| loses(history, lost, by, *row))
 }
 
 /// Whether a transaction read a row both in a version before another one's, and in that one's or a later one.
@@ -121,15 +92,26 @@ fn rereads(history: &History, reader: TxnNo, writer: TxnNo, row: RowName) -> boo
     read_older(history, reader, row, writer) && read_newer(history, reader, row, writer)
 }
 
-/// Whether a transaction read a row of another one twice, and differently.
-pub fn is_fuzzy_read(history: &History, reader: TxnNo, writer: TxnNo) -> bool
-    ensures { result ≡ is_fuzzy_read history.now reader writer }
+/// The same of one of these rows.
+fn rereads_some(history: &History, reader: TxnNo, writer: TxnNo, rows: &[RowName]) -> bool
+    ensures { result ≡ rereads_some history.now reader writer rows.now }
 {
-    history
-        .installed()
-        .entries()
-        .iter()
-        .any(|entry| rereads(history, reader, writer, entry.0))
+    rows.iter().any(|row| rereads(history, reader, writer, *row))
+}
+
+/// Whether a transaction's reads of two of these rows are skewed by another one's writes.
+fn has_read_skew(
+    alloc: Global,
+    history: &History,
+    reader: TxnNo,
+    writer: TxnNo,
+    rows: &[RowName],
+) -> Result<bool, NoMemory>
+    ensures { IfOk result (λ has. has ≡ has_read_skew history.now reader writer rows.now) }
+{
+    let missed = older_rows(alloc, history, reader, writer, rows)?;
+    let seen = newer_rows(alloc, history, reader, writer, rows)?;
+    Ok(has_two(&missed, &seen))
 }
 
 /// Whether there is an item anti-dependency at a row from one transaction to another.
@@ -145,38 +127,90 @@ fn misses(history: &History, from: TxnNo, to: TxnNo, row: RowName) -> bool
     is_made(history, &edge)
 }
 
-/// The same at a row that isn't this one.
-fn misses_beside(
+/// Those of these rows at which there is one.
+fn missed_rows(
+    alloc: Global,
     history: &History,
     from: TxnNo,
     to: TxnNo,
-    row: RowName,
-    other: RowName,
-) -> bool
-    ensures { result ≡ misses_beside history.now from to row other }
+    rows: &[RowName],
+) -> Result<Vec<RowName>, NoMemory>
+    ensures { IfOk result (λ found. found.items ≡ filter (misses history.now from to) rows.now) }
 {
-    !is_same_row(row, other) && misses(history, from, to, other)
+    let mut found = Vec::new(alloc);
+    for row in rows {
+        if misses(history, from, to, *row) {
+            found.push(*row)?;
+        }
+    }
+    Ok(found)
 }
 
-/// Whether there is an item anti-dependency at this row from one transaction to another, and one back at a second row.
-fn skews_writes(history: &History, one: TxnNo, other: TxnNo, row: RowName) -> bool
-    ensures { result ≡ skews_writes history.now one other row }
+/// Whether there are item anti-dependencies both ways between two transactions: at one of the first rows there, and at
+/// one of the second back.
+fn has_write_skew(
+    alloc: Global,
+    history: &History,
+    one: TxnNo,
+    two: TxnNo,
+    there: &[RowName],
+    back: &[RowName],
+) -> Result<bool, NoMemory>
+    ensures { IfOk result (λ has. has ≡ has_write_skew history.now one two there.now back.now) }
 {
-    misses(history, one, other, row)
-        && history
-            .installed()
-            .entries()
-            .iter()
-            .any(|entry| misses_beside(history, other, one, row, entry.0))
+    let there = missed_rows(alloc, history, one, two, there)?;
+    let back = missed_rows(alloc, history, two, one, back)?;
+    Ok(has_two(&there, &back))
 }
 
-/// Whether there are item anti-dependencies both ways between two transactions, at two rows.
-pub fn is_write_skew(history: &History, one: TxnNo, other: TxnNo) -> bool
-    ensures { result ≡ is_write_skew history.now one other }
+/// Whether two transactions have an anomaly.
+fn is_pair(
+    alloc: Global,
+    history: &History,
+    pair: Pair,
+    one: TxnNo,
+    two: TxnNo,
+) -> Result<bool, NoMemory>
+    ensures { IfOk result (λ is_one. is_one ≡ is_pair history.now pair one two) }
 {
-    history
-        .installed()
-        .entries()
-        .iter()
-        .any(|entry| skews_writes(history, one, other, entry.0))
+    let rows = rows_by(alloc, history, two)?;
+    let back = rows_by(alloc, history, one)?;
+    match pair {
+        Pair::LostUpdate => Ok(loses_some(history, one, two, &back)),
+        Pair::ReadSkew => has_read_skew(alloc, history, one, two, &rows),
+        Pair::FuzzyRead => Ok(rereads_some(history, one, two, &rows)),
+        Pair::WriteSkew => has_write_skew(alloc, history, one, two, &rows, &back),
+    }
+}
+
+/// Whether the transactions of a dependency have an anomaly, one way or the other.
+fn is_neighbour(
+    alloc: Global,
+    history: &History,
+    pair: Pair,
+    edge: &Edge,
+) -> Result<bool, NoMemory>
+    ensures { IfOk result (λ is_one. is_one ≡ is_neighbour history.now pair edge.now) }
+{
+    if is_pair(alloc, history, pair, edge.from, edge.to)? {
+        return Ok(true);
+    }
+    is_pair(alloc, history, pair, edge.to, edge.from)
+}
+
+/// Whether two neighbours in a cycle have an anomaly.
+pub fn has_pair(
+    alloc: Global,
+    history: &History,
+    pair: Pair,
+    walk: &[Edge],
+) -> Result<bool, NoMemory>
+    ensures { IfOk result (λ has. has ≡ has_pair history.now pair walk.now) }
+{
+    for edge in walk {
+        if is_neighbour(alloc, history, pair, edge)? {
+            return Ok(true);
+        }
+    }
+    Ok(false)
 }

@@ -3,13 +3,15 @@
 ghost use Rattle.std.specs.Prelude.{◌≡◌, ◌<◌, ◌≤◌, ◌==◌, ◌&&◌, ◌||◌, ℕ, length, IfOk};
 ghost use Rattle.lab_order.specs.Arrows.{nodes_of, has_arrow};
 ghost use Rattle.lab_drawing.specs.Dependence.{committed};
-ghost use Rattle.lab_drawing.specs.Readers.{is_nothing, wrote_nothing, is_read_only, some_read_only, is_before, is_led, node_count, leads, arrives, IsGraphOf, can_order, stands_in_the_way, some_stand_in_the_way, is_read_only_anomaly};
+ghost use Rattle.lab_drawing.specs.Readers.{is_nothing, wrote_nothing, is_read_only, some_read_only, is_g2, may_be, is_before, is_led, node_count, leads, arrives, IsGraphOf, can_order, stands_in_the_way, some_stand_in_the_way, is_read_only_anomaly};
 
+use crate::cycles::walk_phenomenon;
 use crate::dependence::Dependence;
 use crate::states::ops_of;
 use lab_deps::Edge;
 use lab_history::{History, Op, Writes};
 use lab_order::{Graph, Ordered, order};
+use lab_reports::Phenomenon;
 use lab_table::{NoMemory, TxnNo};
 use std::alloc::Global;
 
@@ -50,6 +52,20 @@ fn some_read_only(history: &History, walk: &[Edge]) -> bool
     walk.iter().any(|edge| is_read_only(history, edge.from))
 }
 
+/// Whether a cycle of this phenomenon has two anti-dependencies at least.
+fn is_g2(phenomenon: Phenomenon) -> bool
+    ensures { result ≡ is_g2 phenomenon }
+{
+    matches!(phenomenon, Phenomenon::G2Item | Phenomenon::G2)
+}
+
+/// Whether a cycle may be a read-only anomaly. Each cycle of a snapshot run has two anti-dependencies at least.
+fn may_be(history: &History, walk: &[Edge]) -> bool
+    ensures { result ≡ may_be history.now walk.now }
+{
+    is_g2(walk_phenomenon(walk)) && some_read_only(history, walk)
+}
+
 /// Whether one transaction comes before another, neither of which is this one.
 fn is_before(ties: &Dependence<'_>, without: TxnNo, from: TxnNo, to: TxnNo) -> bool
     ensures { result ≡ is_before ties.now without from to }
@@ -70,9 +86,9 @@ fn is_led(ties: &Dependence<'_>, from: TxnNo, is_start: bool, to: TxnNo, to_star
 
 impl Ordering {
     /// How many nodes there are.
-    fn count(self, numbers: u32) -> u32
+    fn count(&self, numbers: u32) -> u32
         requires { numbers ≤ 1000 }
-        ensures { result ≡ node_count self numbers }
+        ensures { result ≡ node_count self.now numbers }
     {
         match self {
             Ordering::Points => 2 * numbers,
@@ -81,10 +97,10 @@ impl Ordering {
     }
 
     /// Whether one node comes before another.
-    fn leads(self, ties: &Dependence<'_>, numbers: &[TxnNo], from: u32, to: u32) -> bool
-        requires from { from < node_count self (length numbers.now) }
-        requires to { to < node_count self (length numbers.now) }
-        ensures { result ≡ leads ties.now self numbers.now from to }
+    fn leads(&self, ties: &Dependence<'_>, numbers: &[TxnNo], from: u32, to: u32) -> bool
+        requires from { from < node_count self.now (length numbers.now) }
+        requires to { to < node_count self.now (length numbers.now) }
+        ensures { result ≡ leads ties.now self.now numbers.now from to }
     {
         match self {
             Ordering::Points => is_led(
@@ -95,7 +111,7 @@ impl Ordering {
                 to % 2 == 0,
             ),
             Ordering::Without(txn) => {
-                is_before(ties, txn, numbers[from as usize], numbers[to as usize])
+                is_before(ties, *txn, numbers[from as usize], numbers[to as usize])
             }
         }
     }
@@ -105,14 +121,14 @@ impl Ordering {
 fn add_arrows_to(
     alloc: Global,
     graph: &mut Graph,
-    ordering: Ordering,
+    ordering: &Ordering,
     ties: &Dependence<'_>,
     to: u32,
 ) -> Result<(), NoMemory>
-    requires size { nodes_of graph.old ≡ node_count ordering (length (committed ties.now)) }
-    requires to { to < node_count ordering (length (committed ties.now)) }
+    requires size { nodes_of graph.old ≡ node_count ordering.now (length (committed ties.now)) }
+    requires to { to < node_count ordering.now (length (committed ties.now)) }
     ensures nodes { nodes_of graph.new ≡ nodes_of graph.old }
-    ensures arrows { IfOk result (λ _. (a b : ℕ) → has_arrow graph.new a b ≡ ((to == b && arrives ties.now ordering (node_count ordering (length (committed ties.now))) a to) || has_arrow graph.old a b)) }
+    ensures arrows { IfOk result (λ _. (a b : ℕ) → has_arrow graph.new a b ≡ ((to == b && arrives ties.now ordering.now (node_count ordering.now (length (committed ties.now))) a to) || has_arrow graph.old a b)) }
 {
     let numbers = ties.numbers();
     for from in 0..ordering.count(numbers.len() as u32) {
@@ -126,10 +142,10 @@ fn add_arrows_to(
 /// The graph of what comes before what.
 fn graph_of(
     alloc: Global,
-    ordering: Ordering,
+    ordering: &Ordering,
     ties: &Dependence<'_>,
 ) -> Result<Graph, NoMemory>
-    ensures { IfOk result (IsGraphOf ties.now ordering) }
+    ensures { IfOk result (IsGraphOf ties.now ordering.now) }
 {
     let count = ordering.count(ties.numbers().len() as u32);
     let mut graph = Graph::new(alloc, count)?;
@@ -142,10 +158,10 @@ fn graph_of(
 /// Whether there is an order.
 fn can_order(
     alloc: Global,
-    ordering: Ordering,
+    ordering: &Ordering,
     ties: &Dependence<'_>,
 ) -> Result<bool, NoMemory>
-    ensures { IfOk result (λ can. can ≡ can_order ties.now ordering) }
+    ensures { IfOk result (λ can. can ≡ can_order ties.now ordering.now) }
 {
     let graph = graph_of(alloc, ordering, ties)?;
     match order(alloc, &graph)? {
@@ -165,7 +181,7 @@ fn stands_in_the_way(
     ensures { IfOk result (λ stands. stands ≡ stands_in_the_way history.now txn) }
 {
     if is_read_only(history, txn) {
-        can_order(alloc, Ordering::Without(txn), ties)
+        can_order(alloc, &Ordering::Without(txn), ties)
     } else {
         Ok(false)
     }
@@ -197,11 +213,11 @@ pub fn is_read_only_anomaly(
 ) -> Result<bool, NoMemory>
     ensures { IfOk result (λ is_one. is_one ≡ is_read_only_anomaly history.now walk.now) }
 {
-    if !some_read_only(history, walk) {
+    if !may_be(history, walk) {
         return Ok(false);
     }
     let ties = Dependence::of(alloc, history)?;
-    if can_order(alloc, Ordering::Points, &ties)? {
+    if can_order(alloc, &Ordering::Points, &ties)? {
         some_stand_in_the_way(alloc, history, &ties, walk)
     } else {
         Ok(false)

@@ -3,14 +3,15 @@
 //! An operation reads a row if it lists the row and its result depends on the row's value. What it reads of its own
 //! transaction's writes isn't compared with others' writes.
 
-ghost use Rattle.std.specs.Prelude.{◌≡◌};
-ghost use Rattle.lab_drawing.specs.Reads.{reads, place_seen, is_below, is_above, saw_older, is_older_read, is_newer_read, has_older, has_newer, read_older, read_newer};
+ghost use Rattle.std.specs.Prelude.{◌≡◌, IfOk};
+ghost use Rattle.lab_drawing.specs.Reads.{reads, place_seen, is_below, is_above, saw_older, is_older_read, is_newer_read, has_older, has_newer, read_older, read_newer, older_rows, newer_rows};
 
 use crate::states::ops_of;
 use crate::values::uses_values;
 use lab_deps::{place_of, viewed};
 use lab_history::{History, Op};
-use lab_table::{RowName, TxnNo};
+use lab_table::{NoMemory, RowName, TxnNo};
+use std::alloc::Global;
 
 /// Whether an operation reads a row.
 pub fn reads(op: &Op, row: RowName) -> bool
@@ -122,4 +123,42 @@ pub fn read_newer(history: &History, reader: TxnNo, row: RowName, writer: TxnNo)
         None => false,
         Some(written) => has_newer(history, reader, row, written),
     }
+}
+
+/// Those of these rows that a transaction read in a version before another one's.
+pub fn older_rows(
+    alloc: Global,
+    history: &History,
+    reader: TxnNo,
+    writer: TxnNo,
+    rows: &[RowName],
+) -> Result<Vec<RowName>, NoMemory>
+    ensures { IfOk result (λ found. found.items ≡ older_rows history.now reader writer rows.now) }
+{
+    let mut found = Vec::new(alloc);
+    for row in rows {
+        if read_older(history, reader, *row, writer) {
+            found.push(*row)?;
+        }
+    }
+    Ok(found)
+}
+
+/// Those that it read in the other one's version or a later one.
+pub fn newer_rows(
+    alloc: Global,
+    history: &History,
+    reader: TxnNo,
+    writer: TxnNo,
+    rows: &[RowName],
+) -> Result<Vec<RowName>, NoMemory>
+    ensures { IfOk result (λ found. found.items ≡ newer_rows history.now reader writer rows.now) }
+{
+    let mut found = Vec::new(alloc);
+    for row in rows {
+        if read_newer(history, reader, *row, writer) {
+            found.push(*row)?;
+        }
+    }
+    Ok(found)
 }
