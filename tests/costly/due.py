@@ -1,6 +1,6 @@
-"""What is due of the inputs, from docs/FORMATS.md and from the rules by which they were made.
+"""The expected outputs for the inputs, from docs/FORMATS.md and from the rules by which the inputs were made.
 
-In the histories each dependency leads to a transaction with a larger number, but in those that end with read skew."""
+In the histories, each dependency leads to a transaction with a larger number, except in those that end with read skew."""
 import json
 import re
 

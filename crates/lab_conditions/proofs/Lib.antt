@@ -4,3 +4,6 @@ pub mod Sets
 pub mod Pairs
 pub mod More
 pub mod Tables
+pub mod Crosses
+pub mod Blocks
+pub mod Filing

@@ -3,10 +3,11 @@ use denote.RattleType.{RattleType}
 use denote.Param.{Send.{IsSend, sendable}, SendFields.{declared_send}}
 use Rattle.std.{specs.declared.default.Default.{Ghosts as Defaults}, proofs.Crossing.{crosses}}
 use Rattle.lab_table.proofs.{number.{TxnNo.TheSendSync.{the_send as number}, Session.TheSendSync.{the_send as session}}, predicate.Pred.TheLaws.TheKnot.{crosses as predicate}, row_name.RowName.TheSendSync.{the_send as row_name}, table.Table.TheSendSync.{the_send as table}}
+use Rattle.lab_conditions.proofs.Crosses.{index}
 use Rattle.lab_table.specs.contracts.statement.Statement.{the_row as statement_row}
 use Rattle.lab_engine.proofs.{row_states.RowStates.TheSendSync.{the_send as row_states}, wait_graph.WaitGraph.TheSendSync.{the_send as wait_graph}}
 use Rattle.lab_engine.specs.{declared.rules.Rules.{Ghosts}, contracts.{event.LogEvent.{the_row as event_row}, session_state.{RunningTxn.{the_row as running_row}, SessionState.{the_row as state_row}}}}
-use Rattle.lab_engine.specs.contracts.{journal.Journal.{the_row as journal_row, TheInside.{the_row as inside_row, the_type as inside_type}}, situation.Situation.{the_row as situation_row, the_type as situation_type}}
+use Rattle.lab_engine.specs.contracts.{journal.Journal.{the_row as journal_row, TheInside.{the_row as inside_row, the_type as inside_type}}, situation.Situation.{the_row as situation_row, the_type as situation_type}, statements_run.StatementsRun.{the_row as statements_row}}
 
 pub statement : IsSend statement_row
 statement = search (sendable, crosses, predicate) depth 40 fits 20000
@@ -14,8 +15,11 @@ statement = search (sendable, crosses, predicate) depth 40 fits 20000
 pub event : IsSend event_row
 event = search (sendable, crosses, predicate) depth 40 fits 20000
 
+statements : IsSend statements_row
+statements = search (sendable, crosses, statement, index) depth 40 fits 20000
+
 running : IsSend running_row
-running = search (sendable, crosses, number, row_name, statement) depth 40 fits 20000
+running = search (sendable, crosses, number, row_name, statements) depth 40 fits 20000
 
 state : IsSend state_row
 state = search (sendable, crosses, session, statement, running) depth 40 fits 20000
