@@ -67,7 +67,7 @@ one_more k a to b on old leads_on =
                 let lt : a < k + 1 = omega (arith, equal) in
                 sym (ap (λ x. x || old) (and_from (nat_lt a (k + 1)) on (lt-ltb a (k + 1) lt) (leads_on equal)))
             | false ↦ λ apart. ap (λ x. (x && on) || old) (same_test (nat_lt a k) (nat_lt a (k + 1)) (λ lt. let l : a < k = ltb-true a k lt in let m : a < k + 1 = omega (arith, l) in lt-ltb a (k + 1) m)
-            (λ lt. let l : a < k + 1 = ltb-true a (k + 1) lt in let m : a < k = under a k l (λ equal. true≢false (sym (eq-eqb k a equal) ∙ apart)) in lt-ltb a k m))
+                (λ lt. let l : a < k + 1 = ltb-true a (k + 1) lt in let m : a < k = under a k l (λ equal. true≢false (sym (eq-eqb k a equal) ∙ apart)) in lt-ltb a k m))
           ] refl
     ]
   where

@@ -120,14 +120,22 @@ module _ (leads : ℕ → ℕ → Bool) where
         let rest = least k ns in
         let m = rest.0 in
         elim (before (place n) (place m)) [
-          | inl low ↦ (n, first_member n (k ∷ ns), λ x there. elim (Contains-append_cases (n ∷ []) (k ∷ ns) x there) [
-            | inl here ↦ let same : place n ≡ place x = ap place (only_member n x here) in omega (arith, same)
-            | inr later ↦ let high : place m ≤ place x = rest.2 x later in omega (arith, low, high)
-          ])
-          | inr high ↦ (m, later_member n (k ∷ ns) m rest.1, λ x there. elim (Contains-append_cases (n ∷ []) (k ∷ ns) x there) [
-            | inl here ↦ let same : place n ≡ place x = ap place (only_member n x here) in omega (arith, same, high)
-            | inr later ↦ rest.2 x later
-          ])
+          | inl low ↦ (
+            n,
+            first_member n (k ∷ ns),
+            λ x there. elim (Contains-append_cases (n ∷ []) (k ∷ ns) x there) [
+              | inl here ↦ let same : place n ≡ place x = ap place (only_member n x here) in omega (arith, same)
+              | inr later ↦ let high : place m ≤ place x = rest.2 x later in omega (arith, low, high)
+            ],
+          )
+          | inr high ↦ (
+            m,
+            later_member n (k ∷ ns) m rest.1,
+            λ x there. elim (Contains-append_cases (n ∷ []) (k ∷ ns) x there) [
+              | inl here ↦ let same : place n ≡ place x = ap place (only_member n x here) in omega (arith, same, high)
+              | inr later ↦ rest.2 x later
+            ],
+          )
         ]
 
     -- it goes in the next round
@@ -182,7 +190,7 @@ module _ (leads : ℕ → ℕ → Bool) where
             omega (arith, lt)
         | false ↦ λ a_free.
             let zero_is : rank k (led_to leads nodes) a ≡ 0 =
-                unled k (led_to leads nodes) a (λ c there leads_on. true≢false (sym (some_passes (λ d. leads d a) nodes c (passed (is_led_to leads nodes) nodes c there).0 leads_on) ∙ a_free)) in
+            unled k (led_to leads nodes) a (λ c there leads_on. true≢false (sym (some_passes (λ d. leads d a) nodes c (passed (is_led_to leads nodes) nodes c there).0 leads_on) ∙ a_free)) in
             omega (arith, zero_is)
       ] refl)
 

@@ -78,10 +78,7 @@ impl<'a> Dependence<'a> {
 }
 
 /// The dependencies of a history, if it is sound.
-fn net_of<'a>(
-    alloc: Global,
-    history: &'a History,
-) -> Result<Option<Dependencies<'a>>, NoMemory>
+fn net_of<'a>(alloc: Global, history: &'a History) -> Result<Option<Dependencies<'a>>, NoMemory>
     ensures { IfOk result (λ net. IfSome net (λ net. IsSound history.now × ((e : Spelled) → Contains net.edges e ↔ IsEdge history.now e))) }
 {
     match check_local(alloc, history) {
@@ -99,7 +96,6 @@ fn has_committed(history: &History, txn: TxnNo) -> bool
         Some(found) => matches!(found.outcome, Outcome::Committed),
     }
 }
-
 
 /// The committed transactions of a history.
 fn committed(alloc: Global, history: &History) -> Result<Vec<TxnNo>, NoMemory>

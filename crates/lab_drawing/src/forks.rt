@@ -70,12 +70,7 @@ fn fork_of(one: &Edge, two: &Edge, three: &Edge, four: &Edge) -> Fork
 }
 
 /// Whether the transactions of four dependencies are a fork, if the first or the second writer is the first of them.
-fn are_fork(
-    alloc: Global,
-    history: &History,
-    fork: &Fork,
-    turned: &Fork,
-) -> Result<bool, NoMemory>
+fn are_fork(alloc: Global, history: &History, fork: &Fork, turned: &Fork) -> Result<bool, NoMemory>
     ensures { IfOk result (λ are. are ≡ (is_fork history.now fork.now || is_fork history.now turned.now)) }
 {
     if is_fork(alloc, history, fork)? {
@@ -125,7 +120,12 @@ fn ties_otherwise(history: &History, from: TxnNo, to: TxnNo, row: RowName) -> bo
 pub fn depends(history: &History, from: TxnNo, to: TxnNo, kind: Kind, row: RowName) -> bool
     ensures { result ≡ depends history.now from to kind row }
 {
-    let edge = Edge { from, to, kind, row };
+    let edge = Edge {
+        from,
+        to,
+        kind,
+        row,
+    };
     is_made(history, &edge)
 }
 
@@ -133,7 +133,8 @@ pub fn depends(history: &History, from: TxnNo, to: TxnNo, kind: Kind, row: RowNa
 fn ties_at_some(history: &History, from: TxnNo, to: TxnNo, rows: &[RowName]) -> bool
     ensures { result ≡ ties_at_some history.now from to rows.now }
 {
-    rows.iter().any(|row| ties_otherwise(history, from, to, *row))
+    rows.iter()
+        .any(|row| ties_otherwise(history, from, to, *row))
 }
 
 /// The same at some row that one of the two wrote.

@@ -65,7 +65,9 @@ fn makes(history: &History, edge: &Edge, op: &Op) -> bool
 pub fn is_made(history: &History, edge: &Edge) -> bool
     ensures { result ≡ is_made history.now edge.now }
 {
-    ops_of(history, reader_of(edge)).iter().any(|op| makes(history, edge, op))
+    ops_of(history, reader_of(edge))
+        .iter()
+        .any(|op| makes(history, edge, op))
 }
 
 /// The first of the reader's operations that makes a dependency.

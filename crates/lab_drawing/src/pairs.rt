@@ -96,7 +96,8 @@ fn rereads(history: &History, reader: TxnNo, writer: TxnNo, row: RowName) -> boo
 fn rereads_some(history: &History, reader: TxnNo, writer: TxnNo, rows: &[RowName]) -> bool
     ensures { result ≡ rereads_some history.now reader writer rows.now }
 {
-    rows.iter().any(|row| rereads(history, reader, writer, *row))
+    rows.iter()
+        .any(|row| rereads(history, reader, writer, *row))
 }
 
 /// Whether a transaction's reads of two of these rows are skewed by another one's writes.
@@ -184,12 +185,7 @@ fn is_pair(
 }
 
 /// Whether the transactions of a dependency have an anomaly, one way or the other.
-fn is_neighbour(
-    alloc: Global,
-    history: &History,
-    pair: Pair,
-    edge: &Edge,
-) -> Result<bool, NoMemory>
+fn is_neighbour(alloc: Global, history: &History, pair: Pair, edge: &Edge) -> Result<bool, NoMemory>
     ensures { IfOk result (λ is_one. is_one ≡ is_neighbour history.now pair edge.now) }
 {
     if is_pair(alloc, history, pair, edge.from, edge.to)? {

@@ -140,11 +140,7 @@ fn add_arrows_to(
 }
 
 /// The graph of what comes before what.
-fn graph_of(
-    alloc: Global,
-    ordering: &Ordering,
-    ties: &Dependence<'_>,
-) -> Result<Graph, NoMemory>
+fn graph_of(alloc: Global, ordering: &Ordering, ties: &Dependence<'_>) -> Result<Graph, NoMemory>
     ensures { IfOk result (IsGraphOf ties.now ordering.now) }
 {
     let count = ordering.count(ties.numbers().len() as u32);
@@ -156,11 +152,7 @@ fn graph_of(
 }
 
 /// Whether there is an order.
-fn can_order(
-    alloc: Global,
-    ordering: &Ordering,
-    ties: &Dependence<'_>,
-) -> Result<bool, NoMemory>
+fn can_order(alloc: Global, ordering: &Ordering, ties: &Dependence<'_>) -> Result<bool, NoMemory>
     ensures { IfOk result (λ can. can ≡ can_order ties.now ordering.now) }
 {
     let graph = graph_of(alloc, ordering, ties)?;

@@ -49,39 +49,21 @@ fn is_above(place: Option<usize>, written: usize) -> bool
 }
 
 /// Whether an operation saw a version of a row before the one at a position.
-pub fn saw_older(
-    history: &History,
-    reader: TxnNo,
-    row: RowName,
-    written: usize,
-    op: &Op,
-) -> bool
+pub fn saw_older(history: &History, reader: TxnNo, row: RowName, written: usize, op: &Op) -> bool
     ensures { result ≡ saw_older history.now reader row written op.now }
 {
     is_below(place_seen(history, reader, row, op), written)
 }
 
 /// Whether an operation read a row in a version before the one at a position.
-fn is_older_read(
-    history: &History,
-    reader: TxnNo,
-    row: RowName,
-    written: usize,
-    op: &Op,
-) -> bool
+fn is_older_read(history: &History, reader: TxnNo, row: RowName, written: usize, op: &Op) -> bool
     ensures { result ≡ is_older_read history.now reader row written op.now }
 {
     reads(op, row) && saw_older(history, reader, row, written, op)
 }
 
 /// Whether an operation read a row in the version at a position or a later one.
-fn is_newer_read(
-    history: &History,
-    reader: TxnNo,
-    row: RowName,
-    written: usize,
-    op: &Op,
-) -> bool
+fn is_newer_read(history: &History, reader: TxnNo, row: RowName, written: usize, op: &Op) -> bool
     ensures { result ≡ is_newer_read history.now reader row written op.now }
 {
     reads(op, row) && is_above(place_seen(history, reader, row, op), written)
