@@ -7,10 +7,10 @@ use Rattle.lab_history.specs.History.{History}
 use Rattle.lab_drawing.specs.Dependence.{committed}
 use Rattle.lab_drawing.specs.Orderable.{is_orderable}
 use Rattle.lab_drawing.specs.Readers.{node_count, leads, arrives, IsGraphOf, can_order}
-use Rattle.lab_drawing.specs.declared.readers.Ordering.{Ordering}
+use Rattle.lab_drawing.specs.declared.readers.Nodes.{Nodes}
 use Rattle.lab_drawing.proofs.Orderables.{orders, ring_remains}
 
-module _ (h : History) (o : Ordering) (graph : Arrows) (is : IsGraphOf h o graph) where
+module _ (h : History) (o : Nodes) (graph : Arrows) (is : IsGraphOf h o graph) where
   abbrev count : ℕ
   count = node_count o (length (committed h))
 

@@ -7,7 +7,7 @@ use Rattle.lab_drawing.specs.Anomalies.{Wrote, CanBePlaced, CanBeOrderedWithout,
 use Rattle.lab_drawing.specs.Cycles.{walk_phenomenon}
 use Rattle.lab_drawing.specs.Dependence.{committed}
 use Rattle.lab_drawing.specs.Readers.{wrote_nothing, is_read_only, some_read_only, is_g2, may_be, node_count, leads, can_order, stands_in_the_way, some_stand_in_the_way, is_read_only_anomaly}
-use Rattle.lab_drawing.specs.declared.readers.Ordering.{Ordering, TheVariants.{Points, Without}}
+use Rattle.lab_drawing.specs.declared.readers.Nodes.{Nodes, TheVariants.{Points, Without}}
 use Rattle.lab_drawing.proofs.{Orderables.{orders, places}, PairForms.{any_so}}
 
 -- both tests of one behind another

@@ -26,7 +26,7 @@ use Rattle.lab_drawing.specs.Readers.{leads, node_count, is_g2}
 use Rattle.lab_drawing.specs.declared.forks.Fork.{Fork}
 use Rattle.lab_drawing.specs.declared.nicknames.Nickname.{Nickname}
 use Rattle.lab_drawing.specs.declared.nicknames.Nickname.TheVariants as name
-use Rattle.lab_drawing.specs.declared.readers.Ordering.TheVariants.{Points, Without}
+use Rattle.lab_drawing.specs.declared.readers.Nodes.TheVariants.{Points, Without}
 
 -- an operation of a transaction read a row, in the version at a position; its own versions don't count
 abbrev pub Read : History → ℕ → Row → ℕ → Type 0

@@ -18,8 +18,8 @@ use Rattle.lab_reports.specs.declared.phenomenon.Phenomenon.TheVariants.{G0, G1a
 use Rattle.lab_drawing.specs.Cycles.{walk_phenomenon}
 use Rattle.lab_drawing.specs.Dependence.{flows, passes, committed}
 use Rattle.lab_drawing.specs.Orderable.{is_orderable}
-use Rattle.lab_drawing.specs.declared.readers.Ordering.{Ordering}
-use Rattle.lab_drawing.specs.declared.readers.Ordering.TheVariants.{Points, Without}
+use Rattle.lab_drawing.specs.declared.readers.Nodes.{Nodes}
+use Rattle.lab_drawing.specs.declared.readers.Nodes.TheVariants.{Points, Without}
 
 -- ---- what is to be put in an order
 
@@ -32,26 +32,26 @@ abbrev pub is_led : History → ℕ → Bool → ℕ → Bool → Bool
 is_led h from is_start to to_start = cond is_start (not to_start && (from == to || passes h from to)) (to_start && flows h from to)
 
 -- how many nodes there are of so many transactions: their starts and commits, or themselves
-abbrev pub node_count : Ordering → ℕ → ℕ
+abbrev pub node_count : Nodes → ℕ → ℕ
 node_count Points numbers = 2 * numbers
 node_count (Without n) numbers = numbers
 
 -- whether one node comes before another: of the p-th transaction, the start is the node 2p and the commit 2p + 1
-abbrev pub leads : History → Ordering → List ℕ → ℕ → ℕ → Bool
+abbrev pub leads : History → Nodes → List ℕ → ℕ → ℕ → Bool
 leads h Points ns a b = is_led h (slice_index ns (a / 2)) (a % 2 == 0) (slice_index ns (b / 2)) (b % 2 == 0)
 leads h (Without n) ns a b = is_before h n (slice_index ns a) (slice_index ns b)
 
 -- whether one of so many nodes comes before another one
-abbrev pub arrives : History → Ordering → ℕ → ℕ → ℕ → Bool
+abbrev pub arrives : History → Nodes → ℕ → ℕ → ℕ → Bool
 arrives h o limit a b = nat_lt a limit && leads h o (committed h) a b
 
 -- a graph has an arrow exactly where one node comes before another
-pub record IsGraphOf (h : History) (o : Ordering) (graph : Arrows) : Type 0 where
+pub record IsGraphOf (h : History) (o : Nodes) (graph : Arrows) : Type 0 where
   pub size : nodes_of graph ≡ node_count o (length (committed h))
   pub arrows : (a b : ℕ) → has_arrow graph a b ≡ (nat_lt b (node_count o (length (committed h))) && arrives h o (node_count o (length (committed h))) a b)
 
 -- whether the nodes can be put in an order
-abbrev pub can_order : History → Ordering → Bool
+abbrev pub can_order : History → Nodes → Bool
 can_order h o = is_orderable (leads h o (committed h)) (node_count o (length (committed h)))
 
 -- ---- the anomaly

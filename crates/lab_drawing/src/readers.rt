@@ -17,7 +17,7 @@ use std::alloc::Global;
 
 /// What is to be put in an order.
 #[derive(Clone, Copy, Debug)]
-pub enum Ordering {
+pub enum Nodes {
     /// The starts and commits of transactions: the p-th one starts at the node 2p and commits at the node 2p + 1.
     Points,
     /// The transactions but this one.
@@ -84,15 +84,15 @@ fn is_led(ties: &Dependence<'_>, from: TxnNo, is_start: bool, to: TxnNo, to_star
     }
 }
 
-impl Ordering {
+impl Nodes {
     /// How many nodes there are.
     fn count(&self, numbers: u32) -> u32
         requires { numbers ≤ 1000 }
         ensures { result ≡ node_count self.now numbers }
     {
         match self {
-            Ordering::Points => 2 * numbers,
-            Ordering::Without(_) => numbers,
+            Nodes::Points => 2 * numbers,
+            Nodes::Without(_) => numbers,
         }
     }
 
@@ -103,14 +103,14 @@ impl Ordering {
         ensures { result ≡ leads ties.now self.now numbers.now from to }
     {
         match self {
-            Ordering::Points => is_led(
+            Nodes::Points => is_led(
                 ties,
                 numbers[from as usize / 2],
                 from % 2 == 0,
                 numbers[to as usize / 2],
                 to % 2 == 0,
             ),
-            Ordering::Without(txn) => {
+            Nodes::Without(txn) => {
                 is_before(ties, *txn, numbers[from as usize], numbers[to as usize])
             }
         }
@@ -121,18 +121,18 @@ impl Ordering {
 fn add_arrows_to(
     alloc: Global,
     graph: &mut Graph,
-    ordering: &Ordering,
+    nodes: &Nodes,
     ties: &Dependence<'_>,
     to: u32,
 ) -> Result<(), NoMemory>
-    requires size { nodes_of graph.old ≡ node_count ordering.now (length (committed ties.now)) }
-    requires to { to < node_count ordering.now (length (committed ties.now)) }
-    ensures nodes { nodes_of graph.new ≡ nodes_of graph.old }
-    ensures arrows { IfOk result (λ _. (a b : ℕ) → has_arrow graph.new a b ≡ ((to == b && arrives ties.now ordering.now (node_count ordering.now (length (committed ties.now))) a to) || has_arrow graph.old a b)) }
+    requires size { nodes_of graph.old ≡ node_count nodes.now (length (committed ties.now)) }
+    requires to { to < node_count nodes.now (length (committed ties.now)) }
+    ensures kept { nodes_of graph.new ≡ nodes_of graph.old }
+    ensures arrows { IfOk result (λ _. (a b : ℕ) → has_arrow graph.new a b ≡ ((to == b && arrives ties.now nodes.now (node_count nodes.now (length (committed ties.now))) a to) || has_arrow graph.old a b)) }
 {
     let numbers = ties.numbers();
-    for from in 0..ordering.count(numbers.len() as u32) {
-        if ordering.leads(ties, numbers, from, to) {
+    for from in 0..nodes.count(numbers.len() as u32) {
+        if nodes.leads(ties, numbers, from, to) {
             graph.add(alloc, from, to)?;
         }
     }
@@ -140,22 +140,22 @@ fn add_arrows_to(
 }
 
 /// The graph of what comes before what.
-fn graph_of(alloc: Global, ordering: &Ordering, ties: &Dependence<'_>) -> Result<Graph, NoMemory>
-    ensures { IfOk result (IsGraphOf ties.now ordering.now) }
+fn graph_of(alloc: Global, nodes: &Nodes, ties: &Dependence<'_>) -> Result<Graph, NoMemory>
+    ensures { IfOk result (IsGraphOf ties.now nodes.now) }
 {
-    let count = ordering.count(ties.numbers().len() as u32);
+    let count = nodes.count(ties.numbers().len() as u32);
     let mut graph = Graph::new(alloc, count)?;
     for to in 0..count {
-        add_arrows_to(alloc, &mut graph, ordering, ties, to)?;
+        add_arrows_to(alloc, &mut graph, nodes, ties, to)?;
     }
     Ok(graph)
 }
 
 /// Whether there is an order.
-fn can_order(alloc: Global, ordering: &Ordering, ties: &Dependence<'_>) -> Result<bool, NoMemory>
-    ensures { IfOk result (λ can. can ≡ can_order ties.now ordering.now) }
+fn can_order(alloc: Global, nodes: &Nodes, ties: &Dependence<'_>) -> Result<bool, NoMemory>
+    ensures { IfOk result (λ can. can ≡ can_order ties.now nodes.now) }
 {
-    let graph = graph_of(alloc, ordering, ties)?;
+    let graph = graph_of(alloc, nodes, ties)?;
     match order(alloc, &graph)? {
         Ordered::Order(_) => Ok(true),
         Ordered::Circle(_) => Ok(false),
@@ -173,7 +173,7 @@ fn stands_in_the_way(
     ensures { IfOk result (λ stands. stands ≡ stands_in_the_way history.now txn) }
 {
     if is_read_only(history, txn) {
-        can_order(alloc, &Ordering::Without(txn), ties)
+        can_order(alloc, &Nodes::Without(txn), ties)
     } else {
         Ok(false)
     }
@@ -209,7 +209,7 @@ pub fn is_read_only_anomaly(
         return Ok(false);
     }
     let ties = Dependence::of(alloc, history)?;
-    if can_order(alloc, &Ordering::Points, &ties)? {
+    if can_order(alloc, &Nodes::Points, &ties)? {
         some_stand_in_the_way(alloc, history, &ties, walk)
     } else {
         Ok(false)

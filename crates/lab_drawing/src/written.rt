@@ -13,7 +13,10 @@ use std::alloc::Global;
 fn is_last(history: &History, txn: TxnNo, number: u32, row: RowName) -> bool
     ensures { result ≡ is_last history.now txn number row }
 {
-    history.last_write(txn, row) == Some(number)
+    match history.last_write(txn, row) {
+        None => false,
+        Some(last) => last == number,
+    }
 }
 
 /// Appends the rows that an operation is the last to write.
