@@ -1,6 +1,6 @@
 //! Which committed transactions depend on which.
 
-ghost use Rattle.std.specs.Prelude.{◌≡◌, ◌↔◌, Contains, IfOk, IfSome, map, filter};
+ghost use Rattle.std.specs.Prelude.{◌≡◌, ◌↔◌, Contains, IfOk, IfSome};
 ghost use Rattle.lab_history.specs.Version.{outcome_of};
 ghost use Rattle.lab_deps.specs.Edges.{IsEdge};
 ghost use Rattle.lab_deps.specs.Soundness.{IsSound, has_committed};
