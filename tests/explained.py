@@ -6,6 +6,9 @@ earlier statement may see the row without causing the dependency."""
 import json
 import re
 
+from naming import FORK, FUZZY, LOST, PHANTOM, READ_ONLY, SKEW, WRITE_SKEW, Edge, History, names_of
+
+NAMES = LOST, SKEW, FUZZY, WRITE_SKEW, FORK, READ_ONLY, PHANTOM  # in the order in which they are printed
 COLUMNS = 100
 ROUND = (
     "each of these transactions comes before the next, and the last before the first, so no order keeps all of these "
@@ -98,7 +101,7 @@ class Explained:
     """The explanation of a history whose report is known."""
 
     def __init__(self, history):
-        whole = json.loads(history)
+        self.given = whole = json.loads(history)
         self.operations = {it["no"]: it["ops"] for it in whole["transactions"]}
         self.initial = {tuple(entry[:2]): entry[2] for entry in whole["initial"]}
         self.installed = {tuple(entry[:2]): entry[2] for entry in whole["installed"]}
@@ -170,26 +173,11 @@ class Explained:
         found = dependencies(walk)
         return [self.step(int(first), kind, row, int(second)) for first, kind, row, second in found]
 
-    def rows_written(self, no):
-        """The rows that a transaction wrote."""
-        return {tuple(it[:2]) for operation in self.operations[no] for it in operation["writes"]}
-
     def nicknames(self, walk):
-        """The nicknames of a cycle, by its form."""
-        cycle = dependencies(walk)
-        kinds = sorted(kind for _, kind, _, _ in cycle)
-        rows = {row_of(name) for _, _, name, _ in cycle}
-        wrote = {int(first): self.rows_written(int(first)) for first, _, _, _ in cycle}
-        readers = [int(first) for first, kind, _, _ in cycle if kind.startswith("rw")]
-        name = most_particular(cycle)
-        forms = {
-            "lost update": kinds == ["rw", "ww"] and len(rows) == 1,
-            "read skew": name == "G-single" and not wrote[readers[0]] & rows,
-            "write skew": kinds == ["rw", "rw"] and len(rows) == 2,
-            "read-only anomaly": name == "G2-item" and any(not written for written in wrote.values()),
-            "phantom": "rw-p" in kinds,
-        }
-        return [nickname for nickname, has in forms.items() if has]
+        """The nicknames of a cycle, in the order in which they are printed."""
+        cycle = [Edge(int(first), kind, row_of(row), int(second)) for first, kind, row, second in dependencies(walk)]
+        found = names_of(History(self.given), cycle)
+        return [name for name in NAMES if name in found]
 
     def name(self, phenomenon, walk):
         """A phenomenon with its textbook name, or with the nicknames of the cycle by which it is present, if any."""

@@ -147,7 +147,10 @@ class History:
                 yield Edge(no, "rw", row, by[seen])
 
     def of_predicate(self, no: int, op: Operation, row: Row, states: list):
-        """The dependencies on the writes that changed whether a row matches."""
+        """The dependencies on the writes that changed whether a row matches. An operation that saw its own transaction's
+        version has none."""
+        if self.is_own(no, op, row):
+            return
         seen, by = self.saw(op, row), self.installed[row]
         for place, writer in enumerate(by, 1):
             if op.matches(row, states[place - 1]) != op.matches(row, states[place]):

@@ -8,5 +8,14 @@ pub mod DrawnWalks
 mod NamedInstalls
 pub mod Escapes
 mod TitledWalks
+mod Orderables
+mod RowEntries
+mod WrittenRows
+mod ReadForms
+mod PairForms
+mod ForkForms
+mod KnownDependence
+mod KnownOrders
+mod ReaderForms
 mod NicknameForms
 pub mod SaidNames

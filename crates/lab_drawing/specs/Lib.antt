@@ -1,5 +1,14 @@
 pub mod Cycles
+pub mod Values
+pub mod Reads
+pub mod Written
+pub mod Pairs
+pub mod Forks
+pub mod Orderable
+pub mod Dependence
+pub mod Readers
 pub mod Nicknames
+pub mod Anomalies
 pub mod Titles
 pub mod TitleLaws
 pub mod Ties

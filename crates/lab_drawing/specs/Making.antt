@@ -1,5 +1,6 @@
 -- Which operations make a dependency, and its arrow.
 use Rattle.std.specs.Prelude.{ℕ, ◌+◌, ◌-◌, ◌==◌, nat_le, nat_lt, Bool, false, ◌&&◌, cond, Option, Some, None, is_some, List, [], ◌∷◌}
+use Rattle.std.specs.List.{list_any}
 use Rattle.std.specs.FinMap as map
 use Rattle.lab_table.specs.Row.{Row}
 use Rattle.lab_history.specs.History.{History}
@@ -45,6 +46,10 @@ ties_at h kind row op (Some seen) (Some own) = ties h kind row op seen own
 -- whether an operation of the reader makes a dependency
 abbrev pub makes : History → Edge → Op → Bool
 makes h e op = ties_at h e.kind e.row op (place_of h (reader_of e) e.row (viewed op e.row)) (place_in (installers h e.row) (writer_of e))
+
+-- whether some operation of the reader makes it
+abbrev pub is_made : History → Edge → Bool
+is_made h e = list_any (makes h e) (ops_of h (reader_of e))
 
 -- the number of the first operation that passes a test, where so many come before these
 abbrev pub first_op : (Op → Bool) → ℕ → List Op → Option ℕ

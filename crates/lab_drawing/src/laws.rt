@@ -17,7 +17,8 @@ ghost use Rattle.lab_drawing.specs.ArrowLaws.{IsArrowOf, MakesAt, NamesWalk, Dra
 ghost use Rattle.lab_drawing.specs.InstallLaws.{NamesOut};
 ghost use Rattle.lab_drawing.specs.Installs.{misplaced_text};
 ghost use Rattle.lab_drawing.specs.Making.{arrow_of};
-ghost use Rattle.lab_drawing.specs.Nicknames.{HasForm, nicknames_of};
+ghost use Rattle.lab_drawing.specs.Anomalies.{HasForm};
+ghost use Rattle.lab_drawing.specs.Nicknames.{nicknames_of};
 ghost use Rattle.lab_drawing.specs.Sketch.{drawing_of};
 ghost use Rattle.lab_drawing.specs.Text.{escaped, is_plain};
 ghost use Rattle.lab_drawing.specs.TitleLaws.{TellsWalk};

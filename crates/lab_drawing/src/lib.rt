@@ -10,17 +10,24 @@
 #![tactic(auto)]
 
 mod cycles;
+mod dependence;
 mod drawing;
 mod fault_drawing;
+mod forks;
 mod installs;
 mod laws;
 mod making;
 mod nicknames;
+mod pairs;
+mod readers;
+mod reads;
 mod rows;
 mod sketch;
 mod states;
 mod text;
 mod titles;
+mod values;
+mod written;
 
 pub use cycles::{cycle_of, walk_phenomenon};
 pub use drawing::{Arrow, Drawing, Spot, Tie, is_dashed};

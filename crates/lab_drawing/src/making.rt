@@ -2,7 +2,7 @@
 
 ghost use Rattle.std.specs.Prelude.{◌≡◌, ◌≤◌, length};
 ghost use Rattle.lab_history.specs.Limits.{max_operations};
-ghost use Rattle.lab_drawing.specs.Making.{ties, makes, first_op, reader_of, writer_of, from_of, to_of, arrow_of};
+ghost use Rattle.lab_drawing.specs.Making.{ties, makes, is_made, first_op, reader_of, writer_of, from_of, to_of, arrow_of};
 
 use crate::drawing::{Arrow, Spot, Tie};
 use crate::states::{changes, ops_of};
@@ -59,6 +59,15 @@ fn makes(history: &History, edge: &Edge, op: &Op) -> bool
         return false;
     };
     ties(history, edge.kind, edge.row, op, seen, own)
+}
+
+/// Whether an operation of the reader makes a dependency. Of two writers none does.
+pub fn is_made(history: &History, edge: &Edge) -> bool
+    ensures { result ≡ is_made history.now edge.now }
+{
+    ops_of(history, reader_of(edge))
+        .iter()
+        .any(|op| makes(history, edge, op))
 }
 
 /// The first of the reader's operations that makes a dependency.

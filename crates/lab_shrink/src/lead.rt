@@ -5,6 +5,7 @@ use crate::named::put_in_order;
 use lab_deps::{Edge, FaultParts, LocalFault};
 use lab_history::{History, Op, VersionName};
 use lab_judge::{Finding, Report, Serial, judge};
+use lab_reports::Phenomenon;
 use lab_table::{NoMemory, RowName, TxnNo};
 use std::alloc::Global;
 
@@ -189,7 +190,25 @@ fn lead_of_finding(
     }
 }
 
-/// What a report names where it shows a goal.
+/// The cycle of a finding if it has fewer dependencies than this one, else this one.
+fn shorter<'a>(walk: &'a [Edge], finding: &'a Finding) -> &'a [Edge] {
+    match finding {
+        Finding::Walk(found) if found.as_slice().len() < walk.len() => found.as_slice(),
+        _ => walk,
+    }
+}
+
+/// The shortest of the cycles that a report has: that of its serial verdict, or of a phenomenon that is present.
+fn shortest<'a>(report: &'a Report, walk: &'a [Edge]) -> &'a [Edge] {
+    let mut least = walk;
+    for phenomenon in Phenomenon::ALL {
+        least = shorter(least, phenomenon.found_in(report));
+    }
+    least
+}
+
+/// What a report names where it shows a goal. A verdict's cycle may be long although a short one shows the problem, so
+/// the shortest of all cycles is named.
 fn lead_of(
     alloc: Global,
     history: &History,
@@ -203,7 +222,10 @@ fn lead_of(
     match &report.serial {
         Serial::Yes(_) => Ok(None),
         Serial::NoFault(fault) => Ok(Some(lead_of_fault(alloc, history, *fault)?)),
-        Serial::NoCycle(walk) => Ok(Some(lead_of_walk(alloc, history, walk.as_slice(), is_each)?)),
+        Serial::NoCycle(walk) => {
+            let walk = shortest(report, walk.as_slice());
+            Ok(Some(lead_of_walk(alloc, history, walk, is_each)?))
+        }
     }
 }
 

@@ -1,0 +1,160 @@
+//! Which committed transactions depend on which.
+
+ghost use Rattle.std.specs.Prelude.{◌≡◌, ◌↔◌, Contains, IfOk, IfSome};
+ghost use Rattle.lab_history.specs.Version.{outcome_of};
+ghost use Rattle.lab_deps.specs.Edges.{IsEdge};
+ghost use Rattle.lab_deps.specs.Soundness.{IsSound, has_committed};
+ghost use Rattle.lab_deps.specs.declared.edge.Edge.{Edge as Spelled};
+ghost use Rattle.lab_drawing.specs.Dependence.{depends_at, is_tied, are_two, flows, passes, committed};
+
+use crate::forks::{depends, follows};
+use crate::installs::installers_of;
+use lab_deps::{Dependencies, Kind, Kinds, check_local};
+use lab_history::{History, Outcome};
+use lab_table::{NoMemory, RowName, TxnNo};
+use std::alloc::Global;
+use std::marker::Model;
+
+/// A history with its committed transactions, and with its dependencies if it is sound.
+#[derive(Drop)]
+pub struct Dependence<'a> {
+    history: &'a History,
+    numbers: Vec<TxnNo>,
+    net: Option<Dependencies<'a>>,
+}
+
+impl<'a> Model for Dependence<'a> {
+    ghost use Rattle.std.specs.Prelude.{◌≡◌};
+    ghost use Rattle.lab_history.specs.History as spec;
+    ghost use Rattle.lab_drawing.specs.Dependence.{committed, AreKnown};
+
+    ghost Value = { spec.History };
+
+    ghost view = { λ d. d.history.now };
+
+    ghost invariant = { λ d. (d.numbers.items ≡ committed d.history.now) × AreKnown d.history.now d.net };
+}
+
+impl<'a> Dependence<'a> {
+    /// Finds out the dependencies of a history.
+    pub fn of(alloc: Global, history: &'a History) -> Result<Dependence<'a>, NoMemory>
+        ensures { IfOk result (λ found. found ≡ history.now) }
+    {
+        let numbers = committed(alloc, history)?;
+        let net = net_of(alloc, history)?;
+        Ok(Dependence {
+            history,
+            numbers,
+            net,
+        })
+    }
+
+    /// The committed transactions.
+    pub fn numbers(&self) -> &[TxnNo]
+        ensures { result.now ≡ committed self.now }
+    {
+        &self.numbers
+    }
+
+    /// Whether one transaction depends on what another one wrote.
+    pub fn flows(&self, from: TxnNo, to: TxnNo) -> bool
+        ensures { result ≡ flows self.now from to }
+    {
+        match &self.net {
+            Some(net) => net.kinds(from, to).meets(Kinds::FLOW),
+            None => flows(self.history, from, to),
+        }
+    }
+
+    /// Whether a transaction didn't see what another one wrote.
+    pub fn passes(&self, from: TxnNo, to: TxnNo) -> bool
+        ensures { result ≡ passes self.now from to }
+    {
+        match &self.net {
+            Some(net) => net.kinds(from, to).meets(Kinds::ANTI),
+            None => passes(self.history, from, to),
+        }
+    }
+}
+
+/// The dependencies of a history, if it is sound.
+fn net_of<'a>(alloc: Global, history: &'a History) -> Result<Option<Dependencies<'a>>, NoMemory>
+    ensures { IfOk result (λ net. IfSome net (λ net. IsSound history.now × ((e : Spelled) → Contains net.edges e ↔ IsEdge history.now e))) }
+{
+    match check_local(alloc, history) {
+        Ok(sound) => Ok(Some(Dependencies::of(alloc, history, &sound)?)),
+        Err(_) => Ok(None),
+    }
+}
+
+/// Whether a transaction has committed.
+fn has_committed(history: &History, txn: TxnNo) -> bool
+    ensures { result ≡ has_committed (outcome_of history.now txn) }
+{
+    match history.txn(txn) {
+        None => false,
+        Some(found) => matches!(found.outcome, Outcome::Committed),
+    }
+}
+
+/// The committed transactions of a history.
+fn committed(alloc: Global, history: &History) -> Result<Vec<TxnNo>, NoMemory>
+    ensures { IfOk result (λ numbers. numbers.items ≡ committed history.now) }
+{
+    history
+        .txns()
+        .as_slice()
+        .iter()
+        .filter(|txn| has_committed(history, txn.no))
+        .map(|txn| txn.no)
+        .collect(alloc)
+}
+
+/// Whether one transaction depends on another in this way at a row.
+fn depends_at(history: &History, from: TxnNo, to: TxnNo, kind: Kind, row: RowName) -> bool
+    ensures { result ≡ depends_at history.now from to kind row }
+{
+    match kind {
+        Kind::Write => follows(installers_of(history, row), from, to),
+        Kind::ItemRead | Kind::PredicateRead | Kind::ItemAnti | Kind::PredicateAnti => {
+            depends(history, from, to, kind, row)
+        }
+    }
+}
+
+/// The same at some row.
+fn is_tied(history: &History, kind: Kind, from: TxnNo, to: TxnNo) -> bool
+    ensures { result ≡ is_tied history.now kind from to }
+{
+    history
+        .installed()
+        .entries()
+        .iter()
+        .any(|entry| depends_at(history, from, to, kind, entry.0))
+}
+
+/// Whether two transactions have committed, and aren't one.
+fn are_two(history: &History, from: TxnNo, to: TxnNo) -> bool
+    ensures { result ≡ are_two history.now from to }
+{
+    has_committed(history, from) && (has_committed(history, to) && from != to)
+}
+
+/// Whether one transaction depends on what another one wrote, by its operations.
+fn flows(history: &History, from: TxnNo, to: TxnNo) -> bool
+    ensures { result ≡ flows history.now from to }
+{
+    are_two(history, from, to)
+        && (is_tied(history, Kind::Write, from, to)
+            || (is_tied(history, Kind::ItemRead, from, to)
+                || is_tied(history, Kind::PredicateRead, from, to)))
+}
+
+/// Whether a transaction didn't see what another one wrote, by its operations.
+fn passes(history: &History, from: TxnNo, to: TxnNo) -> bool
+    ensures { result ≡ passes history.now from to }
+{
+    are_two(history, from, to)
+        && (is_tied(history, Kind::ItemAnti, from, to)
+            || is_tied(history, Kind::PredicateAnti, from, to))
+}

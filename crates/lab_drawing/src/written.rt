@@ -1,0 +1,69 @@
+//! The rows that a transaction wrote.
+
+ghost use Rattle.std.specs.Prelude.{◌≡◌, ◌++◌, IfOk, OnOk};
+ghost use Rattle.lab_table.specs.Row.{row_test};
+ghost use Rattle.lab_drawing.specs.Written.{is_last, last_rows, rows_by, is_beside, has_two};
+
+use crate::states::ops_of;
+use lab_history::{History, Op};
+use lab_table::{NoMemory, RowName, TxnNo};
+use std::alloc::Global;
+
+/// Whether an operation is the last of its transaction that writes a row.
+fn is_last(history: &History, txn: TxnNo, number: u32, row: RowName) -> bool
+    ensures { result ≡ is_last history.now txn number row }
+{
+    match history.last_write(txn, row) {
+        None => false,
+        Some(last) => last == number,
+    }
+}
+
+/// Appends the rows that an operation is the last to write.
+fn put_last(
+    rows: &mut Vec<RowName>,
+    history: &History,
+    txn: TxnNo,
+    number: u32,
+    op: &Op,
+) -> Result<(), NoMemory>
+    ensures { OnOk result (rows.new.items ≡ rows.old.items ++ last_rows history.now txn number op.now) }
+{
+    for (row, _) in op.writes.entries() {
+        if is_last(history, txn, number, *row) {
+            rows.push(*row)?;
+        }
+    }
+    Ok(())
+}
+
+/// The rows that a transaction wrote, each once.
+pub fn rows_by(alloc: Global, history: &History, txn: TxnNo) -> Result<Vec<RowName>, NoMemory>
+    ensures { IfOk result (λ rows. rows.items ≡ rows_by history.now txn) }
+{
+    let mut rows = Vec::new(alloc);
+    for (index, op) in ops_of(history, txn).iter().enumerate() {
+        put_last(&mut rows, history, txn, index as u32 + 1, op)?;
+    }
+    Ok(rows)
+}
+
+fn is_same_row(one: RowName, other: RowName) -> bool
+    ensures { result ≡ row_test one other }
+{
+    one == other
+}
+
+/// Whether one of these rows isn't this one.
+fn is_beside(others: &[RowName], row: RowName) -> bool
+    ensures { result ≡ is_beside others.now row }
+{
+    others.iter().any(|other| !is_same_row(row, *other))
+}
+
+/// Whether there is one of the first rows, and another one of the second.
+pub fn has_two(ones: &[RowName], others: &[RowName]) -> bool
+    ensures { result ≡ has_two ones.now others.now }
+{
+    ones.iter().any(|row| is_beside(others, *row))
+}
