@@ -1,6 +1,7 @@
 //! The read-only anomaly.
 
 ghost use Rattle.std.specs.Prelude.{◌≡◌, ◌<◌, ◌≤◌, ◌==◌, ◌&&◌, ◌||◌, ℕ, length, IfOk};
+ghost use Rattle.lab_history.specs.Limits.{max_transactions};
 ghost use Rattle.lab_order.specs.Arrows.{nodes_of, has_arrow};
 ghost use Rattle.lab_drawing.specs.Dependence.{committed};
 ghost use Rattle.lab_drawing.specs.Readers.{is_nothing, wrote_nothing, is_read_only, some_read_only, is_g2, may_be, is_before, is_led, node_count, leads, arrives, IsGraphOf, can_order, stands_in_the_way, some_stand_in_the_way, is_read_only_anomaly};
@@ -87,7 +88,7 @@ fn is_led(ties: &Dependence<'_>, from: TxnNo, is_start: bool, to: TxnNo, to_star
 impl Nodes {
     /// How many nodes there are.
     fn count(&self, numbers: u32) -> u32
-        requires { numbers ≤ 1000 }
+        requires { numbers ≤ max_transactions }
         ensures { result ≡ node_count self.now numbers }
     {
         match self {
