@@ -19,3 +19,4 @@ pub mod Sketch
 pub mod ArrowLaws
 pub mod Text
 pub mod Rows
+pub mod SnapshotWalks
