@@ -20,3 +20,4 @@ pub mod ArrowLaws
 pub mod Text
 pub mod Rows
 pub mod SnapshotWalks
+pub mod SnapshotDrawings

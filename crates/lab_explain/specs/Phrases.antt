@@ -15,11 +15,11 @@ unsound_text = codes "Not serializable, since the history isn't sound: what it r
 
 -- a snapshot verdict on a history that isn't sound
 unfoldable pub snapshot_unsound : List ℕ
-snapshot_unsound = codes "SI (snapshot isolation): not kept, since the history isn't sound: what it records at one place isn't what is due there."
+snapshot_unsound = codes "Snapshot isolation not kept, since the history isn't sound: what it records at one place isn't what is due there."
 
--- a snapshot verdict with a cycle of starts and commits
-unfoldable pub snapshot_broken : List ℕ
-snapshot_broken = codes "SI (snapshot isolation): broken: as each transaction starts before it commits, each of these starts and commits comes before the next, and the last before the first, so no order keeps all of these dependencies."
+-- behind the title of a cycle of starts and commits
+unfoldable pub snapshot_round : List ℕ
+snapshot_round = codes ". Each of these starts and commits comes before the next, and the last before the first, so no order keeps all of these dependencies with each start before its commit."
 
 -- an order
 unfoldable pub order_head : List ℕ

@@ -2,14 +2,17 @@
 //! have been appended.
 
 ghost use Rattle.std.specs.Prelude.{◌≡◌, ◌++◌, IfOk, OnOk};
+ghost use Rattle.lab_drawing.specs.SnapshotDrawings.{broken_title};
+ghost use Rattle.lab_explain.specs.Phrases.{snapshot_round};
 ghost use Rattle.lab_explain.specs.Lines.{paragraph, joined, front, capped, standing};
 ghost use Rattle.lab_explain.specs.SnapshotPart.{snapshot_sentence, snapshot_steps, snapshot_sentences, snapshot_text};
 
 use crate::fault_steps::{put_fault_steps, put_standing_fault};
 use crate::lines::{lines, put_paragraph, put_placed, put_with_left_out, room_behind};
-use crate::phrases::{last_line, snapshot_broken, snapshot_unsound};
+use crate::phrases::{last_line, snapshot_round, snapshot_unsound};
 use crate::steps::{Lead, put_standing_walk, put_walk_steps};
 use lab_deps::Edge;
+use lab_drawing::put_broken_title;
 use lab_history::History;
 use lab_judge::Places;
 use lab_table::NoMemory;
@@ -18,15 +21,44 @@ use std::alloc::Global;
 /// The most lines of its sentences.
 const MAX_LINES: usize = 90;
 
-/// Returns the first sentence of a snapshot verdict that is explained alone.
-pub fn snapshot_sentence(snapshot: &Places) -> &'static [u8]
-    ensures { result.now ≡ snapshot_sentence snapshot.now }
+/// Appends the first sentence about a cycle of starts and commits with these dependencies.
+fn put_broken_sentence(out: &mut Vec<u8>, history: &History, walk: &[Edge]) -> Result<(), NoMemory>
+    ensures { OnOk result (out.new.items ≡ out.old.items ++ (broken_title history.now walk.now ++ snapshot_round)) }
+{
+    put_broken_title(out, history, walk)?;
+    out.extend_from_slice(snapshot_round())
+}
+
+/// Appends the first sentence of a snapshot verdict that is explained alone. `walk` has the dependencies of its cycle.
+pub fn put_snapshot_sentence(
+    out: &mut Vec<u8>,
+    history: &History,
+    snapshot: &Places,
+    walk: &[Edge],
+) -> Result<(), NoMemory>
+    ensures { OnOk result (out.new.items ≡ out.old.items ++ snapshot_sentence history.now snapshot.now walk.now) }
 {
     match snapshot {
-        Places::Yes(_) => b"SI (snapshot isolation): kept.",
-        Places::NoFault(_) => snapshot_unsound(),
-        Places::NoCycle(_) => snapshot_broken(),
+        Places::Yes(_) => out.extend_from_slice(b"Snapshot isolation kept."),
+        Places::NoFault(_) => out.extend_from_slice(snapshot_unsound()),
+        Places::NoCycle(_) => put_broken_sentence(out, history, walk),
     }
+}
+
+/// Returns the lines of that sentence.
+fn first_lines(
+    alloc: Global,
+    history: &History,
+    snapshot: &Places,
+    walk: &[Edge],
+) -> Result<Vec<u8>, NoMemory>
+    ensures { IfOk result (λ text. text.items ≡ paragraph (snapshot_sentence history.now snapshot.now walk.now)) }
+{
+    let mut text = Vec::new(alloc);
+    put_snapshot_sentence(&mut text, history, snapshot, walk)?;
+    let mut out = Vec::new(alloc);
+    put_paragraph(&mut out, &text)?;
+    Ok(out)
 }
 
 /// Appends the lines of the steps of a snapshot verdict whose cycle has these dependencies.
@@ -76,8 +108,7 @@ fn snapshot_lines(
 ) -> Result<Vec<u8>, NoMemory>
     ensures { IfOk result (λ text. text.items ≡ joined (snapshot_sentences history.now snapshot.now walk.now)) }
 {
-    let mut out = Vec::new(alloc);
-    put_paragraph(&mut out, snapshot_sentence(snapshot))?;
+    let mut out = first_lines(alloc, history, snapshot, walk)?;
     put_snapshot_steps(alloc, &mut out, history, snapshot, walk)?;
     Ok(out)
 }
@@ -92,8 +123,7 @@ fn snapshot_front(
 ) -> Result<Vec<u8>, NoMemory>
     ensures { IfOk result (λ text. text.items ≡ front most (snapshot_sentences history.now snapshot.now walk.now)) }
 {
-    let mut first = Vec::new(alloc);
-    put_paragraph(&mut first, snapshot_sentence(snapshot))?;
+    let first = first_lines(alloc, history, snapshot, walk)?;
     let mut out = Vec::new(alloc);
     put_placed(&mut out, most, Some(most), &first)?;
     let room = room_behind(Some(most), &first);
