@@ -19,3 +19,4 @@ mod KnownOrders
 mod ReaderForms
 mod NicknameForms
 pub mod SaidNames
+pub mod LeastCauses

@@ -12,4 +12,5 @@ pub mod Findings
 pub mod Explanation
 pub mod PrintedParts
 pub mod Sentences
+pub mod SnapshotPart
 pub mod Answer

@@ -1,17 +1,20 @@
 //! The subcommand `explain`: reads a history file and writes sentences.
 
-ghost use Rattle.std.specs.Prelude.{◌≡◌, ◌⊎◌, List, ℕ, IfOk, IfErr, IfSome, OnErr};
+ghost use Rattle.std.specs.Prelude.{◌≡◌, ◌⊎◌, Some, List, ℕ, IfOk, IfErr, IfSome, OnErr};
 ghost use Rattle.std.specs.Io.KnownBytes.{Appends, Keeps};
+ghost use Rattle.lab_judge.specs.Judgement.{IsExactJudgement};
 ghost use Rattle.lab_streams.specs.Input.{ReadsFirst};
-ghost use Rattle.lab_explain.specs.Answer.{IsExplanationOf, Explains, IsExplainAnswer};
+ghost use Rattle.lab_explain.specs.Answer.{ExplainsReport, IsExplanationOf, Explains, IsExplainAnswer};
 
 use crate::client_mistakes::client_mistake_in;
 use crate::newer_rows::may_have_read_newer_rows;
 use crate::sections::explanation;
+use crate::snapshot_part::snapshot_text;
+use lab_drawing::snapshot_walk;
 use lab_hints::note_newer_rows;
 use lab_history::History;
-use lab_judge::judge;
-use lab_reports::Phenomenon;
+use lab_judge::{Report, judge};
+use lab_reports::Violation;
 use lab_streams::{Answer, Ending, Format, RunFault, Teller, note_text, tell_history};
 use lab_table::NoMemory;
 use std::alloc::{AllocError, Global};
@@ -26,11 +29,48 @@ struct OtherCauses {
     client: &'static [u8],
 }
 
+/// Whether the explanation of a history that isn't sound tells its fault.
+fn tells_fault(asked: Option<Violation>) -> bool {
+    matches!(asked, None | Some(Violation::Snapshot))
+}
+
+/// The explanation of a snapshot verdict alone.
+fn snapshot_explained(
+    alloc: Global,
+    history: &History,
+    report: &Report,
+) -> Result<Vec<u8>, NoMemory>
+    requires { IsExactJudgement history.now report.now }
+    ensures { IfOk result (λ text. ExplainsReport history.now report.now (Some Violation.Snapshot) text.items) }
+{
+    let walk = snapshot_walk(alloc, history, &report.snapshot)?;
+    snapshot_text(alloc, history, &report.snapshot, &walk)
+}
+
+/// The explanation of a report, or of a part of it.
+fn report_explained(
+    alloc: Global,
+    history: &History,
+    report: &Report,
+    asked: Option<Violation>,
+) -> Result<Vec<u8>, NoMemory>
+    requires { IsExactJudgement history.now report.now }
+    ensures { IfOk result (λ text. ExplainsReport history.now report.now asked text.items) }
+{
+    match asked {
+        None => explanation(alloc, history, report, None),
+        Some(Violation::Phenomenon(phenomenon)) => {
+            explanation(alloc, history, report, Some(phenomenon))
+        }
+        Some(Violation::Snapshot) => snapshot_explained(alloc, history, report),
+    }
+}
+
 /// The explanation of a judgement of a history; other causes of a fault are noted where its cause is told.
 fn explained(
     alloc: Global,
     history: &History,
-    asked: Option<Phenomenon>,
+    asked: Option<Violation>,
     causes: &mut OtherCauses,
 ) -> Result<Vec<u8>, NoMemory>
     ensures { IfOk result (λ text. IsExplanationOf history.now asked text.items) }
@@ -38,19 +78,19 @@ fn explained(
     let Ok(report) = judge(alloc, history) else {
         return Err(AllocError);
     };
-    if asked.is_none() {
+    if tells_fault(asked) {
         *causes = OtherCauses {
             are_newer_rows: may_have_read_newer_rows(history, &report),
             client: client_mistake_in(&report),
         };
     }
-    explanation(alloc, history, &report, asked)
+    report_explained(alloc, history, &report, asked)
 }
 
 /// What tells the explanation of a judgement.
 #[derive(Drop)]
 struct TellsExplanation {
-    asked: Option<Phenomenon>,
+    asked: Option<Violation>,
     /// Those of the fault of the record that was told.
     causes: OtherCauses,
 }
@@ -73,15 +113,15 @@ impl Teller for TellsExplanation {
     }
 }
 
-/// Reads a history file, and explains the judgement of its history in sentences: all of it, or the finding about a
-/// phenomenon. If the file is refused, writes the line of its first fault. Reads, writes and ends as `tell_history`
+/// Reads a history file, and explains the judgement of its history in sentences: all of it, the finding about a
+/// phenomenon, or the snapshot verdict. If the file is refused, writes the line of its first fault. Reads, writes and ends as `tell_history`
 /// does. A hint is also written to `notes` if a fault can have causes other than the explained one.
 pub fn explain<R: Read, W: Write, N: Write>(
     alloc: Global,
     reader: &mut R,
     writer: &mut W,
     notes: &mut N,
-    asked: Option<Phenomenon>,
+    asked: Option<Violation>,
 ) -> Result<Ending, RunFault>
     ensures written { IfOk result (λ ending. IfSome (R.remaining reader.old) (λ input.
         (text : List ℕ) × Appends (W.contents writer.old) (W.contents writer.new) text × IsExplainAnswer input asked text ending)) }

@@ -25,6 +25,7 @@ mod phrases;
 mod places;
 mod sections;
 mod sentences;
+mod snapshot_part;
 mod steps;
 mod told;
 
@@ -41,3 +42,4 @@ pub use sentences::{
     put_due_sentence, put_edge_sentence, put_finding_sentence, put_found_sentence,
     put_mistake_sentence, put_places_sentence, put_recorded_sentence, put_serial_sentence,
 };
+pub use steps::Lead;

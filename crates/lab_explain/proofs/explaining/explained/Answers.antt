@@ -3,6 +3,6 @@ use Rattle.lab_explain.proofs.explaining.explained.Goals as goal
 
 pub returns : goal.returns
 returns c =
-    IfOk-weaker c.explanation.result _ _
-    (λ text is. record { report = c.in-Ok.report; judgement = c.in-Ok.ensures.exact; text_is = is })
-    c.explanation.ensures
+    IfOk-weaker c.report_explained.result _ _
+    (λ text explains. record { report = c.in-Ok.report; judgement = c.in-Ok.ensures.exact; explains = explains })
+    c.report_explained.ensures
