@@ -32,7 +32,9 @@ be named, and one of `stock`. A name is 1 to 16 letters and underscores, and no 
 Writes the transcript to standard output: for each transaction a line with its number and its
 session, as `txn 1 T1`, each statement with the rows that it lists, as `-> (2, 20)`, and `commit`
 or `abort`; then the rows in the end. Where the input is no script, writes one line that names its
-first fault, as `line 3: NoSession`.";
+first fault, as `line 3: NoSession`.
+
+    hermitage_lab serial < examples/first_steps.txt";
 
 pub const RUN: &str = "Plays a script on an engine, and judges what its recording shows";
 
