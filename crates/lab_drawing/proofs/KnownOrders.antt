@@ -7,16 +7,17 @@ use Rattle.lab_drawing.specs.Orderable.{is_orderable}
 use Rattle.lab_drawing.proofs.Orderables.{orders, ring_remains}
 
 -- a graph with an arrow exactly where one of so many nodes comes before another
-module _ (leads : ℕ → ℕ → Bool) (count : ℕ) (graph : Arrows) (arrows : (a b : ℕ) → has_arrow graph a b ≡ (nat_lt b count && (nat_lt a count && leads a b))) where
+module _ (leads : ℕ → ℕ → Bool) (count : ℕ) (graph : Arrows) (arrows : (a b : ℕ) → has_arrow graph a b ≡ ((nat_lt a count && nat_lt b count) && leads a b)) where
   -- an arrow leads between nodes, from one that comes before the other
   arrow_so : (a b : ℕ) → has_arrow graph a b ≡ true → (a < count) × (b < count) × (leads a b ≡ true)
   arrow_so a b there =
-      let parts = and_parts (nat_lt b count) (nat_lt a count && leads a b) (sym (arrows a b) ∙ there) in
-      let more = and_parts (nat_lt a count) (leads a b) parts.1 in
-      (ltb-true a count more.0, ltb-true b count parts.0, more.1)
+      let parts = and_parts (nat_lt a count && nat_lt b count) (leads a b) (sym (arrows a b) ∙ there) in
+      let both = and_parts (nat_lt a count) (nat_lt b count) parts.0 in
+      (ltb-true a count both.0, ltb-true b count both.1, parts.1)
 
   so_arrow : (a b : ℕ) → a < count → b < count → leads a b ≡ true → has_arrow graph a b ≡ true
-  so_arrow a b x y on = arrows a b ∙ and_from (nat_lt b count) (nat_lt a count && leads a b) (lt-ltb b count y) (and_from (nat_lt a count) (leads a b) (lt-ltb a count x) on)
+  so_arrow a b x y on =
+      arrows a b ∙ and_from (nat_lt a count && nat_lt b count) (leads a b) (and_from (nat_lt a count) (nat_lt b count) (lt-ltb a count x) (lt-ltb b count y)) on
 
   pub ordered : (nodes : List ℕ) → IsOrder graph nodes → is_orderable leads count ≡ true
   ordered nodes order = orders leads count (position nodes, λ a b x y on. order.forward a b (so_arrow a b x y on))
