@@ -13,4 +13,5 @@ pub mod Explanation
 pub mod PrintedParts
 pub mod Sentences
 pub mod SnapshotPart
+pub mod Promise
 pub mod Answer

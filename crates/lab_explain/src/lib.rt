@@ -23,6 +23,7 @@ mod names;
 mod newer_rows;
 mod phrases;
 mod places;
+mod promise;
 mod sections;
 mod sentences;
 mod snapshot_part;
@@ -37,6 +38,7 @@ pub use laws::{
     how_to_have_a_cycle_explained_stands,
 };
 pub use names::level_line;
+pub use promise::{put_promise, shown_of};
 pub use sections::explanation;
 pub use sentences::{
     put_due_sentence, put_edge_sentence, put_finding_sentence, put_found_sentence,
