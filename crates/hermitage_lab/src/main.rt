@@ -30,7 +30,7 @@ use lab_hints::{Choices, note_words, shown_text};
 use lab_matrix::CaseName;
 use lab_page::page;
 use lab_picture::picture;
-use lab_reports::Phenomenon;
+use lab_reports::{Phenomenon, Violation};
 use lab_shrink_commands::{Progress, shrink};
 use lab_streams::{Ending, RunFault, status};
 use std::alloc::{AllocError, Global};
@@ -85,6 +85,11 @@ pub fn ended(ending: Result<Ending, RunFault>) -> Result<u8, RunFault> {
 /// The phenomenon that is asked for, if there is one.
 fn asked(matches: &ArgMatches<'_>) -> Option<Phenomenon> {
     matches.get_str("phenomenon").and_then(Phenomenon::named)
+}
+
+/// The violation that is asked for, if there is one.
+fn violation_asked(matches: &ArgMatches<'_>) -> Option<Violation> {
+    matches.get_str("phenomenon").and_then(Violation::named)
 }
 
 /// Runs `case`, and answers the exit status.
@@ -154,7 +159,8 @@ fn run_shrink<R: Read, W: Write, N: Write>(
         to: progress,
         is_shown: is_watched || matches.get_flag("progress"),
     };
-    ended(shrink(alloc, reader, writer, notes, asked(matches), progress))
+    let asked = violation_asked(matches);
+    ended(shrink(alloc, reader, writer, notes, asked, progress))
 }
 
 /// Runs a subcommand, and answers the exit status.

@@ -74,6 +74,11 @@ pub fn phenomenon<'a>(alloc: Global, help: &'a str, names: &'a Names) -> Arg<'a>
     choice(alloc, "phenomenon", help, names.phenomena.as_slice())
 }
 
+/// The option that names a phenomenon, or `SI`.
+pub fn violation<'a>(alloc: Global, help: &'a str, names: &'a Names) -> Arg<'a> {
+    choice(alloc, "phenomenon", help, names.violations.as_slice())
+}
+
 /// The files of a subcommand over files: at least one, unless a list names them.
 pub fn files<'a>(alloc: Global) -> Result<Arg<'a>, AllocError> {
     Arg::new(alloc, "FILE")

@@ -236,18 +236,20 @@ pub const TITLE: &str =
 pub const SHRINK: &str = "Makes a history file smaller that shows the same";
 
 pub const SHRINK_WHOLE: &str = "\
-Makes the history of a file smaller, as long as it shows the same: that it isn't serializable, or, where the
-record is unsound, a fault of the same kind. What is left is a part of the history of which no transaction,
-no operation, no row and no entry of a view can go.
+Makes the history of a file smaller, as long as it shows the same: that it isn't serializable, with
+`--phenomenon SI` that it isn't a snapshot run, or, where the record is unsound, a fault of the same kind.
+What is left is a part of the history of which no transaction, no operation, no row and no entry of a view
+can go.
 
 Reads a history file from standard input, and writes one, of version 2, to standard output. Transactions
 keep their numbers; operations are counted anew. Where the first transactions that wrote a row go, the row
-begins as they left it. A serializable history, and one of which nothing can go, is written as it is, and
-standard error says so. Where the input is no history file, writes one line that names its first fault.
+begins as they left it. A history that doesn't show what is asked for, and one of which nothing can go, is
+written as it is, and standard error says so. Where the input is no history file, writes one line that names its first fault.
 
     hermitage_lab shrink < examples/shrinking/withdrawals.json > smaller.json
     hermitage_lab explain < smaller.json";
 
-pub const SHOWN: &str = "Keeps a phenomenon in place of the serial verdict's no";
+pub const SHOWN: &str =
+    "Keeps a phenomenon, or with SI that it isn't a snapshot run, in place of the serial verdict's no";
 
 pub const LEFT: &str = "Says on standard error how much is left, also where that is no terminal";

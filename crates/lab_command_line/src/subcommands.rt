@@ -5,7 +5,8 @@ ghost use Rattle.lab_command_line.specs.Subcommands.{HasSubcommands, IsNamed, su
 ghost use Rattle.clap.specs.Words.{subcommand_names};
 
 use crate::arguments::{
-    choice, engines, files, flag, json_of_run, null, parts, phenomenon, requirement, rows, with_arg,
+    choice, engines, files, flag, json_of_run, null, parts, phenomenon, requirement, rows,
+    violation, with_arg,
 };
 use crate::help;
 use crate::names::Names;
@@ -148,7 +149,7 @@ fn shrink_command<'a>(alloc: Global, names: &'a Names) -> Result<Command<'a>, Al
     ensures { IfOk result (IsNamed (codes "shrink")) }
 {
     let command = Ok(plain_command(alloc, "shrink", help::SHRINK, help::SHRINK_WHOLE));
-    let command = with_arg(command, Ok(phenomenon(alloc, help::SHOWN, names)));
+    let command = with_arg(command, Ok(violation(alloc, help::SHOWN, names)));
     with_arg(command, Ok(flag(alloc, "progress", help::LEFT)))
 }
 

@@ -9,7 +9,7 @@ use lab_engine::Level;
 use lab_explain::explain;
 use lab_matrix::CaseName;
 use lab_picture::picture;
-use lab_reports::Phenomenon;
+use lab_reports::{Phenomenon, Violation};
 use lab_shrink_commands::{Progress as Left, shrink};
 use lab_streams::{Format, RunFault, Wanted, status};
 use std::alloc::Global;
@@ -47,7 +47,7 @@ pub enum Subcommand {
         asked: Option<Phenomenon>,
     },
     Shrink {
-        asked: Option<Phenomenon>,
+        asked: Option<Violation>,
     },
     Case {
         name: CaseName,
