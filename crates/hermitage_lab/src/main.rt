@@ -20,7 +20,7 @@ use crate::names::all_names;
 use crate::playing::{run_compare, run_play};
 use crate::streams::Streams;
 use crate::told::told;
-use crate::wanting::wanted;
+use crate::wanting::{required, wanted};
 use clap::ArgMatches;
 use lab_case_commands::{case, matrix, matrix_at};
 use lab_command_line::{Names, command};
@@ -117,6 +117,18 @@ fn run_matrix<W: Write>(
     ended(matrix_at(alloc, writer, &levels))
 }
 
+/// Runs `explain`, and answers the exit status.
+fn run_explain<R: Read, W: Write, N: Write>(
+    alloc: Global,
+    reader: &mut R,
+    writer: &mut W,
+    notes: &mut N,
+    matches: &ArgMatches<'_>,
+) -> Result<u8, RunFault> {
+    let asked = violation_asked(matches);
+    ended(explain(alloc, reader, writer, notes, asked, required(matches)))
+}
+
 /// Runs `page`, and answers the exit status.
 fn run_page<R: Read, W: Write, N: Write>(
     alloc: Global,
@@ -199,8 +211,8 @@ fn run_subcommand<T: Files + Threads + Wait + Sync, R: Read, W: Write, N: Write>
         "judge" => ended(judge(alloc, reader, writer, notes, wanted(more))),
         "case" => run_case(alloc, writer, more),
         "matrix" => run_matrix(alloc, writer, more),
-        "picture" => ended(picture(alloc, reader, writer, notes, asked(more))),
-        "explain" => ended(explain(alloc, reader, writer, notes, asked(more))),
+        "picture" => ended(picture(alloc, reader, writer, notes, violation_asked(more))),
+        "explain" => run_explain(alloc, reader, writer, notes, more),
         "page" => run_page(alloc, reader, writer, notes, more),
         _ => Ok(ARGUMENTS_REFUSED),
     }

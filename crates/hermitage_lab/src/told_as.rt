@@ -55,7 +55,7 @@ pub fn tell<W: Write, N: Write>(
     }
     let mut file = kept.file.as_slice();
     let second = match telling {
-        Telling::Explain => explain(alloc, &mut file, writer, notes, None)?,
+        Telling::Explain => explain(alloc, &mut file, writer, notes, None, None)?,
         Telling::Picture => picture(alloc, &mut file, writer, notes, None)?,
         Telling::Page => page(alloc, &mut file, writer, notes, None, b"")?,
     };

@@ -35,6 +35,17 @@ pub fn requirement<'a>(alloc: Global, names: &'a Names) -> Arg<'a> {
     )
 }
 
+/// The option that requires a level of a report that is shown.
+pub fn shown_requirement<'a>(alloc: Global, names: &'a Names) -> Result<Arg<'a>, AllocError> {
+    choice(
+        alloc,
+        "require",
+        help::REQUIRE_SHOWN,
+        names.requirements.as_slice(),
+    )
+    .conflicts_with("phenomenon")
+}
+
 /// A command with one more argument, where there was memory for both.
 pub fn with_arg<'a>(
     command: Result<Command<'a>, AllocError>,

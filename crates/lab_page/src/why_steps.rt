@@ -10,7 +10,7 @@ use lab_deps::{Edge, LocalFault};
 use lab_drawing::put_number;
 use lab_evidence::{Scope, shown_steps, told_cycle};
 use lab_explain::{
-    put_due_sentence, put_edge_sentence, put_mistake_sentence, put_recorded_sentence,
+    Lead, put_due_sentence, put_edge_sentence, put_mistake_sentence, put_recorded_sentence,
 };
 use lab_history::History;
 use lab_judge::{Report, Serial};
@@ -52,7 +52,7 @@ fn put_edge_item(
     ensures { OnOk result (out.new.items ≡ out.old.items ++ edge_item history.now scope.now step edge.now) }
 {
     let mut sentence = Vec::new(alloc);
-    put_edge_sentence(&mut sentence, history, edge)?;
+    put_edge_sentence(&mut sentence, history, Lead::Transactions, edge)?;
     let mut below = Vec::new(alloc);
     put_below_edge(alloc, &mut below, history, scope, edge)?;
     put_item(out, step, &sentence, &below)
