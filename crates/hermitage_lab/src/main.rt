@@ -30,7 +30,7 @@ use lab_hints::{Choices, note_words, shown_text};
 use lab_matrix::CaseName;
 use lab_page::page;
 use lab_picture::picture;
-use lab_reports::{Phenomenon, Violation};
+use lab_reports::Violation;
 use lab_shrink_commands::{Progress, shrink};
 use lab_streams::{Ending, RunFault, status};
 use std::alloc::{AllocError, Global};
@@ -80,11 +80,6 @@ fn report(rt: &HostRuntime, error: &clap::Error) -> Result<u8, RunFault>
 /// The exit status of how a subcommand ended; a fault stays one.
 pub fn ended(ending: Result<Ending, RunFault>) -> Result<u8, RunFault> {
     Ok(status(Ok(ending?)))
-}
-
-/// The phenomenon that is asked for, if there is one.
-fn asked(matches: &ArgMatches<'_>) -> Option<Phenomenon> {
-    matches.get_str("phenomenon").and_then(Phenomenon::named)
 }
 
 /// The violation that is asked for, if there is one.
@@ -149,7 +144,8 @@ fn run_page<R: Read, W: Write, N: Write>(
         reader,
         writer,
         notes,
-        asked(matches),
+        violation_asked(matches),
+        required(matches),
         shown.as_bytes(),
     ))
 }
@@ -263,7 +259,7 @@ fn refused(
     if status == ARGUMENTS_REFUSED {
         let choices = Choices {
             engines: &names.engines,
-            phenomena: &names.phenomena,
+            phenomena: &names.violations,
             requirements: &names.requirements,
             tellings: &names.tellings,
         };

@@ -80,11 +80,6 @@ pub fn engines<'a>(alloc: Global, help: &'a str, names: &'a Names) -> Arg<'a> {
         .value_parser(names.engines.as_slice())
 }
 
-/// The option that names a phenomenon.
-pub fn phenomenon<'a>(alloc: Global, help: &'a str, names: &'a Names) -> Arg<'a> {
-    choice(alloc, "phenomenon", help, names.phenomena.as_slice())
-}
-
 /// The option that names a phenomenon, or `SI`.
 pub fn violation<'a>(alloc: Global, help: &'a str, names: &'a Names) -> Arg<'a> {
     choice(alloc, "phenomenon", help, names.violations.as_slice())

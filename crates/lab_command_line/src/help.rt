@@ -233,7 +233,8 @@ history itself up to 64 KiB. Where the input is no history file, writes one line
 
     hermitage_lab page < examples/g2_item_write_skew.json > page.html";
 
-pub const PAGED: &str = "Shows what is found of a phenomenon in place of the serial verdict";
+pub const PAGED: &str =
+    "Shows what is found of a phenomenon, or with SI the snapshot verdict, in place of the serial verdict";
 
 pub const TITLE: &str =
     "What the page is to say of the history, as its database and the level asked for; at most 1,000 bytes";

@@ -5,8 +5,8 @@ ghost use Rattle.lab_command_line.specs.Subcommands.{HasSubcommands, IsNamed, su
 ghost use Rattle.clap.specs.Words.{subcommand_names};
 
 use crate::arguments::{
-    choice, engines, files, flag, json_of_run, null, parts, phenomenon, requirement, rows,
-    shown_requirement, violation, with_arg,
+    choice, engines, files, flag, json_of_run, null, parts, requirement, rows, shown_requirement,
+    violation, with_arg,
 };
 use crate::help;
 use crate::names::Names;
@@ -159,7 +159,8 @@ fn page_command<'a>(alloc: Global, names: &'a Names) -> Result<Command<'a>, Allo
     ensures { IfOk result (IsNamed (codes "page")) }
 {
     let command = Ok(plain_command(alloc, "page", help::PAGE, help::PAGE_WHOLE));
-    let command = with_arg(command, Ok(phenomenon(alloc, help::PAGED, names)));
+    let command = with_arg(command, Ok(violation(alloc, help::PAGED, names)));
+    let command = with_arg(command, shown_requirement(alloc, names));
     let title = Arg::new(alloc, "title")
         .long("title")
         .help(help::TITLE)

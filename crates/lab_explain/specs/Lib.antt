@@ -14,4 +14,5 @@ pub mod PrintedParts
 pub mod Sentences
 pub mod SnapshotPart
 pub mod Promise
+pub mod Focus
 pub mod Answer

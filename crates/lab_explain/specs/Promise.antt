@@ -1,5 +1,7 @@
 -- Whether a report keeps what is required, in words, and what is shown where it doesn't.
 use Rattle.std.specs.Prelude.{ℕ, cond, Option, Some, None, List, [], ◌∷◌, ◌++◌, codes}
+use Rattle.lab_judge.specs.declared.report.Grade.{Grade}
+use Rattle.lab_judge.specs.declared.report.Grade.TheVariants as grade
 use Rattle.lab_judge.specs.declared.report.Report.{Report}
 use Rattle.lab_reports.specs.Requirements.{meets, is_yes}
 use Rattle.lab_reports.specs.Shortfall.{is_present, first_found}
@@ -20,9 +22,18 @@ promise_name Pl299 = codes "PL-2.99 (repeatable read)"
 promise_name Pl3 = codes "PL-3 (serializable)"
 promise_name Snapshot = codes "Snapshot isolation"
 
+-- that it is broken; a record that isn't sound doesn't show that
+abbrev pub broken_words : Grade → List ℕ
+broken_words grade.BelowPl1 = codes " broken"
+broken_words grade.Pl1 = codes " broken"
+broken_words grade.Pl2 = codes " broken"
+broken_words grade.Pl299 = codes " broken"
+broken_words grade.Pl3 = codes " broken"
+broken_words grade.Unsound = codes " not shown: the record isn't sound"
+
 -- whether a report keeps it; where nothing committed, nothing is shown
 abbrev pub kept_words : Requirement → Report → List ℕ
-kept_words requirement report = cond (is_idle report) (codes " not shown: no transaction committed") (cond (meets requirement report) (codes " kept") (codes " broken"))
+kept_words requirement report = cond (is_idle report) (codes " not shown: no transaction committed") (cond (meets requirement report) (codes " kept") (broken_words report.level))
 
 -- both
 unfoldable pub promise_text : Requirement → Report → List ℕ

@@ -4,10 +4,10 @@
 ghost use Rattle.std.specs.Prelude.{◌≡◌, ◌++◌, codes, OnOk};
 ghost use Rattle.lab_reports.specs.Shortfall.{is_present, first_found};
 ghost use Rattle.lab_explain.specs.Lines.{paragraph};
-ghost use Rattle.lab_explain.specs.Promise.{promise_name, kept_words, promise_text, as_violation, first_violation, snapshot_violation, evidence_of, shown_of, promise_line};
+ghost use Rattle.lab_explain.specs.Promise.{promise_name, broken_words, kept_words, promise_text, as_violation, first_violation, snapshot_violation, evidence_of, shown_of, promise_line};
 
 use crate::lines::put_paragraph;
-use lab_judge::{Finding, Report};
+use lab_judge::{Finding, Grade, Report};
 use lab_reports::{Phenomenon, Requirement, Violation};
 use lab_streams::is_idle;
 use lab_table::NoMemory;
@@ -26,6 +26,16 @@ fn promise_name(requirement: Requirement) -> &'static [u8]
     }
 }
 
+/// That a requirement is broken. A record that isn't sound doesn't show that.
+fn broken_words(level: Grade) -> &'static [u8]
+    ensures { result.now ≡ broken_words level }
+{
+    match level {
+        Grade::BelowPl1 | Grade::Pl1 | Grade::Pl2 | Grade::Pl299 | Grade::Pl3 => b" broken",
+        Grade::Unsound => b" not shown: the record isn't sound",
+    }
+}
+
 /// Whether a report keeps a requirement. Where no transaction committed, nothing is shown.
 fn kept_words(requirement: Requirement, report: &Report) -> &'static [u8]
     ensures { result.now ≡ kept_words requirement report.now }
@@ -35,7 +45,7 @@ fn kept_words(requirement: Requirement, report: &Report) -> &'static [u8]
     } else if requirement.is_met(report) {
         b" kept"
     } else {
-        b" broken"
+        broken_words(report.level)
     }
 }
 
