@@ -13,4 +13,6 @@ pub mod Explanation
 pub mod PrintedParts
 pub mod Sentences
 pub mod SnapshotPart
+pub mod Promise
+pub mod Focus
 pub mod Answer

@@ -12,6 +12,7 @@ ghost use Rattle.lab_judge.specs.declared.serial.Serial.TheVariants.{NoFault};
 ghost use Rattle.lab_streams.specs.declared.ending.Ending.{Ending};
 ghost use Rattle.lab_drawing.specs.ArrowLaws.{IsArrowOf, NamesWalk};
 ghost use Rattle.lab_reports.specs.declared.phenomenon.Phenomenon.{Phenomenon};
+ghost use Rattle.lab_reports.specs.declared.requirement.Requirement.{Requirement as Required};
 ghost use Rattle.lab_reports.specs.declared.violation.Violation.{Violation as Violated};
 ghost use Rattle.lab_judge.specs.declared.places.Places.{Places as Placed};
 ghost use Rattle.lab_explain.specs.SnapshotPart.{snapshot_text};
@@ -66,6 +67,6 @@ pub fn explanation_is_short()
 
 /// `explain` has one output for each input, byte for byte: two explanations of one file are equal.
 pub fn explain_answer_unique()
-    ensures text { (input one other : List ℕ) (asked : Option Violated) (first again : Ending) → IsExplainAnswer input asked one first → IsExplainAnswer input asked other again → one ≡ other }
-    ensures ending { (input one other : List ℕ) (asked : Option Violated) (first again : Ending) → IsExplainAnswer input asked one first → IsExplainAnswer input asked other again → first ≡ again }
+    ensures text { (input one other : List ℕ) (asked : Option Violated) (required : Option Required) (first again : Ending) → IsExplainAnswer input asked required one first → IsExplainAnswer input asked required other again → one ≡ other }
+    ensures ending { (input one other : List ℕ) (asked : Option Violated) (required : Option Required) (first again : Ending) → IsExplainAnswer input asked required one first → IsExplainAnswer input asked required other again → first ≡ again }
 {}
