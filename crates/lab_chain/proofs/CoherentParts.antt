@@ -1,5 +1,5 @@
 -- A part's summary is coherent, and so is that of a run.
-use Rattle.std.{proofs.{Common.{◌≡◌, ◌≢◌, ℕ, ◌≤◌, Bool, true, false, not, ◌||◌, Option, Some, None, List, [], ◌∷◌, refl, sym, ap, ◌∙◌, subst, absurd, arith, inl, inr}, lemmas.{Bool.{cases_lt, false≢true}, List.Elements.{All-head, All-tail}}}, specs.{Prelude.{◌^◌, fold}, List.{All}, Cmp.Derive.{both_true}}}
+use Rattle.std.{proofs.{Common.{◌≡◌, ◌≢◌, ℕ, ◌≤◌, Bool, true, false, not, ◌||◌, Option, Some, None, List, [], ◌∷◌, refl, sym, ap, ◌∙◌, subst, arith, inl, inr}, lemmas.{Bool.{cases_lt, false≢true}, List.Elements.{All-head, All-tail}}}, specs.{Prelude.{◌^◌, fold}, List.{All}, Cmp.Derive.{both_true}}}
 use Rattle.lab_table.specs.{Row.{Row}, Table.{Table}}
 use Rattle.lab_history.specs.History.{History}
 use Rattle.lab_deps.specs.{KindSets.{is_anti}, Refusal.{is_uncommitted_read}, Soundness.{Stands, IsSound}, declared.{edge.Edge.{Edge}, fault.LocalFault.{LocalFault, TheVariants.{AbortedRead, IntermediateRead}}}}

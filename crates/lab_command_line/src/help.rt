@@ -32,7 +32,9 @@ be named, and one of `stock`. A name is 1 to 16 letters and underscores, and no 
 Writes the transcript to standard output: for each transaction a line with its number and its
 session, as `txn 1 T1`, each statement with the rows that it lists, as `-> (2, 20)`, and `commit`
 or `abort`; then the rows in the end. Where the input is no script, writes one line that names its
-first fault, as `line 3: NoSession`.";
+first fault, as `line 3: NoSession`.
+
+    hermitage_lab serial < examples/first_steps.txt";
 
 pub const RUN: &str = "Plays a script on an engine, and judges what its recording shows";
 
@@ -88,6 +90,9 @@ pub const COMPARED: &str =
 
 pub const REQUIRE: &str =
     "Asks for a level, or for a snapshot run, and ends with 1 where a report doesn't meet it, or nothing committed";
+
+pub const REQUIRE_SHOWN: &str =
+    "Begins with whether a level, or a snapshot run, is kept, shows what breaks it, and ends as `judge --require`";
 
 pub const JSON: &str = "Writes the report as one line of JSON";
 
@@ -198,7 +203,8 @@ input is no history file, writes one line that names its first fault.
 
     hermitage_lab picture < examples/g2_item_write_skew.json > picture.svg";
 
-pub const PHENOMENON: &str = "Draws what is found of a phenomenon in place of the serial verdict";
+pub const PHENOMENON: &str =
+    "Draws what is found of a phenomenon, or with SI the snapshot verdict, in place of the serial verdict";
 
 pub const EXPLAIN: &str = "Says in sentences what a judgement of a history file says";
 
@@ -214,7 +220,8 @@ file, writes one line that names its first fault.
 
     hermitage_lab explain < examples/g2_item_write_skew.json";
 
-pub const EXPLAINED: &str = "Explains what is found of a phenomenon in place of the whole report";
+pub const EXPLAINED: &str =
+    "Explains what is found of a phenomenon, or with SI the snapshot verdict, in place of the whole report";
 
 pub const PAGE: &str = "Shows a judgement of a history file as one HTML page";
 
@@ -228,7 +235,8 @@ history itself up to 64 KiB. Where the input is no history file, writes one line
 
     hermitage_lab page < examples/g2_item_write_skew.json > page.html";
 
-pub const PAGED: &str = "Shows what is found of a phenomenon in place of the serial verdict";
+pub const PAGED: &str =
+    "Shows what is found of a phenomenon, or with SI the snapshot verdict, in place of the serial verdict";
 
 pub const TITLE: &str =
     "What the page is to say of the history, as its database and the level asked for; at most 1,000 bytes";
@@ -236,18 +244,20 @@ pub const TITLE: &str =
 pub const SHRINK: &str = "Makes a history file smaller that shows the same";
 
 pub const SHRINK_WHOLE: &str = "\
-Makes the history of a file smaller, as long as it shows the same: that it isn't serializable, or, where the
-record is unsound, a fault of the same kind. What is left is a part of the history of which no transaction,
-no operation, no row and no entry of a view can go.
+Makes the history of a file smaller, as long as it shows the same: that it isn't serializable, with
+`--phenomenon SI` that it isn't a snapshot run, or, where the record is unsound, a fault of the same kind.
+What is left is a part of the history of which no transaction, no operation, no row and no entry of a view
+can go.
 
 Reads a history file from standard input, and writes one, of version 2, to standard output. Transactions
 keep their numbers; operations are counted anew. Where the first transactions that wrote a row go, the row
-begins as they left it. A serializable history, and one of which nothing can go, is written as it is, and
-standard error says so. Where the input is no history file, writes one line that names its first fault.
+begins as they left it. A history that doesn't show what is asked for, and one of which nothing can go, is
+written as it is, and standard error says so. Where the input is no history file, writes one line that names its first fault.
 
     hermitage_lab shrink < examples/shrinking/withdrawals.json > smaller.json
     hermitage_lab explain < smaller.json";
 
-pub const SHOWN: &str = "Keeps a phenomenon in place of the serial verdict's no";
+pub const SHOWN: &str =
+    "Keeps a phenomenon, or with SI that it isn't a snapshot run, in place of the serial verdict's no";
 
 pub const LEFT: &str = "Says on standard error how much is left, also where that is no terminal";

@@ -5,7 +5,8 @@ ghost use Rattle.lab_command_line.specs.Subcommands.{HasSubcommands, IsNamed, su
 ghost use Rattle.clap.specs.Words.{subcommand_names};
 
 use crate::arguments::{
-    choice, engines, files, flag, json_of_run, null, parts, phenomenon, requirement, rows, with_arg,
+    choice, engines, files, flag, json_of_run, null, parts, requirement, rows, shown_requirement,
+    violation, with_arg,
 };
 use crate::help;
 use crate::names::Names;
@@ -14,6 +15,11 @@ use std::alloc::{AllocError, Global};
 
 /// The version, and what the program was proved with.
 const VERSION: &str = "1.0.0, proved with rattle-kit-13, logic dac8208d650f15bf";
+
+/// The version with the licence, as `--version` prints it; `-V` prints the version alone.
+const LONG_VERSION: &str = "\
+1.0.0, proved with rattle-kit-13, logic dac8208d650f15bf
+Licence: MIT OR Apache-2.0";
 
 /// A subcommand without its own arguments.
 fn plain_command<'a>(alloc: Global, name: &'a str, about: &'a str, whole: &'a str) -> Command<'a>
@@ -132,15 +138,16 @@ fn picture_command<'a>(alloc: Global, names: &'a Names) -> Result<Command<'a>, A
     ensures { IfOk result (IsNamed (codes "picture")) }
 {
     let command = plain_command(alloc, "picture", help::PICTURE, help::PICTURE_WHOLE);
-    command.arg(phenomenon(alloc, help::PHENOMENON, names))
+    command.arg(violation(alloc, help::PHENOMENON, names))
 }
 
 /// The subcommand `explain`.
 fn explain_command<'a>(alloc: Global, names: &'a Names) -> Result<Command<'a>, AllocError>
     ensures { IfOk result (IsNamed (codes "explain")) }
 {
-    let command = plain_command(alloc, "explain", help::EXPLAIN, help::EXPLAIN_WHOLE);
-    command.arg(phenomenon(alloc, help::EXPLAINED, names))
+    let command = Ok(plain_command(alloc, "explain", help::EXPLAIN, help::EXPLAIN_WHOLE));
+    let command = with_arg(command, Ok(violation(alloc, help::EXPLAINED, names)));
+    with_arg(command, shown_requirement(alloc, names))
 }
 
 /// The subcommand `shrink`.
@@ -148,7 +155,7 @@ fn shrink_command<'a>(alloc: Global, names: &'a Names) -> Result<Command<'a>, Al
     ensures { IfOk result (IsNamed (codes "shrink")) }
 {
     let command = Ok(plain_command(alloc, "shrink", help::SHRINK, help::SHRINK_WHOLE));
-    let command = with_arg(command, Ok(phenomenon(alloc, help::SHOWN, names)));
+    let command = with_arg(command, Ok(violation(alloc, help::SHOWN, names)));
     with_arg(command, Ok(flag(alloc, "progress", help::LEFT)))
 }
 
@@ -157,7 +164,8 @@ fn page_command<'a>(alloc: Global, names: &'a Names) -> Result<Command<'a>, Allo
     ensures { IfOk result (IsNamed (codes "page")) }
 {
     let command = Ok(plain_command(alloc, "page", help::PAGE, help::PAGE_WHOLE));
-    let command = with_arg(command, Ok(phenomenon(alloc, help::PAGED, names)));
+    let command = with_arg(command, Ok(violation(alloc, help::PAGED, names)));
+    let command = with_arg(command, shown_requirement(alloc, names));
     let title = Arg::new(alloc, "title")
         .long("title")
         .help(help::TITLE)
@@ -172,6 +180,7 @@ fn program<'a>(alloc: Global) -> Command<'a>
 {
     Command::new(alloc, "hermitage_lab")
         .version(VERSION)
+        .long_version(LONG_VERSION)
         .about(help::ABOUT)
         .after_help(help::STATUSES)
         .subcommand_required(true)

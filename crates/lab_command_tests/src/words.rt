@@ -6,7 +6,7 @@ use crate::run::{WITHOUT_SESSION, WITHOUT_SESSION_FAULT};
 use lab_engine::Level;
 use lab_levels::LEVELS;
 use lab_matrix::CaseName;
-use lab_reports::Phenomenon;
+use lab_reports::{Phenomenon, Violation};
 use std::test::Fail;
 
 /// Of a history without transactions there is nothing but the heading.
@@ -36,7 +36,8 @@ pub const NO_PICTURE: Case = Case {
 
 pub const EXPLANATION: Case = Case {
     subcommand: Subcommand::Explain {
-        asked: Some(Phenomenon::G1b),
+        asked: Some(Violation::Phenomenon(Phenomenon::G1b)),
+        required: None,
     },
     input: INTERMEDIATE,
     text: b"G1b (intermediate read): present: statement 1 of T2 (select * from test) saw row 1 as 101 (the\n    version of statement 1 of T1), not the last one of its transaction.\nWhat each line says, and what a no doesn't: docs/REPORT.md.\n",
@@ -44,7 +45,10 @@ pub const EXPLANATION: Case = Case {
 };
 
 pub const NO_EXPLANATION: Case = Case {
-    subcommand: Subcommand::Explain { asked: None },
+    subcommand: Subcommand::Explain {
+        asked: None,
+        required: None,
+    },
     input: CUT,
     text: CUT_FAULT,
     status: 2,
@@ -53,7 +57,7 @@ pub const NO_EXPLANATION: Case = Case {
 /// Row 2 goes, which no statement needs; the two writes and the read of the first of them stay.
 pub const SMALLER: Case = Case {
     subcommand: Subcommand::Shrink {
-        asked: Some(Phenomenon::G1b),
+        asked: Some(Violation::Phenomenon(Phenomenon::G1b)),
     },
     input: INTERMEDIATE,
     text: br#"{"end":[["test",1,11]],"format":"hermitage-history","initial":[["test",1,10]],"installed":[["test",1,[1]]],"transactions":[{"no":1,"ops":[{"rows":[["test",1,10]],"statement":"update test set value = 101 where id = 1","view":[],"writes":[["test",1,101]]},{"rows":[["test",1,101]],"statement":"update test set value = 11 where id = 1","view":[["test",1,1,1]],"writes":[["test",1,11]]}],"outcome":"committed"},{"no":2,"ops":[{"rows":[["test",1,101]],"statement":"select * from test","view":[["test",1,1,1]],"writes":[]}],"outcome":"committed"}],"version":2}"#,

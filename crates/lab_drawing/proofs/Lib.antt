@@ -9,6 +9,9 @@ mod NamedInstalls
 pub mod Escapes
 mod TitledWalks
 mod Orderables
+mod SameTests
+mod GrownArrows
+mod FewCommitted
 mod RowEntries
 mod WrittenRows
 mod ReadForms
@@ -19,3 +22,4 @@ mod KnownOrders
 mod ReaderForms
 mod NicknameForms
 pub mod SaidNames
+pub mod LeastCauses

@@ -1,11 +1,12 @@
 //! The rows that a transaction wrote.
 
-ghost use Rattle.std.specs.Prelude.{◌≡◌, ◌++◌, IfOk, OnOk};
+ghost use Rattle.std.specs.Prelude.{◌≡◌, ◌++◌, map, filter, IfOk, OnOk};
 ghost use Rattle.lab_table.specs.Row.{row_test};
+ghost use Rattle.lab_history.specs.VersionName.{new_states};
 ghost use Rattle.lab_drawing.specs.Written.{is_last, last_rows, rows_by, is_beside, has_two};
 
 use crate::states::ops_of;
-use lab_history::{History, Op};
+use lab_history::{History, Op, State};
 use lab_table::{NoMemory, RowName, TxnNo};
 use std::alloc::Global;
 
@@ -19,8 +20,26 @@ fn is_last(history: &History, txn: TxnNo, number: u32, row: RowName) -> bool
     }
 }
 
-/// Appends the rows that an operation is the last to write.
+/// Appends those of some written rows whose last write is in the operation with this number.
 fn put_last(
+    rows: &mut Vec<RowName>,
+    history: &History,
+    txn: TxnNo,
+    number: u32,
+    written: &[(RowName, State)],
+) -> Result<(), NoMemory>
+    ensures { OnOk result (rows.new.items ≡ rows.old.items ++ filter (is_last history.now txn number) (map (λ e. e.0) (new_states written.now))) }
+{
+    for (row, _) in written {
+        if is_last(history, txn, number, *row) {
+            rows.push(*row)?;
+        }
+    }
+    Ok(())
+}
+
+/// Appends the rows that an operation is the last to write.
+fn put_last_of(
     rows: &mut Vec<RowName>,
     history: &History,
     txn: TxnNo,
@@ -29,12 +48,7 @@ fn put_last(
 ) -> Result<(), NoMemory>
     ensures { OnOk result (rows.new.items ≡ rows.old.items ++ last_rows history.now txn number op.now) }
 {
-    for (row, _) in op.writes.entries() {
-        if is_last(history, txn, number, *row) {
-            rows.push(*row)?;
-        }
-    }
-    Ok(())
+    put_last(rows, history, txn, number, op.writes.entries())
 }
 
 /// The rows that a transaction wrote, each once.
@@ -43,7 +57,7 @@ pub fn rows_by(alloc: Global, history: &History, txn: TxnNo) -> Result<Vec<RowNa
 {
     let mut rows = Vec::new(alloc);
     for (index, op) in ops_of(history, txn).iter().enumerate() {
-        put_last(&mut rows, history, txn, index as u32 + 1, op)?;
+        put_last_of(&mut rows, history, txn, index as u32 + 1, op)?;
     }
     Ok(rows)
 }

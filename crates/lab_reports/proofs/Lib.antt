@@ -5,3 +5,4 @@ pub mod Paths
 pub mod Spans
 pub mod WritableTree
 pub mod RequiredLevels
+mod ViolationNames

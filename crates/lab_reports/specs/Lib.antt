@@ -1,4 +1,5 @@
 pub mod Phenomena
+pub mod Violations
 pub mod Requirements
 pub mod RequirementLaws
 pub mod Shortfall

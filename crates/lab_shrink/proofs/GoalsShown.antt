@@ -1,16 +1,18 @@
 -- What it is of a history that it shows a goal.
-use Rattle.std.{proofs.Common.{◌≡◌, ◌⊎◌, inl, inr, ℕ, Bool, true, false, cond, Option, Some, None, List, refl, sym, subst}, specs.Prelude.{◌↔◌}}
+use Rattle.std.{proofs.Common.{◌≡◌, ◌⊎◌, inl, inr, ℕ, Bool, true, false, cond, Option, Some, None, List, refl, sym, ap, subst}, specs.Prelude.{◌↔◌}}
 use Rattle.lab_table.specs.Row.{Row}
 use Rattle.lab_history.specs.History.{History}
 use Rattle.lab_deps.specs.{FaultOrder.{IsFirst}, Refusal.{is_uncommitted_read}, Soundness.{IsSound}, declared.{edge.Edge.{Edge}, fault.LocalFault.{LocalFault}}}
 use Rattle.lab_deps.specs.declared.fault.LocalFault.TheVariants as fault
 use Rattle.lab_judge.specs.Findings as found
-use Rattle.lab_judge.specs.Judgement.{FindsWalk, FindsFault, JudgesAll, JudgesAtRead, Judges, IsExactJudgement, IsSerialVerdict, RestsOnOrder}
+use Rattle.lab_judge.specs.Judgement.{FindsWalk, FindsFault, JudgesAll, JudgesAtRead, Judges, IsExactJudgement, IsSerialVerdict, IsSnapshotVerdict, SameFault, RestsOnOrder}
 use Rattle.lab_judge.specs.Phenomena.{IsClosedWalk, IsG0, IsG1c, IsGSingle, IsG2Item, IsG2}
-use Rattle.lab_judge.specs.declared.{report.{Finding.{Finding, TheVariants.{Absent, Walk, At, NotJudged}}, Grade.{Grade}, Report.{Report}}, serial.Serial.{Serial}}
+use Rattle.lab_judge.specs.declared.{places.Places.{Places}, report.{Finding.{Finding, TheVariants.{Absent, Walk, At, NotJudged}}, Grade.{Grade}, Report.{Report}}, serial.Serial.{Serial}}
+use Rattle.lab_judge.specs.declared.places.Places.TheVariants as places
 use Rattle.lab_judge.specs.declared.serial.Serial.TheVariants as serial
-use Rattle.lab_reports.specs.{Phenomena.{finding_of}, Shortfall.{is_present}, declared.phenomenon.Phenomenon.{Phenomenon, TheVariants.{G0, G1a, G1b, G1c, GSingle, G2Item, G2}}}
-use Rattle.lab_shrink.specs.{Goals.{kind_of, verdict_goal, goal_of, is_of_sound, IsNoOrder, IsFaultOf, IsShownBy, Shows, HasWalk, HasFault, Has}, declared.goal.{FaultKind.{FaultKind}, Goal.{Goal, TheVariants.{NoOrder, Fault, Present}}}}
+use Rattle.lab_reports.specs.{Phenomena.{finding_of}, Shortfall.{is_present}, declared.{phenomenon.Phenomenon.{Phenomenon, TheVariants.{G0, G1a, G1b, G1c, GSingle, G2Item, G2}}, violation.Violation.{Violation}}}
+use Rattle.lab_reports.specs.declared.violation.Violation.TheVariants as violation
+use Rattle.lab_shrink.specs.{Goals.{kind_of, verdict_goal, snapshot_goal, violation_goal, goal_of, is_of_sound, IsNoOrder, IsNoTimestamps, IsFaultOf, IsShownBy, Shows, HasWalk, HasCircle, HasFault, Has}, declared.goal.{FaultKind.{FaultKind}, Goal.{Goal, TheVariants.{NoOrder, Fault, Present, NoTimestamps}}}}
 
 -- ---- verdicts
 
@@ -31,6 +33,15 @@ fault_in h kind (serial.NoCycle walk) verdict shown = absurd shown
 
 pub fault_is_so : (h : History) (kind : FaultKind) → Shows h (Fault kind) → (f : LocalFault) × IsFirst h f × (kind_of f ≡ kind)
 fault_is_so h kind shows = fault_in h kind shows.report.serial shows.judgement.judgement.serial shows.shown
+
+-- a no of the snapshot verdict by a cycle
+no_timestamps_in : (h : History) (s : Places) → IsSnapshotVerdict h s → IsNoTimestamps s → IsSound h × HasCircle h
+no_timestamps_in h (places.Yes spans) verdict shown = absurd shown
+no_timestamps_in h (places.NoFault f) verdict shown = absurd shown
+no_timestamps_in h (places.NoCycle points) verdict shown = (verdict.0, (points, verdict.1))
+
+pub no_timestamps_is_so : (h : History) → Shows h NoTimestamps → IsSound h × HasCircle h
+no_timestamps_is_so h shows = no_timestamps_in h shows.report.snapshot shows.judgement.judgement.snapshot shows.shown
 
 -- ---- phenomena
 
@@ -118,12 +129,32 @@ phenomenon_shows report p aim true there goal =
     subst (λ a. IsShownBy a report) same (there, (λ sound. sound))
 phenomenon_shows report p aim false there goal = absurd cc
 
-goal_shows : (report : Report) (asked : Option Phenomenon) (aim : Goal) → goal_of report asked ≡ Some aim → IsShownBy aim report
-goal_shows report None aim goal = verdict_shows report report.serial aim refl goal
-goal_shows report (Some p) aim goal = phenomenon_shows report p aim (is_present (finding_of p report)) refl goal
+-- the fault that the snapshot verdict names is the serial one's
+same_kind : (f : LocalFault) (s : Serial) → SameFault s (places.NoFault f) → IsFaultOf (kind_of f) s
+same_kind f (serial.Yes order) same = absurd same
+same_kind f (serial.NoFault g) same = ap kind_of same
+same_kind f (serial.NoCycle walk) same = absurd same
 
-pub judged_goal : (h : History) (report : Report) (asked : Option Phenomenon) (aim : Goal) → IsExactJudgement h report → goal_of report asked ≡ Some aim → Shows h aim
-judged_goal h report asked aim exact goal = record { report = report; judgement = exact; shown = goal_shows report asked aim goal }
+-- the goal of a snapshot verdict is shown by it
+snapshot_shows : (report : Report) (s : Places) (aim : Goal) → report.snapshot ≡ s → SameFault report.serial s → snapshot_goal s ≡ Some aim → IsShownBy aim report
+snapshot_shows report (places.Yes spans) aim is same goal = absurd cc
+snapshot_shows report (places.NoFault f) aim is same goal =
+    let named : Fault (kind_of f) ≡ aim = cc in
+    subst (λ a. IsShownBy a report) named (same_kind f report.serial same)
+snapshot_shows report (places.NoCycle points) aim is same goal =
+    let named : NoTimestamps ≡ aim = cc in
+    subst (λ a. IsShownBy a report) named (subst IsNoTimestamps (sym is) tt)
+
+violation_shows : (report : Report) (v : Violation) (aim : Goal) → SameFault report.serial report.snapshot → violation_goal report v ≡ Some aim → IsShownBy aim report
+violation_shows report (violation.Phenomenon p) aim same goal = phenomenon_shows report p aim (is_present (finding_of p report)) refl goal
+violation_shows report violation.Snapshot aim same goal = snapshot_shows report report.snapshot aim refl same goal
+
+goal_shows : (report : Report) (asked : Option Violation) (aim : Goal) → SameFault report.serial report.snapshot → goal_of report asked ≡ Some aim → IsShownBy aim report
+goal_shows report None aim same goal = verdict_shows report report.serial aim refl goal
+goal_shows report (Some v) aim same goal = violation_shows report v aim same goal
+
+pub judged_goal : (h : History) (report : Report) (asked : Option Violation) (aim : Goal) → IsExactJudgement h report → goal_of report asked ≡ Some aim → Shows h aim
+judged_goal h report asked aim exact goal = record { report = report; judgement = exact; shown = goal_shows report asked aim exact.judgement.fault goal }
 
 -- ---- soundness
 
@@ -153,10 +184,25 @@ phenomenon_stays p in_sound true aim part says goal shows =
     verdict_sound part there.report.serial there.judgement.judgement.serial there.judgement.order (there.shown.1 says)
 phenomenon_stays p in_sound false aim part says goal shows = absurd cc
 
-goal_stays : (report : Report) (asked : Option Phenomenon) (aim : Goal) (part : History) → is_of_sound report.serial ≡ true → goal_of report asked ≡ Some aim → Shows part aim → IsSound part
-goal_stays report None aim part says goal shows = verdict_stays report.serial aim part says goal shows
-goal_stays report (Some p) aim part says goal shows = phenomenon_stays p (is_of_sound report.serial) (is_present (finding_of p report)) aim part says goal shows
+-- a snapshot verdict of a sound history names no fault
+snapshot_stays : (s : Places) (aim : Goal) (h part : History) → IsSnapshotVerdict h s → IsSound h → snapshot_goal s ≡ Some aim → Shows part aim → IsSound part
+snapshot_stays (places.Yes spans) aim h part verdict sound goal shows = absurd cc
+snapshot_stays (places.NoFault f) aim h part verdict sound goal shows = absurd (sound f verdict.0)
+snapshot_stays (places.NoCycle points) aim h part verdict sound goal shows =
+    let same : aim ≡ NoTimestamps = cc in
+    (no_timestamps_is_so part (subst (Shows part) same shows)).0
 
-pub stays_sound : (h part : History) (report : Report) (asked : Option Phenomenon) (aim : Goal) → IsExactJudgement h report → goal_of report asked ≡ Some aim → IsSound h → Shows part aim → IsSound part
-stays_sound h part report asked aim exact goal sound shows =
-    goal_stays report asked aim part (sound_verdict h report.serial exact.judgement.serial sound) goal shows
+module _ (h part : History) (report : Report) (aim : Goal) (exact : IsExactJudgement h report) (sound : IsSound h) (shows : Shows part aim) where
+  says : is_of_sound report.serial ≡ true
+  says = sound_verdict h report.serial exact.judgement.serial sound
+
+  violation_stays : (v : Violation) → violation_goal report v ≡ Some aim → IsSound part
+  violation_stays (violation.Phenomenon p) goal = phenomenon_stays p (is_of_sound report.serial) (is_present (finding_of p report)) aim part says goal shows
+  violation_stays violation.Snapshot goal = snapshot_stays report.snapshot aim h part exact.judgement.snapshot sound goal shows
+
+  goal_stays : (asked : Option Violation) → goal_of report asked ≡ Some aim → IsSound part
+  goal_stays None goal = verdict_stays report.serial aim part says goal shows
+  goal_stays (Some v) goal = violation_stays v goal
+
+pub stays_sound : (h part : History) (report : Report) (asked : Option Violation) (aim : Goal) → IsExactJudgement h report → goal_of report asked ≡ Some aim → IsSound h → Shows part aim → IsSound part
+stays_sound h part report asked aim exact goal sound shows = goal_stays h part report aim exact sound shows asked goal

@@ -1,4 +1,5 @@
--- What a history must still show while it is made smaller: a no by a cycle, a fault of a kind, or a phenomenon.
+-- What a history must still show while it is made smaller: a no of a verdict by a cycle, a fault of a kind, or a
+-- phenomenon.
 --
 -- Origin: test cases and their outcomes: Zeller and Hildebrandt, "Simplifying and Isolating Failure-Inducing Input"
 -- (2002); the goals are this project's profile.
@@ -14,6 +15,10 @@ use Rattle.lab_deps.specs.declared.fault.LocalFault.{LocalFault}
 use Rattle.lab_deps.specs.declared.fault.LocalFault.TheVariants as fault
 use Rattle.lab_judge.specs.Judgement.{IsExactJudgement}
 use Rattle.lab_judge.specs.Phenomena.{IsG0, IsG1c, IsGSingle, IsG2Item, IsG2}
+use Rattle.lab_judge.specs.Places.{IsCircle}
+use Rattle.lab_judge.specs.declared.places.Places.{Places}
+use Rattle.lab_judge.specs.declared.places.Places.TheVariants as places
+use Rattle.lab_judge.specs.declared.places.Point.{Point}
 use Rattle.lab_judge.specs.declared.report.Report.{Report}
 use Rattle.lab_judge.specs.declared.serial.Serial.{Serial}
 use Rattle.lab_judge.specs.declared.serial.Serial.TheVariants as serial
@@ -21,10 +26,12 @@ use Rattle.lab_reports.specs.Phenomena.{finding_of}
 use Rattle.lab_reports.specs.Shortfall.{is_present}
 use Rattle.lab_reports.specs.declared.phenomenon.Phenomenon.{Phenomenon}
 use Rattle.lab_reports.specs.declared.phenomenon.Phenomenon.TheVariants as phenomenon
+use Rattle.lab_reports.specs.declared.violation.Violation.{Violation}
+use Rattle.lab_reports.specs.declared.violation.Violation.TheVariants as violation
 use Rattle.lab_shrink.specs.declared.goal.FaultKind.{FaultKind}
 use Rattle.lab_shrink.specs.declared.goal.FaultKind.TheVariants as kinds
 use Rattle.lab_shrink.specs.declared.goal.Goal.{Goal}
-use Rattle.lab_shrink.specs.declared.goal.Goal.TheVariants.{NoOrder, Fault, Present}
+use Rattle.lab_shrink.specs.declared.goal.Goal.TheVariants.{NoOrder, Fault, Present, NoTimestamps}
 
 -- ---- goals of a report
 
@@ -49,10 +56,21 @@ verdict_goal (serial.Yes order) = None
 verdict_goal (serial.NoFault f) = Some (Fault (kind_of f))
 verdict_goal (serial.NoCycle walk) = Some NoOrder
 
--- what a report shows: the no of its serial verdict, or a phenomenon that is there
-abbrev pub goal_of : Report → Option Phenomenon → Option Goal
+-- what a snapshot verdict's no shows
+abbrev pub snapshot_goal : Places → Option Goal
+snapshot_goal (places.Yes spans) = None
+snapshot_goal (places.NoFault f) = Some (Fault (kind_of f))
+snapshot_goal (places.NoCycle points) = Some NoTimestamps
+
+-- what a report shows of a violation: that the phenomenon is there, or the no of its snapshot verdict
+abbrev pub violation_goal : Report → Violation → Option Goal
+violation_goal report (violation.Phenomenon p) = cond (is_present (finding_of p report)) (Some (Present p (is_of_sound report.serial))) None
+violation_goal report violation.Snapshot = snapshot_goal report.snapshot
+
+-- what a report shows: the no of its serial verdict, or a violation
+abbrev pub goal_of : Report → Option Violation → Option Goal
 goal_of report None = verdict_goal report.serial
-goal_of report (Some p) = cond (is_present (finding_of p report)) (Some (Present p (is_of_sound report.serial))) None
+goal_of report (Some v) = violation_goal report v
 
 -- ---- which reports show a goal
 
@@ -68,11 +86,18 @@ IsFaultOf kind (serial.Yes order) = ⊥
 IsFaultOf kind (serial.NoFault f) = kind_of f ≡ kind
 IsFaultOf kind (serial.NoCycle walk) = ⊥
 
+-- the snapshot verdict is a no by a cycle
+abbrev pub IsNoTimestamps : Places → Type 0
+IsNoTimestamps (places.Yes spans) = ⊥
+IsNoTimestamps (places.NoFault f) = ⊥
+IsNoTimestamps (places.NoCycle points) = ⊤
+
 -- a report shows a goal: a no by a cycle, a fault of the same kind, or the phenomenon, of a sound history where that is asked for
 abbrev pub IsShownBy : Goal → Report → Type 0
 IsShownBy NoOrder report = IsNoOrder report.serial
 IsShownBy (Fault kind) report = IsFaultOf kind report.serial
 IsShownBy (Present p in_sound) report = (is_present (finding_of p report) ≡ true) × (in_sound ≡ true → is_of_sound report.serial ≡ true)
+IsShownBy NoTimestamps report = IsNoTimestamps report.snapshot
 
 -- a history shows a goal: the judgement of it does
 pub record Shows (h : History) (goal : Goal) : Type 0 where
@@ -85,6 +110,10 @@ pub record Shows (h : History) (goal : Goal) : Type 0 where
 -- there is a list of dependencies of this kind
 abbrev pub HasWalk : (List Edge → Type 0) → Type 0
 HasWalk is_one = (walk : List Edge) × is_one walk
+
+-- there is a cycle of starts and commits
+abbrev pub HasCircle : History → Type 0
+HasCircle h = (points : List Point) × IsCircle h points
 
 -- a fault made so of some place is true of the history
 abbrev pub HasFault : History → (ℕ → ℕ → Row → LocalFault) → Type 0

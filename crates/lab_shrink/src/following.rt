@@ -5,7 +5,8 @@ ghost use Rattle.lab_cut.specs.PartOf.{IsPartOf};
 ghost use Rattle.lab_shrink.specs.Smaller.{IsSmaller};
 
 use crate::goal::Goal;
-use crate::lead::{Lead, leads_of};
+use crate::lead::Lead;
+use crate::leads::leads_of;
 use crate::onward::smallest;
 use crate::trial::tried;
 use crate::window::kept_with;

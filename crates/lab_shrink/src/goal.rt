@@ -2,11 +2,11 @@
 
 ghost use Rattle.std.specs.Prelude.{◌≡◌, ◌↔◌, IsTrue};
 ghost use Rattle.lab_reports.specs.Shortfall.{is_present};
-ghost use Rattle.lab_shrink.specs.Goals.{kind_of, is_of_sound, goal_of, verdict_goal, IsFaultOf, IsShownBy};
+ghost use Rattle.lab_shrink.specs.Goals.{kind_of, is_of_sound, goal_of, verdict_goal, snapshot_goal, violation_goal, IsFaultOf, IsShownBy};
 
 use lab_deps::{FaultParts, LocalFault, OpFault, RowFault};
-use lab_judge::{Finding, Report, Serial};
-use lab_reports::Phenomenon;
+use lab_judge::{Finding, Places, Report, Serial};
+use lab_reports::{Phenomenon, Violation};
 
 /// A kind of fault: at an operation and a row, or at a row.
 #[derive(Clone, Copy, Debug, PartialEq, Eq)]
@@ -27,6 +27,8 @@ pub enum Goal {
         phenomenon: Phenomenon,
         in_sound: bool,
     },
+    /// The history is sound, and no start and commit timestamps of its transactions make it a snapshot run.
+    NoTimestamps,
 }
 
 impl FaultKind {
@@ -76,22 +78,44 @@ fn verdict_goal(serial: &Serial) -> Option<Goal>
     }
 }
 
+/// What the no of a snapshot verdict shows.
+fn snapshot_goal(places: &Places) -> Option<Goal>
+    ensures { result ≡ snapshot_goal places.now }
+{
+    match places {
+        Places::Yes(_) => None,
+        Places::NoFault(fault) => Some(Goal::Fault(FaultKind::of(*fault))),
+        Places::NoCycle(_) => Some(Goal::NoTimestamps),
+    }
+}
+
+/// What a report shows of a violation.
+fn violation_goal(report: &Report, violation: Violation) -> Option<Goal>
+    ensures { result ≡ violation_goal report.now violation }
+{
+    let Violation::Phenomenon(phenomenon) = violation else {
+        return snapshot_goal(&report.snapshot);
+    };
+    if is_present(phenomenon.found_in(report)) {
+        Some(Goal::Present {
+            phenomenon,
+            in_sound: is_of_sound(&report.serial),
+        })
+    } else {
+        None
+    }
+}
+
 impl Goal {
-    /// Returns what a report shows: the no of its serial verdict, by a cycle or by the kind of a fault, or the
-    /// phenomenon that is asked for. Returns `None` if the verdict is yes, or the phenomenon is absent.
-    pub fn of(report: &Report, asked: Option<Phenomenon>) -> Option<Goal>
+    /// Returns what a report shows: the no of its serial verdict, by a cycle or by the kind of a fault, or the violation
+    /// that is asked for. That is a phenomenon, or the no of the snapshot verdict, by a cycle or by the kind of a fault.
+    /// Returns `None` if the verdict is yes, or the phenomenon is absent.
+    pub fn of(report: &Report, asked: Option<Violation>) -> Option<Goal>
         ensures { result ≡ goal_of report.now asked }
     {
-        let Some(phenomenon) = asked else {
-            return verdict_goal(&report.serial);
-        };
-        if is_present(phenomenon.found_in(report)) {
-            Some(Goal::Present {
-                phenomenon,
-                in_sound: is_of_sound(&report.serial),
-            })
-        } else {
-            None
+        match asked {
+            None => verdict_goal(&report.serial),
+            Some(violation) => violation_goal(report, violation),
         }
     }
 
@@ -109,6 +133,7 @@ impl Goal {
                 is_present(phenomenon.found_in(report))
                     && (!in_sound || is_of_sound(&report.serial))
             }
+            Goal::NoTimestamps => matches!(report.snapshot, Places::NoCycle(_)),
         }
     }
 }

@@ -1,11 +1,9 @@
-//! What a judgement names: mostly, with what that needs, all of a history that has to stay.
+//! What a cycle or a fault names: mostly, with what that needs, all of a history that has to stay.
 
-use crate::goal::Goal;
 use crate::named::put_in_order;
 use lab_deps::{Edge, FaultParts, LocalFault};
 use lab_history::{History, Op, VersionName};
-use lab_judge::{Finding, Report, Serial, judge};
-use lab_reports::Phenomenon;
+use lab_judge::Finding;
 use lab_table::{NoMemory, RowName, TxnNo};
 use std::alloc::Global;
 
@@ -73,7 +71,7 @@ fn rows_beside(alloc: Global, walk: &[Edge], txn: TxnNo) -> Result<Vec<RowBeside
 
 /// What a walk names: the rows of its dependencies, and what its transactions did first with them, or all that they did
 /// with them where `is_each` says so.
-fn lead_of_walk(
+pub fn lead_of_walk(
     alloc: Global,
     history: &History,
     walk: &[Edge],
@@ -161,7 +159,11 @@ fn lead_of_row(alloc: Global, history: &History, row: RowName) -> Result<Lead, N
 }
 
 /// What a fault names.
-fn lead_of_fault(alloc: Global, history: &History, fault: LocalFault) -> Result<Lead, NoMemory> {
+pub fn lead_of_fault(
+    alloc: Global,
+    history: &History,
+    fault: LocalFault,
+) -> Result<Lead, NoMemory> {
     match fault.parts() {
         FaultParts::Operation { txn, op, row, .. } => {
             let place = op.saturating_sub(1) as usize;
@@ -173,7 +175,7 @@ fn lead_of_fault(alloc: Global, history: &History, fault: LocalFault) -> Result<
 }
 
 /// What a finding names, if it is one.
-fn lead_of_finding(
+pub fn lead_of_finding(
     alloc: Global,
     history: &History,
     finding: &Finding,
@@ -188,71 +190,4 @@ fn lead_of_finding(
         }
         Finding::Absent | Finding::NotJudged => Ok(None),
     }
-}
-
-/// The cycle of a finding if it has fewer dependencies than this one, else this one.
-fn shorter<'a>(walk: &'a [Edge], finding: &'a Finding) -> &'a [Edge] {
-    match finding {
-        Finding::Walk(found) if found.as_slice().len() < walk.len() => found.as_slice(),
-        _ => walk,
-    }
-}
-
-/// The shortest of the cycles that a report has: that of its serial verdict, or of a phenomenon that is present.
-fn shortest<'a>(report: &'a Report, walk: &'a [Edge]) -> &'a [Edge] {
-    let mut least = walk;
-    for phenomenon in Phenomenon::ALL {
-        least = shorter(least, phenomenon.found_in(report));
-    }
-    least
-}
-
-/// What a report names where it shows a goal. A verdict's cycle may be long although a short one shows the problem, so
-/// the shortest of all cycles is named.
-fn lead_of(
-    alloc: Global,
-    history: &History,
-    report: &Report,
-    goal: Goal,
-    is_each: bool,
-) -> Result<Option<Lead>, NoMemory> {
-    if let Goal::Present { phenomenon, .. } = goal {
-        return lead_of_finding(alloc, history, phenomenon.found_in(report), is_each);
-    }
-    match &report.serial {
-        Serial::Yes(_) => Ok(None),
-        Serial::NoFault(fault) => Ok(Some(lead_of_fault(alloc, history, *fault)?)),
-        Serial::NoCycle(walk) => {
-            let walk = shortest(report, walk.as_slice());
-            Ok(Some(lead_of_walk(alloc, history, walk, is_each)?))
-        }
-    }
-}
-
-/// Adds a lead, if there is one and it names other operations than the last one.
-fn push_lead(leads: &mut Vec<Lead>, lead: Option<Lead>) -> Result<(), NoMemory> {
-    let Some(lead) = lead else {
-        return Ok(());
-    };
-    let is_known = match leads.last() {
-        Some(last) => last.named.as_slice() == lead.named.as_slice(),
-        None => false,
-    };
-    if is_known {
-        drop(lead);
-        return Ok(());
-    }
-    leads.push(lead)?;
-    Ok(())
-}
-
-/// What a judgement of a history names where it shows a goal: what is named of what transactions did first, and then,
-/// where that is more, what is named of all that they did.
-pub fn leads_of(alloc: Global, history: &History, goal: Goal) -> Result<Vec<Lead>, NoMemory> {
-    let report = judge(alloc, history)?;
-    let mut leads = Vec::new(alloc);
-    push_lead(&mut leads, lead_of(alloc, history, &report, goal, false)?)?;
-    push_lead(&mut leads, lead_of(alloc, history, &report, goal, true)?)?;
-    drop(report);
-    Ok(leads)
 }

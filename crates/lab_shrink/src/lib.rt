@@ -1,19 +1,21 @@
 //! Smaller histories that show the same anomaly.
 //!
-//! A history has a [`Goal`]: that it isn't serializable, a kind of fault, or a phenomenon. [`shrink`] removes
-//! transactions, operations, rows and view entries, as long as the rest shows the goal, and returns a part of the
-//! history from which nothing more can be removed. The proved judgement decides whether a part shows the goal. Which
-//! parts are tried, and in which order, isn't promised. Functions that allocate return `NoMemory` if an allocation
-//! fails.
+//! A history has a [`Goal`]: that it isn't serializable, that it isn't a snapshot run, a kind of fault, or a phenomenon.
+//! [`shrink`] removes transactions, operations, rows and view entries, as long as the rest shows the goal, and returns a
+//! part of the history from which nothing more can be removed. The proved judgement decides whether a part shows the
+//! goal. Which parts are tried, and in which order, isn't promised. Functions that allocate return `NoMemory` if an
+//! allocation fails.
 #![tactic(auto)]
 
 mod block;
+mod cycle;
 mod following;
 mod gathering;
 mod goal;
 mod known;
 mod laws;
 mod lead;
+mod leads;
 mod measure;
 mod named;
 mod needs;

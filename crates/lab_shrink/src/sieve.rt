@@ -1,9 +1,10 @@
 //! What needn't be judged.
 //!
-//! Where a cycle of a sound history is wanted, most blocks can be told to be needed without a judgement: what is left without
-//! them isn't sound, or no dependencies can lead back there. Each dependency at a row leads forward along the row's versions,
-//! from those who wrote or saw an earlier one to those who wrote or saw a later one, so the arrows that are looked at here
-//! are at least those of what is left. Nothing is promised: a block that is let through is judged.
+//! A goal that is a cycle needs a sound history and a cycle of dependencies; a cycle of starts and commits goes along one,
+//! too. So most blocks can be told to be needed without a judgement: what is left without them isn't sound, or no
+//! dependencies can lead back there. Each dependency at a row leads forward along the row's versions, from those who wrote
+//! or saw an earlier one to those who wrote or saw a later one, so the arrows that are looked at here are at least those of
+//! what is left. Nothing is promised: a block that is let through is judged.
 
 use crate::block::{Block, Sort};
 use crate::gathering::{Touches, touches_of};
@@ -169,7 +170,7 @@ impl Sieve {
     /// A sieve that lets all through, and may come to know more where a goal wants a cycle of a sound history.
     pub fn of(goal: Goal) -> Sieve {
         let is_used = match goal {
-            Goal::NoOrder => true,
+            Goal::NoOrder | Goal::NoTimestamps => true,
             Goal::Fault(_) => false,
             Goal::Present { in_sound, .. } => in_sound,
         };

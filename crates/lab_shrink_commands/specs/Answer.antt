@@ -7,7 +7,7 @@ use Rattle.lab_history_file.specs.HistoryFile.{HoldsHistory}
 use Rattle.lab_history_file.specs.Tree.{tree_of}
 use Rattle.lab_judge.specs.Judgement.{IsExactJudgement}
 use Rattle.lab_judge.specs.declared.report.Report.{Report}
-use Rattle.lab_reports.specs.declared.phenomenon.Phenomenon.{Phenomenon}
+use Rattle.lab_reports.specs.declared.violation.Violation.{Violation}
 use Rattle.lab_shrink.specs.Goals.{goal_of}
 use Rattle.lab_shrink.specs.Smaller.{IsSmaller}
 use Rattle.lab_shrink.specs.declared.goal.Goal.{Goal}
@@ -17,7 +17,7 @@ use Rattle.lab_streams.specs.declared.ending.Ending.TheVariants.{Done}
 use Rattle.lab_streams.specs.declared.reporting.Format.TheVariants.{Lines}
 
 -- what a judgement of a history shows of what is asked for
-pub record IsGoalOf (asked : Option Phenomenon) (history : History) (goal : Option Goal) : Type 0 where
+pub record IsGoalOf (asked : Option Violation) (history : History) (goal : Option Goal) : Type 0 where
   pub report : Report
   pub judgement : IsExactJudgement history report
   pub shown : goal_of report asked ≡ goal
@@ -28,7 +28,7 @@ pub record IsFileOf (history : History) (text : List ℕ) : Type 0 where
   pub held : HoldsHistory text history
 
 -- the text is the file of a part of the history that shows what a judgement of the history shows
-pub record IsSmallerFile (asked : Option Phenomenon) (history : History) (text : List ℕ) : Type 0 where
+pub record IsSmallerFile (asked : Option Violation) (history : History) (text : List ℕ) : Type 0 where
   pub goal : Goal
   pub shown : IsGoalOf asked history (Some goal)
   pub part : History
@@ -36,14 +36,14 @@ pub record IsSmallerFile (asked : Option Phenomenon) (history : History) (text :
   pub file : IsFileOf part text
 
 -- the text is such a file, or the input itself
-pub data IsShrunk (asked : Option Phenomenon) (input : List ℕ) (history : History) (text : List ℕ) : Type 0 where
+pub data IsShrunk (asked : Option Violation) (input : List ℕ) (history : History) (text : List ℕ) : Type 0 where
   smaller : IsSmallerFile asked history text → IsShrunk asked input history text
   itself : text ≡ input → IsShrunk asked input history text
 
 -- and the ending is the one due
-abbrev pub Shrinks : Option Phenomenon → List ℕ → History → List ℕ → Ending → Type 0
+abbrev pub Shrinks : Option Violation → List ℕ → History → List ℕ → Ending → Type 0
 Shrinks asked input history text ending = IsShrunk asked input history text × (ending ≡ Done)
 
 -- the text is what is to be said of the input: a file of the input's history made smaller, the input itself, or the line of the file's first fault
-abbrev pub IsShrinkAnswer : Option Phenomenon → List ℕ → List ℕ → Ending → Type 0
+abbrev pub IsShrinkAnswer : Option Violation → List ℕ → List ℕ → Ending → Type 0
 IsShrinkAnswer asked input text ending = IsToldOf Lines (Shrinks asked input) input text ending

@@ -1,6 +1,6 @@
 //! What is said of a run besides its answer.
 
-use lab_reports::Phenomenon;
+use lab_reports::Violation;
 use lab_streams::note_text;
 use std::io::Write;
 
@@ -11,8 +11,8 @@ pub enum Remark {
     Nothing,
     /// The history is serializable, and a no was wanted.
     Serializable,
-    /// The history doesn't show the phenomenon that is asked for.
-    NotShown(Phenomenon),
+    /// The history doesn't show what is asked for.
+    NotShown(Violation),
     /// Nothing can go.
     AlreadyLeast,
     /// The work ended before it was known that nothing more can go.
@@ -30,11 +30,7 @@ impl Remark {
                 b"note: the history is serializable, and is given back as it is\n",
                 notes,
             ),
-            Remark::NotShown(phenomenon) => {
-                note_text(b"note: the history doesn't show ", notes);
-                note_text(phenomenon.name().as_bytes(), notes);
-                note_text(b", and is given back as it is\n", notes);
-            }
+            Remark::NotShown(violation) => note_not_shown(violation, notes),
             Remark::AlreadyLeast => note_text(
                 b"note: nothing of the history can be taken away; it is given back as it is\n",
                 notes,
@@ -48,5 +44,20 @@ impl Remark {
                 notes,
             ),
         }
+    }
+}
+
+/// Says that a history doesn't show what is asked for.
+fn note_not_shown<N: Write>(violation: Violation, notes: &mut N) {
+    match violation {
+        Violation::Phenomenon(phenomenon) => {
+            note_text(b"note: the history doesn't show ", notes);
+            note_text(phenomenon.name().as_bytes(), notes);
+            note_text(b", and is given back as it is\n", notes);
+        }
+        Violation::Snapshot => note_text(
+            b"note: the history is a snapshot run, and is given back as it is\n",
+            notes,
+        ),
     }
 }

@@ -12,7 +12,7 @@ use lab_hints::note_file;
 use lab_history::{FileFault, History};
 use lab_history_file::{WriteFault, read_history, write_history};
 use lab_judge::judge;
-use lab_reports::Phenomenon;
+use lab_reports::Violation;
 use lab_shrink::{Goal, Shrunk};
 use lab_streams::{Answer, Ending, Format, RunFault, Subcommand, answer_input, print_refused};
 use lab_table::NoMemory;
@@ -20,10 +20,10 @@ use std::alloc::{AllocError, Global};
 use std::io::{Read, Write};
 
 /// What is said where a history shows nothing that is to be kept.
-fn nothing_shown(asked: Option<Phenomenon>) -> Remark {
+fn nothing_shown(asked: Option<Violation>) -> Remark {
     match asked {
         None => Remark::Serializable,
-        Some(phenomenon) => Remark::NotShown(phenomenon),
+        Some(violation) => Remark::NotShown(violation),
     }
 }
 
@@ -42,7 +42,7 @@ fn of_shrunk(shrunk: &Shrunk) -> Remark {
 fn goal_in(
     alloc: Global,
     history: &History,
-    asked: Option<Phenomenon>,
+    asked: Option<Violation>,
 ) -> Result<Option<Goal>, NoMemory>
     ensures { IfOk result (IsGoalOf asked history.now) }
 {
@@ -90,7 +90,7 @@ fn file_of(
 fn smaller_file<P: Write>(
     alloc: Global,
     history: &History,
-    asked: Option<Phenomenon>,
+    asked: Option<Violation>,
     progress: &mut Progress<'_, P>,
     remark: &mut Remark,
 ) -> Result<Option<Vec<u8>>, NoMemory>
@@ -109,7 +109,7 @@ fn smaller_file<P: Write>(
 /// What makes the history of an input smaller.
 #[derive(Drop)]
 struct Shrinker<'p, P: Write> {
-    asked: Option<Phenomenon>,
+    asked: Option<Violation>,
     progress: Progress<'p, P>,
     remark: Remark,
     /// Why the file was refused, once it was.
@@ -173,15 +173,16 @@ impl<'p, P: Write> Subcommand for Shrinker<'p, P> {
 }
 
 /// Reads a history file, and writes the file of a part of its history that shows what the judgement shows: the no of
-/// its serial verdict, the kind of its fault, or the phenomenon that is asked for. If the judgement shows none of
-/// these, nothing can be removed, or the file of the part would be too long, writes the input unchanged, and a line to
-/// `notes`. If the file is refused, writes the line of its first fault. Reads, writes and ends as `answer_input` does.
+/// its serial verdict, the kind of its fault, or what is asked for, a phenomenon or the no of the snapshot verdict. If
+/// the judgement shows none of these, nothing can be removed, or the file of the part would be too long, writes the
+/// input unchanged, and a line to `notes`. If the file is refused, writes the line of its first fault. Reads, writes and
+/// ends as `answer_input` does.
 pub fn shrink<R: Read, W: Write, N: Write, P: Write>(
     alloc: Global,
     reader: &mut R,
     writer: &mut W,
     notes: &mut N,
-    asked: Option<Phenomenon>,
+    asked: Option<Violation>,
     progress: Progress<'_, P>,
 ) -> Result<Ending, RunFault>
     ensures written { IfOk result (λ ending. IfSome (R.remaining reader.old) (λ input.
