@@ -252,7 +252,8 @@ can go.
 Reads a history file from standard input, and writes one, of version 2, to standard output. Transactions
 keep their numbers; operations are counted anew. Where the first transactions that wrote a row go, the row
 begins as they left it. A history that doesn't show what is asked for, and one of which nothing can go, is
-written as it is, and standard error says so. Where the input is no history file, writes one line that names its first fault.
+written as it is, and standard error says so. Where the input is no history file, writes one line that
+names its first fault.
 
     hermitage_lab shrink < examples/shrinking/withdrawals.json > smaller.json
     hermitage_lab explain < smaller.json";
