@@ -118,7 +118,7 @@ kept_run : (requirement : Requirement) (ps : List Part) → All IsPart ps → ch
 kept_run requirement [] all met some = absurd (false≢true some)
 kept_run requirement (p ∷ ps) all met some =
     let both : (chain_meets requirement (of_part p) ≡ true) × (chain_meets requirement (summary_of ps) ≡ true) = met_both (of_part p) (summary_of ps) requirement
-        (sym (ap (chain_meets requirement) (first_and_rest p ps)) ∙ met) in
+    (sym (ap (chain_meets requirement) (first_and_rest p ps)) ∙ met) in
     let one : ((of_part p).committed || (summary_of ps).committed) ≡ true = sym (ap (λ s. s.committed) (first_and_rest p ps)) ∙ some in
     elim (of_part p).committed as (λ b. (of_part p).committed ≡ b → (b || (summary_of ps).committed) ≡ true → OneCommits (p ∷ ps)) [
       | true ↦ λ e _. (p, (0, omega arith, refl), kept_part requirement p (All-head IsPart p ps all) both.0 e)
