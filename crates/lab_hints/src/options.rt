@@ -111,7 +111,8 @@ pub fn takes(subcommand: &str, choice: Choice) -> bool {
     match choice {
         Choice::Engine => matches!(subcommand, "run" | "compare"),
         Choice::Phenomenon => matches!(subcommand, "picture" | "explain" | "page" | "shrink"),
-        Choice::Requirement | Choice::Json => matches!(subcommand, "run" | "judge"),
+        Choice::Requirement => matches!(subcommand, "run" | "judge" | "explain" | "page"),
+        Choice::Json => matches!(subcommand, "run" | "judge"),
         Choice::Title => subcommand == "page",
         Choice::Progress => subcommand == "shrink",
         Choice::Telling | Choice::Free | Choice::History | Choice::Rows => subcommand == "run",
