@@ -4,5 +4,5 @@ use Rattle.lab_drawing.specs.Written.{rows_along}
 use Rattle.lab_drawing.proofs.written.rows_by.Given as goal
 
 -- the rows so far, and those of the operations that are left
-abbrev pub invariant-loop-op : goal.invariant-loop-op
-invariant-loop-op l = l.rows.items ++ rows_along l.history l.txn l.index (drop l.index (ops_of l.history l.txn)) ≡ rows_along l.history l.txn 0 (ops_of l.history l.txn)
+abbrev pub invariant-loop-index : goal.invariant-loop-index
+invariant-loop-index l = l.rows.items ++ rows_along l.history l.txn l.index (drop l.index (ops_of l.history l.txn)) ≡ rows_along l.history l.txn 0 (ops_of l.history l.txn)
