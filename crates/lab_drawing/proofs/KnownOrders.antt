@@ -2,8 +2,8 @@
 use Rattle.std.proofs.{Common.{◌≡◌, ◌⊎◌, inl, inr, ℕ, ◌<◌, Bool, true, false, ◌&&◌, List, [], ◌∷◌, sym, ◌∙◌, subst}, lemmas.{Bool.{and_parts, and_from, ltb-true, lt-ltb}, List.Elements.{Contains-append_cases}}}
 use Rattle.std.specs.Prelude.{Contains, nat_lt}
 use Rattle.lab_table.proofs.Members.{no_member, only_member}
-use Rattle.lab_order.specs.{Arrows.{Arrows, has_arrow, IsArrow}, Order.{position, IsOrder, IsCircle}, Trails.{IsTrailBy}}
-use Rattle.lab_drawing.specs.Orderable.{is_orderable}
+use Rattle.lab_order.specs.{Arrows.{Arrows, has_arrow, IsArrow}, Order.{position, IsOrder, IsCircle, IsOrdered}, Trails.{IsTrailBy}, declared.ordering.Ordered.{Ordered, TheVariants.{Order, Circle}}}
+use Rattle.lab_drawing.specs.{Orderable.{is_orderable}, Readers.{is_order}}
 use Rattle.lab_drawing.proofs.Orderables.{orders, ring_remains}
 
 -- a graph with an arrow exactly where one of so many nodes comes before another
@@ -19,7 +19,7 @@ module _ (leads : ℕ → ℕ → Bool) (count : ℕ) (graph : Arrows) (arrows :
   so_arrow a b x y on =
       arrows a b ∙ and_from (nat_lt a count && nat_lt b count) (leads a b) (and_from (nat_lt a count) (nat_lt b count) (lt-ltb a count x) (lt-ltb b count y)) on
 
-  pub ordered : (nodes : List ℕ) → IsOrder graph nodes → is_orderable leads count ≡ true
+  ordered : (nodes : List ℕ) → IsOrder graph nodes → is_orderable leads count ≡ true
   ordered nodes order = orders leads count (position nodes, λ a b x y on. order.forward a b (so_arrow a b x y on))
 
   -- a ring of arrows is one of what comes before what
@@ -38,7 +38,7 @@ module _ (leads : ℕ → ℕ → Bool) (count : ℕ) (graph : Arrows) (arrows :
   end_within from [] to arrow = (arrow_so from to arrow).1
   end_within from (x ∷ xs) to (arrow, rest) = end_within x xs to rest
 
-  pub circled : (nodes : List ℕ) → IsCircle graph nodes → is_orderable leads count ≡ false
+  circled : (nodes : List ℕ) → IsCircle graph nodes → is_orderable leads count ≡ false
   circled [] circle = absurd circle
   circled (x ∷ xs) circle =
       ring_remains leads count (x ∷ xs) (trail_so x xs x circle)
@@ -46,3 +46,8 @@ module _ (leads : ℕ → ℕ → Bool) (count : ℕ) (graph : Arrows) (arrows :
         | inl here ↦ subst (λ y. y < count) (only_member x b here) (end_within x xs x circle)
         | inr later ↦ within x xs x b circle later
       ])
+
+  -- what was found is an order exactly if there is one
+  pub told : (found : Ordered) → IsOrdered graph found → is_order found ≡ is_orderable leads count
+  told (Order nodes) is = sym (ordered nodes.items is)
+  told (Circle nodes) is = sym (circled nodes.items is)

@@ -13,6 +13,8 @@ use Rattle.lab_history.specs.Version.{ops_of}
 use Rattle.lab_history.specs.declared.operation.Op.{Op}
 use Rattle.lab_deps.specs.declared.edge.Edge.{Edge}
 use Rattle.lab_order.specs.Arrows.{Arrows, nodes_of, has_arrow}
+use Rattle.lab_order.specs.declared.ordering.Ordered.{Ordered}
+use Rattle.lab_order.specs.declared.ordering.Ordered.TheVariants.{Order, Circle}
 use Rattle.lab_reports.specs.declared.phenomenon.Phenomenon.{Phenomenon}
 use Rattle.lab_reports.specs.declared.phenomenon.Phenomenon.TheVariants.{G0, G1a, G1b, G1c, GSingle, G2Item, G2}
 use Rattle.lab_drawing.specs.Cycles.{walk_phenomenon}
@@ -56,6 +58,11 @@ pub record Grows (h : History) (o : Nodes) (looked : ℕ → ℕ → Bool) (old 
 pub record IsGraphOf (h : History) (o : Nodes) (graph : Arrows) : Type 0 where
   pub size : nodes_of graph ≡ count_of h o
   pub arrows : (a b : ℕ) → has_arrow graph a b ≡ ((nat_lt a (count_of h o) && nat_lt b (count_of h o)) && leads h o a b)
+
+-- whether what was found of a graph is an order, and no cycle
+abbrev pub is_order : Ordered → Bool
+is_order (Order nodes) = true
+is_order (Circle nodes) = false
 
 -- whether the nodes can be put in an order
 abbrev pub can_order : History → Nodes → Bool

@@ -5,7 +5,7 @@ ghost use Rattle.std.specs.List.{All, list_any};
 ghost use Rattle.lab_history.specs.Limits.{max_transactions};
 ghost use Rattle.lab_order.specs.Arrows.{nodes_of};
 ghost use Rattle.lab_drawing.specs.Dependence.{committed};
-ghost use Rattle.lab_drawing.specs.Readers.{is_nothing, wrote_nothing, is_read_only, some_read_only, is_g2, may_be, comes_before, is_before, is_led, count_of, leads, Grows, IsGraphOf, can_order, stands_in_the_way, some_stand_in_the_way, is_read_only_anomaly};
+ghost use Rattle.lab_drawing.specs.Readers.{is_nothing, wrote_nothing, is_read_only, some_read_only, is_g2, may_be, comes_before, is_before, is_led, count_of, leads, Grows, IsGraphOf, is_order, can_order, stands_in_the_way, some_stand_in_the_way, is_read_only_anomaly};
 
 use crate::cycles::walk_phenomenon;
 use crate::dependence::Dependence;
@@ -236,6 +236,16 @@ fn graph_without(
     Ok(graph)
 }
 
+/// Whether what was found is an order.
+fn is_order(found: &Ordered) -> bool
+    ensures { result ≡ is_order found.now }
+{
+    match found {
+        Ordered::Order(_) => true,
+        Ordered::Circle(_) => false,
+    }
+}
+
 /// Whether the nodes of this graph can be put in an order.
 fn has_order(
     alloc: Global,
@@ -246,10 +256,8 @@ fn has_order(
     requires { IsGraphOf _ties.now _nodes.now graph.now }
     ensures { IfOk result (λ has. has ≡ can_order _ties.now _nodes.now) }
 {
-    match order(alloc, graph)? {
-        Ordered::Order(_) => Ok(true),
-        Ordered::Circle(_) => Ok(false),
-    }
+    let found = order(alloc, graph)?;
+    Ok(is_order(&found))
 }
 
 /// Whether there is an order.

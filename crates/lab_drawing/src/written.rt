@@ -1,9 +1,10 @@
 //! The rows that a transaction wrote.
 
-ghost use Rattle.std.specs.Prelude.{◌≡◌, ◌++◌, map, filter, IfOk, OnOk};
+ghost use Rattle.std.specs.Prelude.{◌≡◌, ◌≤◌, ◌++◌, length, map, filter, IfOk, OnOk};
 ghost use Rattle.lab_table.specs.Row.{row_test};
+ghost use Rattle.lab_history.specs.Limits.{max_operations};
 ghost use Rattle.lab_history.specs.VersionName.{new_states};
-ghost use Rattle.lab_drawing.specs.Written.{is_last, last_rows, rows_by, is_beside, has_two};
+ghost use Rattle.lab_drawing.specs.Written.{is_last, last_rows, rows_along, rows_by, is_beside, has_two};
 
 use crate::states::ops_of;
 use lab_history::{History, Op, State};
@@ -51,15 +52,28 @@ fn put_last_of(
     put_last(rows, history, txn, number, op.writes.entries())
 }
 
+/// The rows that these operations of a transaction are the last to write.
+fn rows_among(
+    alloc: Global,
+    history: &History,
+    txn: TxnNo,
+    ops: &[Op],
+) -> Result<Vec<RowName>, NoMemory>
+    requires { length ops.now ≤ max_operations }
+    ensures { IfOk result (λ rows. rows.items ≡ rows_along history.now txn 0 ops.now) }
+{
+    let mut rows = Vec::new(alloc);
+    for (index, op) in ops.iter().enumerate() {
+        put_last_of(&mut rows, history, txn, index as u32 + 1, op)?;
+    }
+    Ok(rows)
+}
+
 /// The rows that a transaction wrote, each once.
 pub fn rows_by(alloc: Global, history: &History, txn: TxnNo) -> Result<Vec<RowName>, NoMemory>
     ensures { IfOk result (λ rows. rows.items ≡ rows_by history.now txn) }
 {
-    let mut rows = Vec::new(alloc);
-    for (index, op) in ops_of(history, txn).iter().enumerate() {
-        put_last_of(&mut rows, history, txn, index as u32 + 1, op)?;
-    }
-    Ok(rows)
+    rows_among(alloc, history, txn, ops_of(history, txn))
 }
 
 fn is_same_row(one: RowName, other: RowName) -> bool

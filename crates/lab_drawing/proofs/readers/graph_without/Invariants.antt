@@ -5,4 +5,4 @@ use Rattle.lab_drawing.proofs.readers.graph_without.Given as goal
 
 -- the arrows to the nodes so far were added
 abbrev pub invariant-loop-to : goal.invariant-loop-to
-invariant-loop-to l = record { size : nodes_of l.graph ≡ l.count; first : HasAmong l.ties l.txn l.all l.to l.graph }
+invariant-loop-to l = record { size : nodes_of l.graph ≡ l.count; first : HasAmong l.ties l.fn.txn l.all l.to l.graph }
