@@ -11,11 +11,11 @@ use Rattle.lab_streams.specs.Reports.{is_empty_yes, is_idle, keeps, HasCommitted
 
 -- an unsound history that isn't a snapshot run meets nothing
 unsound_meets_none : (requirement : Requirement) (report : Report) → levels_met report.level ≡ 0 → is_yes report.snapshot ≡ false → meets requirement report ≡ true → ⊥
-unsound_meets_none Pl1 report none no met = false≢true (sym (ap (nat_le 1) none) ∙ met)
-unsound_meets_none Pl2 report none no met = false≢true (sym (ap (nat_le 2) none) ∙ met)
-unsound_meets_none Pl299 report none no met = false≢true (sym (ap (nat_le 3) none) ∙ met)
-unsound_meets_none Pl3 report none no met = false≢true (sym (ap (nat_le 4) none) ∙ met)
-unsound_meets_none Snapshot report none no met = false≢true (sym no ∙ met)
+unsound_meets_none Pl1 report none unplaced met = false≢true (sym (ap (nat_le 1) none) ∙ met)
+unsound_meets_none Pl2 report none unplaced met = false≢true (sym (ap (nat_le 2) none) ∙ met)
+unsound_meets_none Pl299 report none unplaced met = false≢true (sym (ap (nat_le 3) none) ∙ met)
+unsound_meets_none Pl3 report none unplaced met = false≢true (sym (ap (nat_le 4) none) ∙ met)
+unsound_meets_none Snapshot report none unplaced met = false≢true (sym unplaced ∙ met)
 
 module _ (h : History) where
   -- the first transaction of an order
@@ -35,8 +35,8 @@ module _ (h : History) where
 
   module _ (requirement : Requirement) (report : Report) (met : meets requirement report ≡ true) where
     of_fault : (b : Bool) (fault : LocalFault) → is_uncommitted_read fault ≡ b → Stands h fault → JudgesAtRead b h report.phenomena report.level → is_yes report.snapshot ≡ false → HasCommitted h
-    of_fault true fault is stands judged no = of_read fault stands is
-    of_fault false fault is stands judged no = absurd (unsound_meets_none requirement report (ap levels_met judged.7) no met)
+    of_fault true fault is stands judged unplaced = of_read fault stands is
+    of_fault false fault is stands judged unplaced = absurd (unsound_meets_none requirement report (ap levels_met judged.7) unplaced met)
 
     of_verdict : (s : Serial) (p : Places) → report.snapshot ≡ p → SameFault s p → IsSerialVerdict h s → Judges h s report.phenomena report.level → not (is_empty_yes s) ≡ true → HasCommitted h
     of_verdict (serial.Yes []) p is same verdict judged some = absurd (false≢true some)

@@ -32,7 +32,7 @@ refused_text Json file fault = line_of (refused_tree file fault)
 -- whether a serial verdict is a yes without a transaction
 abbrev pub is_empty_yes : Serial → Bool
 is_empty_yes (serial.Yes []) = true
-is_empty_yes (serial.Yes (no ∷ order)) = false
+is_empty_yes (serial.Yes (n ∷ order)) = false
 is_empty_yes (serial.NoFault f) = false
 is_empty_yes (serial.NoCycle walk) = false
 
