@@ -114,7 +114,7 @@ module _ (h : History) (sound : IsSound h) where
       differ false is = refl
 
   -- which kinds there are
-  HasKind : (Kind → Bool) → ℕ → ℕ → Type 0
+  abbrev HasKind : (Kind → Bool) → ℕ → ℕ → Type 0
   HasKind test from to = (kind : Kind) × (test kind ≡ true) × IsCommitted h from × IsCommitted h to × (from ≢ to) × ((row : Row) × Depends h kind row from to)
 
   flows_so : (from to : ℕ) → flows h from to ≡ true → HasKind is_flow from to

@@ -10,5 +10,5 @@ loop-from-preserved c = next c.args.ties.now c.args.nodes.now c.loop-from.from c
 
 pub returns : goal.returns
 returns c =
-    let all : c.loop-from.from ≡ c.args.count = omega (arith, c.loop-from-test.false) in
+    let all : c.loop-from.from ≡ c.args.count = omega (arith, c.loop-from-test.false, c.loop-from.auto.from-end) in
     as_many c.args.ties.now c.args.nodes.now c.loop-from.from c.args.count c.args.to _ _ all c.loop-from.invariant

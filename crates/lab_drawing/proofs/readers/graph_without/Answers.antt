@@ -13,5 +13,5 @@ loop-to-preserved c = record {
 
 pub returns : goal.returns
 returns c =
-    let all : c.loop-to.to ≡ c.count.result = omega (arith, c.loop-to-test.false) in
+    let all : c.loop-to.to ≡ c.count.result = omega (arith, c.loop-to-test.false, c.loop-to.auto.to-end) in
     is_graph_without c.args.ties.now c.args.txn c.args.all.now c.count.result c.loop-to.to _ c.requires c.count.ensures all c.loop-to.invariant.size c.loop-to.invariant.first
