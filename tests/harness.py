@@ -5,6 +5,8 @@ import subprocess
 import sys
 
 TOP = os.path.dirname(os.path.dirname(os.path.realpath(__file__)))
+# Modules of these folders may be imported after this one.
+sys.path += [f"{TOP}/{folder}" for folder in ("bench", "cluster", "recorders")]
 NAME = os.path.basename(sys.argv[0])
 SECONDS = 60
 # No call has to ask for more bytes at once: the preloaded library ends a program that does.

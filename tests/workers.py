@@ -4,18 +4,22 @@ import os
 import re
 import shutil
 import subprocess
+import sys
 import tempfile
 import time
 
-PYTHON = "/usr/bin/python3"  # Debian's Python, for which the packages are
 PATIENCE, ENDING = 60, 10
 ASIDE = "\nIt says:\n"
 
 
-def is_there():
-    """Whether Dask is installed."""
+def has_dask(python: str) -> bool:
+    """Whether this Python has Dask."""
     look = "import importlib.util, sys; sys.exit(importlib.util.find_spec('distributed') is None)"
-    return os.path.exists(PYTHON) and not subprocess.run([PYTHON, "-c", look], check=False).returncode
+    return os.path.exists(python) and not subprocess.run([python, "-c", look], check=False).returncode
+
+
+# This Python, or Debian's, for which Debian's packages are.
+PYTHON = next(filter(has_dask, [sys.executable, "/usr/bin/python3"]), "")
 
 
 class Process:

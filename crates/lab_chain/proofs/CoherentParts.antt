@@ -1,5 +1,5 @@
 -- A part's summary is coherent, and so is that of a run.
-use Rattle.std.{proofs.{Common.{◌≡◌, ◌≢◌, ℕ, ◌≤◌, Bool, true, false, not, ◌||◌, Option, Some, None, List, [], ◌∷◌, refl, sym, ap, ◌∙◌, subst, absurd, arith, inl, inr}, lemmas.{Bool.{cases_lt, false≢true}, List.Elements.{All-head, All-tail}}}, specs.{Prelude.{◌^◌, fold}, List.{All}, Cmp.Derive.{both_true}}}
+use Rattle.std.{proofs.{Common.{◌≡◌, ◌≢◌, ℕ, ◌≤◌, Bool, true, false, not, ◌||◌, Option, Some, None, List, [], ◌∷◌, refl, sym, ap, ◌∙◌, subst, arith, inl, inr}, lemmas.{Bool.{cases_lt, false≢true}, List.Elements.{All-head, All-tail}}}, specs.{Prelude.{◌^◌, fold}, List.{All}, Cmp.Derive.{both_true}}}
 use Rattle.lab_table.specs.{Row.{Row}, Table.{Table}}
 use Rattle.lab_history.specs.History.{History}
 use Rattle.lab_deps.specs.{KindSets.{is_anti}, Refusal.{is_uncommitted_read}, Soundness.{Stands, IsSound}, declared.{edge.Edge.{Edge}, fault.LocalFault.{LocalFault, TheVariants.{AbortedRead, IntermediateRead}}}}
@@ -22,6 +22,16 @@ no_cycle h m es w = elim (cases_lt (count_kind is_anti es) 1) [
   | inl less ↦ m.0.2 es (w, omega (arith, less))
   | inr some ↦ m.1 es (w, some)
 ]
+
+-- the best level is better than each
+at_last : (l : Level) → at_best Pl3 l ≡ true
+at_last Pl3 = refl
+at_last Pl299 = refl
+at_last Pl2 = refl
+at_last Pl1 = refl
+at_last level.NotJudged = refl
+at_last BelowPl1 = refl
+at_last level.Unsound = refl
 
 module _ (h : History) (part : List ℕ) where
   walk_allowed : (IsOne : List Edge → Type 0) (u f l : Level) (F : Finding) → FindsWalk IsOne F → ((es : List Edge) → IsOne es → at_best f l ≡ true) → allows u f l (finding_line part F) ≡ true
@@ -79,9 +89,6 @@ module _ (h : History) (part : List ℕ) where
   at_third grade.Pl1 i broken = refl
   at_third grade.BelowPl1 i broken = refl
   at_third grade.Unsound i broken = absurd i
-
-  at_last : (l : Level) → at_best Pl3 l ≡ true
-  at_last l = refl
 
   -- the three lines that PL-2 is about: one of them is found
   read_found : (a b c : Finding) → FindsFault h AbortedRead a → FindsFault h IntermediateRead b → FindsWalk (IsG1c h) c → (MeetsPl2 h → ⊥)
@@ -254,8 +261,8 @@ module _ (h : History) (part : List ℕ) (report : Report) (exact : IsExactJudge
           } in (all_allow (level_of report.level) lines ≡ true) × (shows (level_of report.level) lines ≡ true)
       snapshot_allowed : (l : Level) (p : Places) → allows level.NotJudged Pl3 l (snapshot_line part p) ≡ true
       snapshot_allowed l (places.Yes spans) = refl
-      snapshot_allowed l (places.NoFault f) = refl
-      snapshot_allowed l (places.NoCycle points) = refl
+      snapshot_allowed l (places.NoFault f) = at_last l
+      snapshot_allowed l (places.NoCycle points) = at_last l
       at : (s : Serial) (p : Places) → report.serial ≡ s → report.snapshot ≡ p → SameFault s p → IsSerialVerdict h s → Judges h s report.phenomena report.level → Agree s p
       at (serial.Yes order) p is_s is_p same verdict judged = (
         all_allowed h part (serial_line part (serial.Yes order)) (snapshot_line part p) report.phenomena report.level judged refl (snapshot_allowed _ p),

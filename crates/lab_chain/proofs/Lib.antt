@@ -15,4 +15,5 @@ mod OneLevel
 mod ToldLevels
 mod CoherentPieces
 mod CoherentParts
+mod KeptRuns
 mod Utf8Texts

@@ -1,7 +1,7 @@
 -- What the summary of a run in parts implies for the whole run: which runs its parts' orders and timestamps give, and
 -- which cycles it doesn't have.
 use Rattle.std.specs.Prelude.{◌≡◌, ◌↔◌, ℕ, List, ◌∷◌, map}
-use Rattle.std.specs.List.{All, AllZip}
+use Rattle.std.specs.List.{All, AllZip, Contains}
 use Rattle.lab_history.specs.History.{History}
 use Rattle.lab_history_file.specs.HistoryFile.{HoldsHistory}
 use Rattle.lab_deps.specs.Soundness.{IsSound}
@@ -12,6 +12,7 @@ use Rattle.lab_judge.specs.declared.report.Report.{Report}
 use Rattle.lab_judge.specs.declared.serial.Serial.TheVariants as serial
 use Rattle.lab_parts.specs.Whole.{whole, Fits}
 use Rattle.lab_parts.specs.WholeRuns.{Ordered, Placed, whole_order, whole_spans}
+use Rattle.lab_streams.specs.Reports.{HasCommitted}
 use Rattle.lab_chain.specs.Chain.{Part}
 use Rattle.lab_chain.specs.declared.line.Line.{Line}
 use Rattle.lab_chain.specs.declared.line.Line.TheVariants.{Clear}
@@ -57,3 +58,14 @@ pub record AreSound (ps : List Part) (first : History) (others : List History) :
 -- a line is clear exactly where the run shows no such cycle
 abbrev pub TellsOf : Line → Type 0 → Type 0
 TellsOf line none = (line ≡ Clear) ↔ none
+
+-- a part's history has a transaction that committed
+pub record Commits (p : Part) : Type 0 where
+  pub part : History
+  pub report : Report
+  pub judged : IsJudgedAs p part report
+  pub committed : HasCommitted part
+
+-- so has that of one of these parts
+abbrev pub OneCommits : List Part → Type 0
+OneCommits ps = (p : Part) × Contains ps p × Commits p

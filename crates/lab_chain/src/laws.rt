@@ -8,8 +8,9 @@ ghost use Rattle.lab_table.specs.Table.{Table};
 ghost use Rattle.lab_judge.specs.Phenomena.{NoWalk, IsG0, IsG1c, IsGSingle, IsG2Item, IsG2, IsGrade};
 ghost use Rattle.lab_judge.specs.declared.report.Grade.{Grade};
 ghost use Rattle.lab_parts.specs.Whole.{whole};
-ghost use Rattle.lab_chain.specs.Chain.{Part, IsPart, summary_of};
-ghost use Rattle.lab_chain.specs.ChainLaws.{IsSerialInParts, IsSnapshotInParts, AreSound, TellsOf};
+ghost use Rattle.lab_reports.specs.declared.requirement.Requirement.{Requirement};
+ghost use Rattle.lab_chain.specs.Chain.{Part, IsPart, summary_of, chain_keeps};
+ghost use Rattle.lab_chain.specs.ChainLaws.{IsSerialInParts, IsSnapshotInParts, AreSound, TellsOf, OneCommits};
 ghost use Rattle.lab_chain.specs.Coherence.{is_coherent};
 ghost use Rattle.lab_chain.specs.Difference.{IsLeastDifference, first_difference};
 ghost use Rattle.lab_chain.specs.Levels.{level_of};
@@ -55,6 +56,11 @@ pub fn runs_are_coherent()
 /// Coherent pieces of a run are joined to a coherent one.
 pub fn joining_keeps_coherence()
     ensures { (a b : Summary) → is_coherent a ≡ true → is_coherent b ≡ true → is_coherent (joined a b) ≡ true }
+{}
+
+/// A run meets a requirement only if a transaction committed in one of its parts.
+pub fn kept_runs_have_commits()
+    ensures { (ps : List Part) (requirement : Requirement) → All IsPart ps → chain_keeps requirement (summary_of ps) ≡ true → OneCommits ps }
 {}
 
 /// If the parts of a run are sound and fit, the lines about cycles are true of its history, and the level is its level.

@@ -27,8 +27,9 @@ mod summary_text;
 
 pub use coherence::is_coherent;
 pub use laws::{
-    differences_are_least, joining_is_associative, joining_keeps_coherence, pieces_make_the_run,
-    runs_are_coherent, sound_runs_are_told, yes_is_a_serial_run, yes_is_a_snapshot_run,
+    differences_are_least, joining_is_associative, joining_keeps_coherence, kept_runs_have_commits,
+    pieces_make_the_run, runs_are_coherent, sound_runs_are_told, yes_is_a_serial_run,
+    yes_is_a_snapshot_run,
 };
 pub use level::Level;
 pub use line::{Line, Text};

@@ -32,7 +32,9 @@ be named, and one of `stock`. A name is 1 to 16 letters and underscores, and no 
 Writes the transcript to standard output: for each transaction a line with its number and its
 session, as `txn 1 T1`, each statement with the rows that it lists, as `-> (2, 20)`, and `commit`
 or `abort`; then the rows in the end. Where the input is no script, writes one line that names its
-first fault, as `line 3: NoSession`.";
+first fault, as `line 3: NoSession`.
+
+    hermitage_lab serial < examples/first_steps.txt";
 
 pub const RUN: &str = "Plays a script on an engine, and judges what its recording shows";
 
@@ -250,7 +252,8 @@ can go.
 Reads a history file from standard input, and writes one, of version 2, to standard output. Transactions
 keep their numbers; operations are counted anew. Where the first transactions that wrote a row go, the row
 begins as they left it. A history that doesn't show what is asked for, and one of which nothing can go, is
-written as it is, and standard error says so. Where the input is no history file, writes one line that names its first fault.
+written as it is, and standard error says so. Where the input is no history file, writes one line that
+names its first fault.
 
     hermitage_lab shrink < examples/shrinking/withdrawals.json > smaller.json
     hermitage_lab explain < smaller.json";

@@ -16,6 +16,11 @@ use std::alloc::{AllocError, Global};
 /// The version, and what the program was proved with.
 const VERSION: &str = "1.0.0, proved with rattle-kit-13, logic dac8208d650f15bf";
 
+/// The version with the licence, as `--version` prints it; `-V` prints the version alone.
+const LONG_VERSION: &str = "\
+1.0.0, proved with rattle-kit-13, logic dac8208d650f15bf
+Licence: MIT OR Apache-2.0";
+
 /// A subcommand without its own arguments.
 fn plain_command<'a>(alloc: Global, name: &'a str, about: &'a str, whole: &'a str) -> Command<'a>
     ensures { IsNamed name.entry.now result }
@@ -175,6 +180,7 @@ fn program<'a>(alloc: Global) -> Command<'a>
 {
     Command::new(alloc, "hermitage_lab")
         .version(VERSION)
+        .long_version(LONG_VERSION)
         .about(help::ABOUT)
         .after_help(help::STATUSES)
         .subcommand_required(true)

@@ -15,6 +15,9 @@ use std::io::Write;
 /// The most plays of a beginning of a script: each halves the lines among which the line is, and there are 2,000.
 const MOST_PLAYS: usize = 11;
 
+/// The most bytes of a script whose beginnings are played: a longer one has long conditions, and its plays take long.
+const MAX_SEARCHED: usize = 150_000;
+
 /// The line with which a play exceeds a limit, and how much its history has before that.
 #[derive(Clone, Copy)]
 struct Excess {
@@ -154,6 +157,9 @@ fn excess_hint(
     let Some(what) = counted(which) else {
         return Ok(Vec::new(alloc));
     };
+    if text.len() > MAX_SEARCHED {
+        return Ok(Vec::new(alloc));
+    }
     let Excess { line, before } = excess_of(alloc, level, text, which)?;
     let hint = format!(in alloc;
         "with line {line} there are more; before it there are {before} {what}\n"
@@ -162,7 +168,7 @@ fn excess_hint(
 }
 
 /// Writes the line with which a script's play by one thread exceeds a limit, and how much there is before it. Writes
-/// nothing for another fault, or if memory runs out.
+/// nothing for another fault, if the script has more than 150,000 bytes, or if memory runs out.
 pub fn note_excess<N: Write>(
     alloc: Global,
     input: &[u8],

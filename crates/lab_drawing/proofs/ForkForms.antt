@@ -1,5 +1,5 @@
 -- Tests for long forks and phantoms find them.
-use Rattle.std.{proofs.{Common.{◌≡◌, ◌⊎◌, inl, inr, ℕ, Bool, true, false, ◌&&◌, ◌||◌, not, List, [], ◌∷◌, refl, sym, ap, ◌∙◌}, lemmas.{Bool.{false≢true, true≢false, and_parts, and_from, or_cases, or_left, or_right, not-true, not_from_false}, List.Folds.{Any-from_list_any, list_any-from_Any}}}, specs.List.{list_any, Any}}
+use Rattle.std.{proofs.{Common.{◌≡◌, ◌⊎◌, inl, inr, ℕ, Bool, true, false, ◌&&◌, ◌||◌, not, List, [], ◌∷◌, length, get_or, refl, sym, ap, ◌∙◌, arith}, lemmas.{Bool.{false≢true, true≢false, and_parts, and_from, or_cases, or_left, or_right, not-true, not_from_false}, List.Folds.{Any-from_list_any, list_any-from_Any}}}, specs.List.{list_any, Any}}
 use Rattle.lab_table.specs.Row.{Row}
 use Rattle.lab_history.specs.History.{History}
 use Rattle.lab_deps.specs.declared.edge.{Edge.{Edge}, Kind.{Kind, TheVariants.{Write, ItemRead, PredicateRead, ItemAnti, PredicateAnti}}}
@@ -98,3 +98,13 @@ module _ (h : History) where
 
   pub so_phantom : (walk : List Edge) → Any (IsPhantomAt h) walk → is_phantom h walk ≡ true
   so_phantom walk some = list_any-from_Any (is_phantom_at h) walk (any_so (IsPhantomAt h) (λ e. is_phantom_at h e ≡ true) walk so_phantom_at some)
+
+-- a cycle of these four dependencies
+pub of_four : (h : History) (walk : List Edge) (a b c d : Edge) → length walk ≡ 4 → a ≡ get_or walk 0 a → b ≡ get_or walk 1 b → c ≡ get_or walk 2 c → d ≡ get_or walk 3 d
+    → (is_fork h (fork_of a b c d) || is_fork h (fork_of b c d a)) ≡ is_long_fork h walk
+of_four h [] a b c d len one two three four = absurd (omega (arith, len))
+of_four h (w ∷ []) a b c d len one two three four = absurd (omega (arith, len))
+of_four h (w ∷ x ∷ []) a b c d len one two three four = absurd (omega (arith, len))
+of_four h (w ∷ x ∷ y ∷ []) a b c d len one two three four = absurd (omega (arith, len))
+of_four h (w ∷ x ∷ y ∷ z ∷ []) a b c d len one two three four = λ i. is_fork h (fork_of (one i) (two i) (three i) (four i)) || is_fork h (fork_of (two i) (three i) (four i) (one i))
+of_four h (v ∷ w ∷ x ∷ y ∷ z ∷ es) a b c d len one two three four = absurd (omega (arith, len))

@@ -5,16 +5,10 @@ use Rattle.lab_history.specs.{History.{History}, Version.{IsCommitted, ops_of, o
 use Rattle.lab_deps.specs.{Edges.{Depends, IsEdge}, KindBits.{edge_of}, KindSets.{among, is_flow, is_anti}, KindsBetween.{KindsBetween}, Soundness.{IsSound, Stands, has_committed}, declared.{edge.{Edge.{Edge}, Kind.{Kind, TheVariants.{Write, ItemRead, PredicateRead, ItemAnti, PredicateAnti}}}, fault.LocalFault.TheVariants.{InstallOrder}, kinds.{Kinds.{Kinds}, TheConstants.Kinds.{FLOW, ANTI}}}}
 use Rattle.lab_deps.proofs.{Found.{committed as is_committed}, NamedKinds.{flow_has, antis_has}}
 use Rattle.lab_drawing.specs.{ArrowLaws.{MakesAt}, Dependence.{depends_at, is_tied, are_two, flows, passes}, Forks.{follows, depends}, Making.{anti_first, makes}}
-use Rattle.lab_drawing.proofs.{InstalledRows.{one_found}, MadeArrows as made, MadeDependencies.{dependencies_made}, Orderables.{some_passes}, RowEntries.{any_row, row_any}}
+use Rattle.lab_drawing.proofs.{InstalledRows.{one_found}, MadeDependencies.{dependencies_made}, SameTests.{same_test}, Orderables.{some_passes}, RowEntries.{any_row, row_any}}
+use Rattle.lab_drawing.proofs.MadeArrows as made
 use Rattle.std.proofs.lemmas.List.Folds.{Any-from_list_any}
 use Rattle.std.proofs.lemmas.Option.{slice_get-get_or}
-
--- tests that follow from each other are one
-pub same_test : (p q : Bool) → (p ≡ true → q ≡ true) → (q ≡ true → p ≡ true) → p ≡ q
-same_test true true there back = refl
-same_test true false there back = sym (there refl)
-same_test false true there back = back refl
-same_test false false there back = refl
 
 -- a number right after another one in a list
 follows_so : (first next : ℕ) (is_behind : Bool) (ns : List ℕ) → follows first next is_behind ns ≡ true

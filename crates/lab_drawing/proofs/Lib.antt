@@ -9,6 +9,9 @@ mod NamedInstalls
 pub mod Escapes
 mod TitledWalks
 mod Orderables
+mod SameTests
+mod GrownArrows
+mod FewCommitted
 mod RowEntries
 mod WrittenRows
 mod ReadForms

@@ -66,7 +66,9 @@ module _ (h : History) where
 
   -- write skews
   misses_so : (from to : ℕ) (row : Row) → Contains (rows_by h to) row → misses h from to row ≡ true → Misses h from to row
-  misses_so from to row there is = (member_wrote h to row there, op_any h from (makes h (record { from = from; to = to; kind = ItemAnti; row = row })) is)
+  misses_so from to row there is =
+      let found = op_any h from (makes h (record { from = from; to = to; kind = ItemAnti; row = row })) is in
+      (member_wrote h to row there, found.0, found.1, found.2)
 
   so_misses : (from to : ℕ) (row : Row) → Misses h from to row → misses h from to row ≡ true
   so_misses from to row (wrote, op, (k, at), is) = any_op h from (makes h (record { from = from; to = to; kind = ItemAnti; row = row })) op k at is

@@ -5,8 +5,7 @@ use Rattle.lab_history.specs.{History.{History}, Version.{ops_of, new_state}, de
 use Rattle.lab_deps.specs.declared.edge.Edge.{Edge}
 use Rattle.lab_drawing.specs.Anomalies.{Wrote, CanBePlaced, CanBeOrderedWithout, IsReadOnlyAnomaly}
 use Rattle.lab_drawing.specs.Cycles.{walk_phenomenon}
-use Rattle.lab_drawing.specs.Dependence.{committed}
-use Rattle.lab_drawing.specs.Readers.{wrote_nothing, is_read_only, some_read_only, is_g2, may_be, node_count, leads, can_order, stands_in_the_way, some_stand_in_the_way, is_read_only_anomaly}
+use Rattle.lab_drawing.specs.Readers.{wrote_nothing, is_read_only, some_read_only, is_g2, may_be, count_of, leads, can_order, stands_in_the_way, some_stand_in_the_way, is_read_only_anomaly}
 use Rattle.lab_drawing.specs.declared.readers.Nodes.{Nodes, TheVariants.{Points, Without}}
 use Rattle.lab_drawing.proofs.{Orderables.{orders, places}, PairForms.{any_so}}
 
@@ -52,11 +51,11 @@ module _ (h : History) where
   in_the_way_so : (n : ℕ) → stands_in_the_way h n ≡ true → ((row : Row) → ¬ Wrote h n row) × CanBeOrderedWithout h n
   in_the_way_so n is =
       let parts = both_true (is_read_only h n) (can_order h (Without n)) is in
-      (read_only_so n parts.0, places (leads h (Without n) (committed h)) (node_count (Without n) (length (committed h))) parts.1)
+      (read_only_so n parts.0, places (leads h (Without n)) (count_of h (Without n)) parts.1)
 
   so_in_the_way : (n : ℕ) → ((row : Row) → ¬ Wrote h n row) × CanBeOrderedWithout h n → stands_in_the_way h n ≡ true
   so_in_the_way n (none, ordered) =
-      so_both (is_read_only h n) (can_order h (Without n)) (so_read_only n none) (orders (leads h (Without n) (committed h)) (node_count (Without n) (length (committed h))) ordered)
+      so_both (is_read_only h n) (can_order h (Without n)) (so_read_only n none) (orders (leads h (Without n)) (count_of h (Without n)) ordered)
 
   abbrev InTheWay : Edge → Type 0
   InTheWay e = ((row : Row) → ¬ Wrote h e.from row) × CanBeOrderedWithout h e.from
@@ -67,7 +66,7 @@ module _ (h : History) where
       let may = and_parts (is_g2 (walk_phenomenon walk)) (some_read_only h walk) parts.0 in
       let more = both_true (can_order h Points) (some_stand_in_the_way h walk) parts.1 in (
         may.0,
-        places (leads h Points (committed h)) (node_count Points (length (committed h))) more.0,
+        places (leads h Points) (count_of h Points) more.0,
         any_so (λ e. stands_in_the_way h e.from ≡ true) InTheWay walk (λ e stands. in_the_way_so e.from stands) (Any-from_list_any (λ (e : Edge). stands_in_the_way h e.from) walk more.1),
       )
 
@@ -76,5 +75,5 @@ module _ (h : History) where
       so_both (may_be h walk) (cond (can_order h Points) (some_stand_in_the_way h walk) false)
       (and_from (is_g2 (walk_phenomenon walk)) (some_read_only h walk) two
       (list_any-from_Any (λ (e : Edge). is_read_only h e.from) walk (any_so InTheWay (λ e. is_read_only h e.from ≡ true) walk (λ e way. so_read_only e.from way.0) some)))
-      (so_both (can_order h Points) (some_stand_in_the_way h walk) (orders (leads h Points (committed h)) (node_count Points (length (committed h))) placed)
+      (so_both (can_order h Points) (some_stand_in_the_way h walk) (orders (leads h Points) (count_of h Points) placed)
       (list_any-from_Any (λ (e : Edge). stands_in_the_way h e.from) walk (any_so InTheWay (λ e. stands_in_the_way h e.from ≡ true) walk (λ e way. so_in_the_way e.from way) some)))

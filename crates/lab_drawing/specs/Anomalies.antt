@@ -7,7 +7,7 @@
 -- Critique of ANSI SQL Isolation Levels" (1995); long fork: Sovran and others, "Transactional Storage for
 -- Geo-Replicated Systems" (2011); read-only anomaly: Fekete, O'Neil and O'Neil, "A Read-Only Transaction Anomaly Under
 -- Snapshot Isolation" (2004).
-use Rattle.std.specs.Prelude.{◌≡◌, ◌≢◌, ◌⊎◌, ℕ, ◌<◌, ◌≤◌, true, false, Some, List, [], ◌∷◌, length}
+use Rattle.std.specs.Prelude.{◌≡◌, ◌≢◌, ◌⊎◌, ℕ, ◌<◌, ◌≤◌, true, false, Some, List, [], ◌∷◌}
 use Rattle.std.specs.List.{Any}
 use Rattle.lab_table.specs.Row.{Row}
 use Rattle.lab_history.specs.History.{History}
@@ -15,14 +15,13 @@ use Rattle.lab_history.specs.Version.{ops_of, IsOp, WritesAt, installers, place_
 use Rattle.lab_history.specs.declared.operation.Op.{Op}
 use Rattle.lab_deps.specs.declared.edge.Edge.{Edge}
 use Rattle.lab_deps.specs.declared.edge.Kind.TheVariants.{ItemAnti, PredicateAnti}
-use Rattle.lab_drawing.specs.Dependence.{committed}
 use Rattle.lab_drawing.specs.Forks.{fork_of, ties_otherwise}
 use Rattle.lab_drawing.specs.Making.{makes}
 use Rattle.lab_drawing.specs.Orderable.{HasPlaces}
 use Rattle.lab_drawing.specs.Pairs.{overwrites}
 use Rattle.lab_drawing.specs.Reads.{reads, place_seen}
 use Rattle.lab_drawing.specs.Cycles.{walk_phenomenon}
-use Rattle.lab_drawing.specs.Readers.{leads, node_count, is_g2}
+use Rattle.lab_drawing.specs.Readers.{leads, count_of, is_g2}
 use Rattle.lab_drawing.specs.declared.forks.Fork.{Fork}
 use Rattle.lab_drawing.specs.declared.nicknames.Nickname.{Nickname}
 use Rattle.lab_drawing.specs.declared.nicknames.Nickname.TheVariants as name
@@ -90,11 +89,11 @@ IsPhantomAt h e = (e.kind ≡ PredicateAnti) × ((row : Row) → (Wrote h e.from
 
 -- starts and commits can be ordered: the history is a snapshot run
 abbrev pub CanBePlaced : History → Type 0
-CanBePlaced h = HasPlaces (leads h Points (committed h)) (node_count Points (length (committed h)))
+CanBePlaced h = HasPlaces (leads h Points) (count_of h Points)
 
 -- the transactions but one can be ordered: the history without it is serializable
 abbrev pub CanBeOrderedWithout : History → ℕ → Type 0
-CanBeOrderedWithout h n = HasPlaces (leads h (Without n) (committed h)) (node_count (Without n) (length (committed h)))
+CanBeOrderedWithout h n = HasPlaces (leads h (Without n)) (count_of h (Without n))
 
 -- a snapshot run has a transaction in a cycle that wrote nothing, and without which it is serializable; the cycle has two anti-dependencies at least, as each in a snapshot run
 abbrev pub IsReadOnlyAnomaly : History → List Edge → Type 0

@@ -13,46 +13,60 @@ use Rattle.lab_history.specs.Version.{ops_of}
 use Rattle.lab_history.specs.declared.operation.Op.{Op}
 use Rattle.lab_deps.specs.declared.edge.Edge.{Edge}
 use Rattle.lab_order.specs.Arrows.{Arrows, nodes_of, has_arrow}
+use Rattle.lab_order.specs.declared.ordering.Ordered.{Ordered}
+use Rattle.lab_order.specs.declared.ordering.Ordered.TheVariants.{Order, Circle}
 use Rattle.lab_reports.specs.declared.phenomenon.Phenomenon.{Phenomenon}
 use Rattle.lab_reports.specs.declared.phenomenon.Phenomenon.TheVariants.{G0, G1a, G1b, G1c, GSingle, G2Item, G2}
 use Rattle.lab_drawing.specs.Cycles.{walk_phenomenon}
 use Rattle.lab_drawing.specs.Dependence.{flows, passes, committed}
 use Rattle.lab_drawing.specs.Orderable.{is_orderable}
 use Rattle.lab_drawing.specs.declared.readers.Nodes.{Nodes}
-use Rattle.lab_drawing.specs.declared.readers.Nodes.TheVariants.{Points, Without}
+use Rattle.lab_drawing.specs.declared.readers.Nodes.TheVariants.{Points, All, Without}
 
 -- ---- what is to be put in an order
 
+-- whether one transaction comes before another
+abbrev pub comes_before : History → ℕ → ℕ → Bool
+comes_before h from to = flows h from to || passes h from to
+
 -- whether one transaction comes before another, neither of which is this one
 abbrev pub is_before : History → ℕ → ℕ → ℕ → Bool
-is_before h without from to = not (from == without) && (not (to == without) && (flows h from to || passes h from to))
+is_before h without from to = not (from == without) && (not (to == without) && comes_before h from to)
 
 -- whether the start or commit of one transaction comes before that of another: a start before its own commit, and before that of a transaction whose write isn't seen; a commit before the start of a transaction that depends on what was written
 abbrev pub is_led : History → ℕ → Bool → ℕ → Bool → Bool
 is_led h from is_start to to_start = cond is_start (not to_start && (from == to || passes h from to)) (to_start && flows h from to)
 
--- how many nodes there are of so many transactions: their starts and commits, or themselves
-abbrev pub node_count : Nodes → ℕ → ℕ
-node_count Points numbers = 2 * numbers
-node_count (Without n) numbers = numbers
+-- how many nodes there are: the starts and commits of the committed transactions, or as many as these
+abbrev pub count_of : History → Nodes → ℕ
+count_of h Points = 2 * length (committed h)
+count_of h All = length (committed h)
+count_of h (Without n) = length (committed h)
 
 -- whether one node comes before another: of the p-th transaction, the start is the node 2p and the commit 2p + 1
-abbrev pub leads : History → Nodes → List ℕ → ℕ → ℕ → Bool
-leads h Points ns a b = is_led h (slice_index ns (a / 2)) (a % 2 == 0) (slice_index ns (b / 2)) (b % 2 == 0)
-leads h (Without n) ns a b = is_before h n (slice_index ns a) (slice_index ns b)
+abbrev pub leads : History → Nodes → ℕ → ℕ → Bool
+leads h Points a b = is_led h (slice_index (committed h) (a / 2)) (a % 2 == 0) (slice_index (committed h) (b / 2)) (b % 2 == 0)
+leads h All a b = comes_before h (slice_index (committed h) a) (slice_index (committed h) b)
+leads h (Without n) a b = is_before h n (slice_index (committed h) a) (slice_index (committed h) b)
 
--- whether one of so many nodes comes before another one
-abbrev pub arrives : History → Nodes → ℕ → ℕ → ℕ → Bool
-arrives h o limit a b = nat_lt a limit && leads h o (committed h) a b
+-- of two nodes that pass a test, an arrow was added to a graph if the first comes before the second
+pub record Grows (h : History) (o : Nodes) (looked : ℕ → ℕ → Bool) (old new : Arrows) : Type 0 where
+  pub size : nodes_of new ≡ nodes_of old
+  pub arrows : (a b : ℕ) → has_arrow new a b ≡ ((looked a b && leads h o a b) || has_arrow old a b)
 
 -- a graph has an arrow exactly where one node comes before another
 pub record IsGraphOf (h : History) (o : Nodes) (graph : Arrows) : Type 0 where
-  pub size : nodes_of graph ≡ node_count o (length (committed h))
-  pub arrows : (a b : ℕ) → has_arrow graph a b ≡ (nat_lt b (node_count o (length (committed h))) && arrives h o (node_count o (length (committed h))) a b)
+  pub size : nodes_of graph ≡ count_of h o
+  pub arrows : (a b : ℕ) → has_arrow graph a b ≡ ((nat_lt a (count_of h o) && nat_lt b (count_of h o)) && leads h o a b)
+
+-- whether what was found of a graph is an order, and no cycle
+abbrev pub is_order : Ordered → Bool
+is_order (Order nodes) = true
+is_order (Circle nodes) = false
 
 -- whether the nodes can be put in an order
 abbrev pub can_order : History → Nodes → Bool
-can_order h o = is_orderable (leads h o (committed h)) (node_count o (length (committed h)))
+can_order h o = is_orderable (leads h o) (count_of h o)
 
 -- ---- the anomaly
 

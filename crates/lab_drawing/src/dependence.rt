@@ -1,16 +1,16 @@
 //! Which committed transactions depend on which.
 
-ghost use Rattle.std.specs.Prelude.{◌≡◌, ◌↔◌, Contains, IfOk, IfSome};
-ghost use Rattle.lab_history.specs.Version.{outcome_of};
+ghost use Rattle.std.specs.Prelude.{◌≡◌, ◌≤◌, ◌↔◌, length, Contains, IfOk, IfSome};
+ghost use Rattle.lab_history.specs.Limits.{max_transactions};
 ghost use Rattle.lab_deps.specs.Edges.{IsEdge};
-ghost use Rattle.lab_deps.specs.Soundness.{IsSound, has_committed};
+ghost use Rattle.lab_deps.specs.Soundness.{IsSound};
 ghost use Rattle.lab_deps.specs.declared.edge.Edge.{Edge as Spelled};
 ghost use Rattle.lab_drawing.specs.Dependence.{depends_at, is_tied, are_two, flows, passes, committed};
 
 use crate::forks::{depends, follows};
-use crate::installs::installers_of;
+use crate::installs::{installers_of, is_committed};
 use lab_deps::{Dependencies, Kind, Kinds, check_local};
-use lab_history::{History, Outcome};
+use lab_history::History;
 use lab_table::{NoMemory, RowName, TxnNo};
 use std::alloc::Global;
 use std::marker::Model;
@@ -26,9 +26,12 @@ pub struct Dependence<'a> {
 impl<'a> Model for Dependence<'a> {
     ghost use Rattle.std.specs.Prelude.{◌≡◌};
     ghost use Rattle.lab_history.specs.History as spec;
+    ghost use Rattle.lab_history.specs.contracts.parts.Parts as stored;
     ghost use Rattle.lab_drawing.specs.Dependence.{committed, AreKnown};
 
     ghost Value = { spec.History };
+
+    ghost coded = { stored.the_row.coded };
 
     ghost view = { λ d. d.history.now };
 
@@ -51,8 +54,10 @@ impl<'a> Dependence<'a> {
 
     /// The committed transactions.
     pub fn numbers(&self) -> &[TxnNo]
-        ensures { result.now ≡ committed self.now }
+        ensures numbers { result.now ≡ committed self.now }
+        ensures few { length result.now ≤ max_transactions }
     {
+        self.history.txns();
         &self.numbers
     }
 
@@ -61,7 +66,7 @@ impl<'a> Dependence<'a> {
         ensures { result ≡ flows self.now from to }
     {
         match &self.net {
-            Some(net) => net.kinds(from, to).meets(Kinds::FLOW),
+            Some(net) => flows_in(net, self.history, from, to),
             None => flows(self.history, from, to),
         }
     }
@@ -71,10 +76,28 @@ impl<'a> Dependence<'a> {
         ensures { result ≡ passes self.now from to }
     {
         match &self.net {
-            Some(net) => net.kinds(from, to).meets(Kinds::ANTI),
+            Some(net) => passes_in(net, self.history, from, to),
             None => passes(self.history, from, to),
         }
     }
+}
+
+/// Whether one of these dependencies, which are those of the history, is on what the first transaction wrote.
+fn flows_in(net: &Dependencies<'_>, history: &History, from: TxnNo, to: TxnNo) -> bool
+    requires sound { IsSound history.now }
+    requires all { (e : Spelled) → Contains net.now.edges e ↔ IsEdge history.now e }
+    ensures { result ≡ flows history.now from to }
+{
+    net.kinds(from, to).meets(Kinds::FLOW)
+}
+
+/// Whether one of them is an anti-dependency.
+fn passes_in(net: &Dependencies<'_>, history: &History, from: TxnNo, to: TxnNo) -> bool
+    requires sound { IsSound history.now }
+    requires all { (e : Spelled) → Contains net.now.edges e ↔ IsEdge history.now e }
+    ensures { result ≡ passes history.now from to }
+{
+    net.kinds(from, to).meets(Kinds::ANTI)
 }
 
 /// The dependencies of a history, if it is sound.
@@ -87,16 +110,6 @@ fn net_of<'a>(alloc: Global, history: &'a History) -> Result<Option<Dependencies
     }
 }
 
-/// Whether a transaction has committed.
-fn has_committed(history: &History, txn: TxnNo) -> bool
-    ensures { result ≡ has_committed (outcome_of history.now txn) }
-{
-    match history.txn(txn) {
-        None => false,
-        Some(found) => matches!(found.outcome, Outcome::Committed),
-    }
-}
-
 /// The committed transactions of a history.
 fn committed(alloc: Global, history: &History) -> Result<Vec<TxnNo>, NoMemory>
     ensures { IfOk result (λ numbers. numbers.items ≡ committed history.now) }
@@ -105,7 +118,7 @@ fn committed(alloc: Global, history: &History) -> Result<Vec<TxnNo>, NoMemory>
         .txns()
         .as_slice()
         .iter()
-        .filter(|txn| has_committed(history, txn.no))
+        .filter(|txn| is_committed(history, txn.no))
         .map(|txn| txn.no)
         .collect(alloc)
 }
@@ -137,7 +150,7 @@ fn is_tied(history: &History, kind: Kind, from: TxnNo, to: TxnNo) -> bool
 fn are_two(history: &History, from: TxnNo, to: TxnNo) -> bool
     ensures { result ≡ are_two history.now from to }
 {
-    has_committed(history, from) && (has_committed(history, to) && from != to)
+    is_committed(history, from) && (is_committed(history, to) && from != to)
 }
 
 /// Whether one transaction depends on what another one wrote, by its operations.

@@ -1,6 +1,6 @@
 //! Long forks and phantoms.
 
-ghost use Rattle.std.specs.Prelude.{◌≡◌, ◌||◌, false, IfOk};
+ghost use Rattle.std.specs.Prelude.{◌≡◌, ◌||◌, false, filter, IfOk};
 ghost use Rattle.lab_drawing.specs.Forks.{splits, split_rows, is_fork, fork_of, is_long_fork, follows, depends, ties_otherwise, ties_at_some, is_tied_otherwise, is_predicate_anti, is_phantom_at, is_phantom};
 
 use crate::installs::installers_of;
@@ -29,6 +29,26 @@ fn splits(history: &History, writer: TxnNo, saw: TxnNo, missed: TxnNo, row: RowN
 }
 
 /// Those of these rows at which this is so.
+fn split_among(
+    alloc: Global,
+    history: &History,
+    writer: TxnNo,
+    saw: TxnNo,
+    missed: TxnNo,
+    rows: &[RowName],
+) -> Result<Vec<RowName>, NoMemory>
+    ensures { IfOk result (λ found. found.items ≡ filter (splits history.now writer saw missed) rows.now) }
+{
+    let mut found = Vec::new(alloc);
+    for row in rows {
+        if splits(history, writer, saw, missed, *row) {
+            found.push(*row)?;
+        }
+    }
+    Ok(found)
+}
+
+/// The rows that a writer wrote, at which this is so.
 fn split_rows(
     alloc: Global,
     history: &History,
@@ -39,13 +59,7 @@ fn split_rows(
     ensures { IfOk result (λ found. found.items ≡ split_rows history.now writer saw missed) }
 {
     let rows = rows_by(alloc, history, writer)?;
-    let mut found = Vec::new(alloc);
-    for row in rows.iter() {
-        if splits(history, writer, saw, missed, *row) {
-            found.push(*row)?;
-        }
-    }
-    Ok(found)
+    split_among(alloc, history, writer, saw, missed, &rows)
 }
 
 /// Whether each of two writes of two rows is seen by its reader alone.

@@ -78,7 +78,8 @@ fn is_writer(history: &History, row: RowName, txn: TxnNo) -> bool
     is_committed(history, txn) && history.last_write(txn, row).is_some()
 }
 
-fn is_committed(history: &History, txn: TxnNo) -> bool
+/// Returns whether a transaction has committed.
+pub fn is_committed(history: &History, txn: TxnNo) -> bool
     ensures { result ≡ has_committed (outcome_of history.now txn) }
 {
     match history.txn(txn) {

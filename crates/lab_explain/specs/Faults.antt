@@ -151,7 +151,7 @@ recorded h (parts.Row EndDiffers row) = end_text h row
 
 -- what is due there
 abbrev pub due : History → FaultParts → List ℕ
-due h (parts.Operation Dangling n k row) = codes "a version that a statement of the file wrote, and one of its own transaction before it"
+due h (parts.Operation Dangling n k row) = codes "a version by a statement in the file: another transaction's, or an earlier one of its own"
 due h (parts.Operation AbortedRead n k row) = codes "a version of a transaction that committed"
 due h (parts.Operation IntermediateRead n k row) = last_due h (op_at (ops_of h n) k) row
 due h (parts.Operation OwnWriteMissed n k row) = codes "the version that its own transaction wrote last before it"

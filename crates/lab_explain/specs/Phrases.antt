@@ -11,7 +11,7 @@ round_text = codes "each of these transactions comes before the next, and the la
 
 -- a history that isn't sound
 unfoldable pub unsound_text : List ℕ
-unsound_text = codes "Not serializable, since the history isn't sound: what it records at one place isn't what is due there."
+unsound_text = codes "Not judged, since the record contradicts itself: what it says at one place isn't what is due there."
 
 -- a snapshot verdict on a history that isn't sound
 unfoldable pub snapshot_unsound : List ℕ

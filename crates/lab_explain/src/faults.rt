@@ -157,7 +157,7 @@ fn put_due(out: &mut Vec<u8>, history: &History, fault: FaultParts) -> Result<()
     match fault {
         FaultParts::Operation { kind, txn, op, row } => match kind {
             OpFault::Dangling => out.extend_from_slice(
-                b"a version that a statement of the file wrote, and one of its own transaction before it",
+                b"a version by a statement in the file: another transaction's, or an earlier one of its own",
             ),
             OpFault::AbortedRead => {
                 out.extend_from_slice(b"a version of a transaction that committed")

@@ -24,7 +24,7 @@ pub fn round_text() -> &'static [u8]
 pub fn unsound_text() -> &'static [u8]
     ensures { result.now ≡ unsound_text }
 {
-    b"Not serializable, since the history isn't sound: what it records at one place isn't what is due there."
+    b"Not judged, since the record contradicts itself: what it says at one place isn't what is due there."
 }
 
 /// A snapshot verdict on a history that isn't sound.

@@ -33,6 +33,7 @@ mod rows;
 mod said;
 mod script;
 mod session;
+mod shown;
 mod silent;
 mod statement;
 mod stop;
@@ -49,5 +50,5 @@ pub use notes::{
     note_file, note_named_file, note_newer_rows, note_play, note_rule, note_script, note_unopened,
     note_unread,
 };
-pub use text::shown_text;
+pub use shown::shown_text;
 pub use words::note_words;

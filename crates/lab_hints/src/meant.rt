@@ -1,6 +1,6 @@
 //! What the arguments of a subcommand are meant to ask for.
 
-use crate::options::{Choice, Spelled, option_in, takes, takes_value};
+use crate::options::{Choice, Spelled, option_in, takes, takes_files, takes_value};
 use crate::quoted::is_typed;
 use lab_table::NoMemory;
 use std::alloc::Global;
@@ -26,6 +26,10 @@ pub struct Meant<'a> {
     /// The list of names, and whether NULs end them.
     pub list: Option<&'a str>,
     pub is_null: bool,
+    /// How many parts a run has.
+    pub parts: Option<&'a str>,
+    pub is_joined: bool,
+    pub has_reports: bool,
     pub is_free: bool,
     pub has_history: bool,
     pub has_rows: bool,
@@ -61,6 +65,9 @@ impl<'a> Meant<'a> {
             title: None,
             list: None,
             is_null: false,
+            parts: None,
+            is_joined: false,
+            has_reports: false,
             is_free: false,
             has_history: false,
             has_rows: false,
@@ -94,6 +101,16 @@ impl<'a> Meant<'a> {
             && self.files.iter().all(|file| is_typed(*file))
     }
 
+    /// Whether they are about a run in parts.
+    pub fn is_of_parts(&self) -> bool {
+        self.parts.is_some() || self.is_joined || self.has_reports
+    }
+
+    /// Whether files are named, or a list of them.
+    pub fn names_files(&self) -> bool {
+        !self.files.is_empty() || self.list.is_some()
+    }
+
     /// Takes an engine; all but `compare` play the last one.
     fn take_engine(&mut self, engine: Option<&'a str>) -> Result<(), NoMemory> {
         if let Some(engine) = engine {
@@ -118,6 +135,7 @@ impl<'a> Meant<'a> {
             Choice::Telling => self.telling = named(choices.tellings, word),
             Choice::Title => self.title = Some(word),
             Choice::FilesFrom => self.list = Some(word),
+            Choice::Parts => self.parts = word.parse::<u64>().ok().map(|_| word),
             _ => {}
         }
         Ok(())
@@ -164,6 +182,10 @@ impl<'a> Meant<'a> {
         word: &'a str,
         choices: Choices<'a>,
     ) -> Result<(), NoMemory> {
+        if takes_files(subcommand) {
+            self.files.push(word)?;
+            return Ok(());
+        }
         self.is_mended = true;
         match self.option_of_value(subcommand, word, choices) {
             Some(choice) => self.take_value(choice, word, choices),
@@ -184,6 +206,8 @@ impl<'a> Meant<'a> {
             Choice::History => self.has_history = true,
             Choice::Rows => self.has_rows = true,
             Choice::Json => self.is_json = true,
+            Choice::Join => self.is_joined = true,
+            Choice::Reports => self.has_reports = true,
             Choice::Progress => self.has_progress = true,
             Choice::Null => self.is_null = true,
             _ => {}

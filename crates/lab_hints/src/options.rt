@@ -1,4 +1,4 @@
-//! The options of subcommands that read standard input, and how people spell them.
+//! The options of subcommands that read standard input or judge files, and how people spell them.
 
 /// An option that the program has.
 #[derive(Clone, Copy, PartialEq, Eq)]
@@ -9,10 +9,13 @@ pub enum Choice {
     Telling,
     Title,
     FilesFrom,
+    Parts,
     Free,
     History,
     Rows,
     Json,
+    Join,
+    Reports,
     Progress,
     Null,
 }
@@ -28,17 +31,20 @@ pub struct Spelled<'a> {
 }
 
 /// The options, by their names.
-const OPTIONS: [(&str, Choice); 12] = [
+const OPTIONS: [(&str, Choice); 15] = [
     ("engine", Choice::Engine),
     ("phenomenon", Choice::Phenomenon),
     ("require", Choice::Requirement),
     ("as", Choice::Telling),
     ("title", Choice::Title),
     ("files-from", Choice::FilesFrom),
+    ("parts", Choice::Parts),
     ("free", Choice::Free),
     ("history", Choice::History),
     ("rows", Choice::Rows),
     ("json", Choice::Json),
+    ("join", Choice::Join),
+    ("reports", Choice::Reports),
     ("progress", Choice::Progress),
     ("null", Choice::Null),
 ];
@@ -103,7 +109,13 @@ pub fn takes_value(choice: Choice) -> bool {
             | Choice::Telling
             | Choice::Title
             | Choice::FilesFrom
+            | Choice::Parts
     )
+}
+
+/// Whether a subcommand requires a level of what it judges.
+fn takes_requirement(subcommand: &str) -> bool {
+    matches!(subcommand, "run" | "judge" | "explain" | "page") || takes_files(subcommand)
 }
 
 /// Whether a subcommand takes an option.
@@ -111,13 +123,19 @@ pub fn takes(subcommand: &str, choice: Choice) -> bool {
     match choice {
         Choice::Engine => matches!(subcommand, "run" | "compare"),
         Choice::Phenomenon => matches!(subcommand, "picture" | "explain" | "page" | "shrink"),
-        Choice::Requirement => matches!(subcommand, "run" | "judge" | "explain" | "page"),
-        Choice::Json => matches!(subcommand, "run" | "judge"),
+        Choice::Requirement => takes_requirement(subcommand),
+        Choice::Json => matches!(subcommand, "run" | "judge") || takes_files(subcommand),
         Choice::Title => subcommand == "page",
-        Choice::Progress => subcommand == "shrink",
+        Choice::Progress => subcommand == "shrink" || takes_files(subcommand),
         Choice::Telling | Choice::Free | Choice::History | Choice::Rows => subcommand == "run",
-        Choice::FilesFrom | Choice::Null => false,
+        Choice::FilesFrom | Choice::Null => takes_files(subcommand),
+        Choice::Parts | Choice::Join | Choice::Reports => subcommand == "chain",
     }
+}
+
+/// Whether a subcommand takes files as arguments.
+pub fn takes_files(subcommand: &str) -> bool {
+    matches!(subcommand, "batch" | "chain")
 }
 
 /// Whether a subcommand reads standard input.

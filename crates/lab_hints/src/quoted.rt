@@ -1,6 +1,6 @@
 //! Words as they are typed in a shell.
 
-use crate::text::is_shown;
+use crate::shown::is_shown;
 use lab_table::NoMemory;
 
 /// The most bytes of a word that is to be typed.

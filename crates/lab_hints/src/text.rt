@@ -23,25 +23,6 @@ pub fn is_utf_16(text: &[u8]) -> bool {
     UTF_16_MARKS.iter().any(|mark| text.starts_with(mark))
 }
 
-/// Whether a terminal shows a character as it is: it is no control character, and doesn't change the direction or the
-/// place of others.
-pub fn is_shown(sign: char) -> bool {
-    !sign.is_control()
-        && !matches!(
-            sign,
-            '\u{200B}'..='\u{200F}' | '\u{2028}'..='\u{202E}' | '\u{2060}'..='\u{206F}' | '\u{FEFF}'
-        )
-}
-
-/// Returns a text with `instead` in place of each character that a terminal doesn't show as it is.
-pub fn shown_text(alloc: Global, text: &str, instead: char) -> Result<String, NoMemory> {
-    let mut shown = String::with_capacity(alloc, text.len())?;
-    for sign in text.chars() {
-        shown.push(if is_shown(sign) { sign } else { instead })?;
-    }
-    Ok(shown)
-}
-
 /// A part of a text.
 #[derive(Clone, Copy)]
 pub enum Part<'a> {

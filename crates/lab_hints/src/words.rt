@@ -1,7 +1,7 @@
 //! Suggestions instead of arguments that a subcommand refuses.
 
 use crate::meant::{Choices, Meant};
-use crate::options::{Choice, reads_input, takes};
+use crate::options::{Choice, reads_input, takes, takes_files};
 use crate::quoted::put_quoted;
 use lab_table::NoMemory;
 use std::alloc::Global;
@@ -52,12 +52,19 @@ fn put_written(out: &mut Vec<u8>, meant: &Meant<'_>) -> Result<(), NoMemory> {
 }
 
 /// Appends the options of a report, which a run that writes something else has in part.
-fn put_report_options(out: &mut Vec<u8>, meant: &Meant<'_>) -> Result<(), NoMemory> {
-    if let Some(requirement) = meant.requirement {
-        put_option(out, "--require", requirement)?;
+fn put_report_options(
+    out: &mut Vec<u8>,
+    subcommand: &str,
+    meant: &Meant<'_>,
+) -> Result<(), NoMemory> {
+    match meant.requirement {
+        Some(requirement) if takes(subcommand, Choice::Requirement) => {
+            put_option(out, "--require", requirement)?;
+        }
+        _ => {}
     }
     let is_else = meant.telling.is_some() || meant.has_history || meant.has_rows;
-    if meant.is_json && !is_else {
+    if meant.is_json && takes(subcommand, Choice::Json) && !is_else {
         put_flag(out, "--json")?;
     }
     Ok(())
@@ -79,9 +86,7 @@ fn put_options<'a>(
         }
         put_written(out, meant)?;
     }
-    if takes(subcommand, Choice::Requirement) {
-        put_report_options(out, meant)?;
-    }
+    put_report_options(out, subcommand, meant)?;
     put_history_options(out, subcommand, meant)
 }
 
@@ -124,10 +129,22 @@ fn put_command<'a>(
     Ok(())
 }
 
-/// Appends the command that judges many files.
-fn put_batch(out: &mut Vec<u8>, meant: &Meant<'_>) -> Result<(), NoMemory> {
-    out.extend_from_slice(b"\nbatch judges files: hermitage_lab batch")?;
-    put_report_options(out, meant)?;
+/// Appends the options of a run in parts.
+fn put_parts_options(out: &mut Vec<u8>, meant: &Meant<'_>) -> Result<(), NoMemory> {
+    if let Some(parts) = meant.parts {
+        put_option(out, "--parts", parts)?;
+    }
+    if meant.is_joined {
+        put_flag(out, "--join")
+    } else if meant.has_reports {
+        put_flag(out, "--reports")
+    } else {
+        Ok(())
+    }
+}
+
+/// Appends the files of a subcommand, or the list that names them.
+fn put_files(out: &mut Vec<u8>, meant: &Meant<'_>) -> Result<(), NoMemory> {
     if let Some(list) = meant.list {
         put_option(out, "--files-from", list)?;
         return if meant.is_null {
@@ -143,6 +160,41 @@ fn put_batch(out: &mut Vec<u8>, meant: &Meant<'_>) -> Result<(), NoMemory> {
     Ok(())
 }
 
+/// Appends a command of a subcommand that judges files.
+fn put_files_command(
+    out: &mut Vec<u8>,
+    subcommand: &str,
+    meant: &Meant<'_>,
+) -> Result<(), NoMemory> {
+    out.extend_from_slice(b"\n")?;
+    out.extend_from_slice(subcommand.as_bytes())?;
+    out.extend_from_slice(b" judges files: hermitage_lab ")?;
+    out.extend_from_slice(subcommand.as_bytes())?;
+    put_report_options(out, subcommand, meant)?;
+    if subcommand == "chain" {
+        put_parts_options(out, meant)?;
+    }
+    if meant.has_progress {
+        put_flag(out, "--progress")?;
+    }
+    put_files(out, meant)
+}
+
+/// The subcommand over files that arguments are meant for, if they are meant for one.
+fn files_subcommand(subcommand: &str, meant: &Meant<'_>) -> Option<&'static str> {
+    let is_judging = subcommand == "judge" || takes_files(subcommand);
+    let has_many = meant.files.len() > 1 || meant.list.is_some();
+    if !is_judging || !meant.names_files() {
+        None
+    } else if subcommand == "chain" || meant.is_of_parts() {
+        Some("chain")
+    } else if subcommand == "batch" || has_many {
+        Some("batch")
+    } else {
+        None
+    }
+}
+
 /// What to type in place of refused arguments; nothing where that isn't known, or can't be typed, or is too long.
 fn words_hint(alloc: Global, given: &[String], choices: Choices<'_>) -> Result<Vec<u8>, NoMemory> {
     let mut out = Vec::new(alloc);
@@ -150,31 +202,32 @@ fn words_hint(alloc: Global, given: &[String], choices: Choices<'_>) -> Result<V
         return Ok(out);
     };
     let subcommand = subcommand.as_str();
-    if !reads_input(subcommand) {
+    if !reads_input(subcommand) && !takes_files(subcommand) {
         return Ok(out);
     }
     let meant = Meant::of(alloc, subcommand, words, choices)?;
+    let of_files = files_subcommand(subcommand, &meant);
     let is_engine_missing = subcommand == "run" && !meant.asks_engine;
-    let is_of_files = subcommand == "judge" && (meant.files.len() > 1 || meant.list.is_some());
-    let is_known = meant.is_mended || is_engine_missing || is_of_files;
+    let is_other = of_files.is_some() && of_files != Some(subcommand);
+    let is_known = meant.is_mended || is_engine_missing || is_other;
     if !is_known || !meant.is_typed() {
         return Ok(out);
     }
-    if is_of_files {
-        put_batch(&mut out, &meant)?;
-    } else {
-        put_command(&mut out, subcommand, &meant, choices)?;
+    match of_files {
+        Some(files_subcommand) => put_files_command(&mut out, files_subcommand, &meant)?,
+        None if takes_files(subcommand) => {}
+        None => put_command(&mut out, subcommand, &meant, choices)?,
     }
     if out.len() > MAX_LINE {
         out.clear();
-    } else {
+    } else if !out.is_empty() {
         out.push(b'\n')?;
     }
     Ok(out)
 }
 
 /// Writes what to type instead of the arguments `given`, the program's name first, if a subcommand that reads standard
-/// input refuses them. Ignores failures.
+/// input or judges files refuses them. Ignores failures.
 pub fn note_words<N: Write>(alloc: Global, given: &[String], choices: Choices<'_>, notes: &mut N) {
     if let Ok(text) = words_hint(alloc, given, choices) {
         let _ = notes.write_all(text.as_slice());

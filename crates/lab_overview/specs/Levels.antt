@@ -38,7 +38,8 @@ unfoldable pub lower_rungs : ℕ → List ℕ
 lower_rungs own =
     rung_text own 2 committed_rung
     ++ rung_text own 1 uncommitted_rung
-    ++ rung_text own 0 lowest_rung
+    ++ rung_open (own == 0)
+    ++ lowest_rung
 
 -- the ladder
 unfoldable pub ladder_text : ℕ → List ℕ

@@ -18,7 +18,7 @@ meaning_of G0 = codes "In a cycle of dependencies each transaction overwrote wha
 meaning_of G1a = codes "A committed transaction saw what an aborted one wrote."
 meaning_of G1b = codes "A committed transaction saw a version that its writer, another one, then overwrote itself."
 meaning_of G1c = codes "In a cycle of dependencies each transaction saw or overwrote what the one before it wrote."
-meaning_of GSingle = codes "In a cycle of dependencies exactly one is a missed change: a transaction saw some of what others did, and not all."
+meaning_of GSingle = codes "In a cycle of dependencies exactly one is a missed change; the others say what was seen or overwritten."
 meaning_of G2Item = codes "In a cycle of dependencies somebody missed a later change of a row that it had listed."
 meaning_of G2 = codes "In a cycle of dependencies somebody missed a later change: of a row that it had listed, or of one that began or stopped to match its where, a phantom."
 
@@ -28,7 +28,7 @@ forbidden_from G0 = codes "PL-1"
 forbidden_from G1a = codes "PL-2"
 forbidden_from G1b = codes "PL-2"
 forbidden_from G1c = codes "PL-2"
-forbidden_from GSingle = codes "no level"
+forbidden_from GSingle = codes "PL-2.99 if it has an rw, else PL-3"
 forbidden_from G2Item = codes "PL-2.99"
 forbidden_from G2 = codes "PL-3"
 

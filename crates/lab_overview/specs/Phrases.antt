@@ -43,7 +43,7 @@ uncommitted_rung = codes "<th scope=\"row\">PL-1 (read uncommitted)</th><td data
 
 -- below PL-1, and what it forbids
 unfoldable pub lowest_rung : List ℕ
-lowest_rung = codes "<th scope=\"row\">below PL-1</th><td data-l=\"forbids\">nothing</td>"
+lowest_rung = codes "<th scope=\"row\">below PL-1</th><td data-l=\"forbids\">nothing</td><td></td></tr>\n"
 
 -- what stands above the phenomena
 unfoldable pub phenomena_open : List ℕ
@@ -55,7 +55,7 @@ check_order = codes "<ol>\n<li>Begin with the rows as they were at first (<a hre
 
 -- how a cycle is checked
 unfoldable pub check_cycle : List ℕ
-check_cycle = codes "<ol>\n<li>For each step, look at its two statements in <a href=\"#transactions\">the table</a>: did the one see, and the other write, what the step says?</li>\n<li>Look at the row in <a href=\"#rows\">the rows</a>: do the two versions follow on each other as the step says?</li>\n<li>Follow the steps: each transaction would have to run before the next, and the last before the first. So no order keeps all steps.</li>\n</ol>\n<p>That is all a no says. It doesn't say that no order gives the recorded rows: two writes of one value leave a dependency that values don't show.</p>\n"
+check_cycle = codes "<ol>\n<li>For each step, look at its two statements in <a href=\"#transactions\">the table</a>: did each see or write what the step says?</li>\n<li>Look at the row in <a href=\"#rows\">the rows</a>: do the two versions follow on each other as the step says?</li>\n<li>Follow the steps: each transaction would have to run before the next, and the last before the first. So no order keeps all steps.</li>\n</ol>\n<p>That is all a no says. It doesn't say that no order gives the recorded rows: two writes of one value leave a dependency that values don't show.</p>\n"
 
 -- how a cycle of starts and commits is checked
 unfoldable pub check_circle : List ℕ
@@ -67,7 +67,7 @@ check_fault = codes "<p>Compare what is recorded with what is due, in <a href=\"
 
 -- how the history file is read
 unfoldable pub check_file : List ℕ
-check_file = codes "<p>In the history file T2.1 is the first of the <code>ops</code> of the transaction whose <code>no</code> is 2: its <code>view</code> has the versions that it saw, each as row, transaction and operation, <code>rows</code> the rows that it listed, and <code>writes</code> those that it wrote. <code>installed</code> says who installed the versions of a row, in their order, <code>initial</code> and <code>end</code> how the rows were at first and in the end.</p>\n"
+check_file = codes "<p>In the history file T2.1 is the first of the <code>ops</code> of the transaction whose <code>no</code> is 2: its <code>view</code> has the versions that it saw, but for the initial ones, each as row, transaction and operation, <code>rows</code> the rows that it listed, and <code>writes</code> those that it wrote. <code>installed</code> says who installed the versions of a row, in their order, <code>initial</code> and <code>end</code> how the rows were at first and in the end.</p>\n"
 
 -- how a program checks it
 unfoldable pub check_program : List ℕ

@@ -68,7 +68,8 @@ fn put_lower_rungs(out: &mut Vec<u8>, own: u32) -> Result<(), NoMemory>
 {
     put_rung(out, own, 2, committed_rung())?;
     put_rung(out, own, 1, uncommitted_rung())?;
-    put_rung(out, own, 0, lowest_rung())
+    out.extend_from_slice(rung_open(own == 0))?;
+    out.extend_from_slice(lowest_rung())
 }
 
 /// Appends the ladder.

@@ -21,7 +21,7 @@ pub fn meaning_of(phenomenon: Phenomenon) -> &'static [u8]
         Phenomenon::G1c =>
             b"In a cycle of dependencies each transaction saw or overwrote what the one before it wrote.",
         Phenomenon::GSingle =>
-            b"In a cycle of dependencies exactly one is a missed change: a transaction saw some of what others did, and not all.",
+            b"In a cycle of dependencies exactly one is a missed change; the others say what was seen or overwritten.",
         Phenomenon::G2Item =>
             b"In a cycle of dependencies somebody missed a later change of a row that it had listed.",
         Phenomenon::G2 =>
@@ -38,7 +38,7 @@ pub fn forbidden_from(phenomenon: Phenomenon) -> &'static [u8]
         Phenomenon::G1a => b"PL-2",
         Phenomenon::G1b => b"PL-2",
         Phenomenon::G1c => b"PL-2",
-        Phenomenon::GSingle => b"no level",
+        Phenomenon::GSingle => b"PL-2.99 if it has an rw, else PL-3",
         Phenomenon::G2Item => b"PL-2.99",
         Phenomenon::G2 => b"PL-3",
     }

@@ -88,7 +88,7 @@ pub fn uncommitted_rung() -> &'static [u8]
 pub fn lowest_rung() -> &'static [u8]
     ensures { result.now ≡ lowest_rung }
 {
-    b"<th scope=\"row\">below PL-1</th><td data-l=\"forbids\">nothing</td>"
+    b"<th scope=\"row\">below PL-1</th><td data-l=\"forbids\">nothing</td><td></td></tr>\n"
 }
 
 /// What stands above the phenomena.
@@ -112,7 +112,7 @@ pub fn check_order() -> &'static [u8]
 pub fn check_cycle() -> &'static [u8]
     ensures { result.now ≡ check_cycle }
 {
-    b"<ol>\n<li>For each step, look at its two statements in <a href=\"#transactions\">the table</a>: did the one see, and the other write, what the step says?</li>\n<li>Look at the row in <a href=\"#rows\">the rows</a>: do the two versions follow on each other as the step says?</li>\n<li>Follow the steps: each transaction would have to run before the next, and the last before the first. So no order keeps all steps.</li>\n</ol>\n<p>That is all a no says. It doesn't say that no order gives the recorded rows: two writes of one value leave a dependency that values don't show.</p>\n"
+    b"<ol>\n<li>For each step, look at its two statements in <a href=\"#transactions\">the table</a>: did each see or write what the step says?</li>\n<li>Look at the row in <a href=\"#rows\">the rows</a>: do the two versions follow on each other as the step says?</li>\n<li>Follow the steps: each transaction would have to run before the next, and the last before the first. So no order keeps all steps.</li>\n</ol>\n<p>That is all a no says. It doesn't say that no order gives the recorded rows: two writes of one value leave a dependency that values don't show.</p>\n"
 }
 
 /// How a cycle of starts and commits is checked.
@@ -136,7 +136,7 @@ pub fn check_fault() -> &'static [u8]
 pub fn check_file() -> &'static [u8]
     ensures { result.now ≡ check_file }
 {
-    b"<p>In the history file T2.1 is the first of the <code>ops</code> of the transaction whose <code>no</code> is 2: its <code>view</code> has the versions that it saw, each as row, transaction and operation, <code>rows</code> the rows that it listed, and <code>writes</code> those that it wrote. <code>installed</code> says who installed the versions of a row, in their order, <code>initial</code> and <code>end</code> how the rows were at first and in the end.</p>\n"
+    b"<p>In the history file T2.1 is the first of the <code>ops</code> of the transaction whose <code>no</code> is 2: its <code>view</code> has the versions that it saw, but for the initial ones, each as row, transaction and operation, <code>rows</code> the rows that it listed, and <code>writes</code> those that it wrote. <code>installed</code> says who installed the versions of a row, in their order, <code>initial</code> and <code>end</code> how the rows were at first and in the end.</p>\n"
 }
 
 /// How a program checks it.

@@ -10,21 +10,34 @@ use lab_table::{NoMemory, TxnNo};
 use std::alloc::{AllocError, Global};
 
 /// The transaction of a start or a commit.
-fn txn_of(point: Point) -> TxnNo {
+fn txn_of(point: &Point) -> TxnNo {
     match point {
-        Point::Start(txn) | Point::Commit(txn) => txn,
+        Point::Start(txn) | Point::Commit(txn) => *txn,
     }
 }
 
 /// The kinds of dependencies by which another transaction's point must come after this one.
-fn kinds_from(point: Point) -> Kinds {
+fn kinds_from(point: &Point) -> Kinds {
     match point {
         Point::Start(_) => Kinds::ANTI,
         Point::Commit(_) => Kinds::FLOW,
     }
 }
 
-/// Adds the dependencies of a cycle of starts and commits. None leads from a start to its own commit.
+/// Adds the dependency by which one point must come after another. None leads from a start to its own commit.
+fn push_edge(
+    net: &Dependencies<'_>,
+    from: &Point,
+    to: &Point,
+    walk: &mut Vec<Edge>,
+) -> Result<(), NoMemory> {
+    if let Some(edge) = net.least(txn_of(from), txn_of(to), kinds_from(from))? {
+        walk.push(edge)?;
+    }
+    Ok(())
+}
+
+/// Adds the dependencies of a cycle of starts and commits.
 fn push_edges(
     net: &Dependencies<'_>,
     points: &[Point],
@@ -33,12 +46,10 @@ fn push_edges(
     let Some(last) = points.last() else {
         return Ok(());
     };
-    let mut from = *last;
+    let mut from = last;
     for to in points {
-        if let Some(edge) = net.least(txn_of(from), txn_of(*to), kinds_from(from))? {
-            walk.push(edge)?;
-        }
-        from = *to;
+        push_edge(net, from, to, walk)?;
+        from = to;
     }
     Ok(())
 }

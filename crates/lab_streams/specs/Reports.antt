@@ -1,5 +1,7 @@
 -- The output of a report, in lines or in JSON, or of a refused file, and how the run ends.
 use Rattle.std.specs.Prelude.{ℕ, List, [], ◌∷◌, ◌++◌, Option, Some, None, Bool, true, false, not, ◌&&◌, cond, codes}
+use Rattle.lab_history.specs.History.{History}
+use Rattle.lab_history.specs.Version.{IsCommitted}
 use Rattle.lab_history.specs.declared.fault.FileFault.{FileFault}
 use Rattle.lab_judge.specs.FileFaultText.{file_fault_text}
 use Rattle.lab_judge.specs.ReportText.{report_text}
@@ -30,13 +32,17 @@ refused_text Json file fault = line_of (refused_tree file fault)
 -- whether a serial verdict is a yes without a transaction
 abbrev pub is_empty_yes : Serial → Bool
 is_empty_yes (serial.Yes []) = true
-is_empty_yes (serial.Yes (no ∷ order)) = false
+is_empty_yes (serial.Yes (n ∷ order)) = false
 is_empty_yes (serial.NoFault f) = false
 is_empty_yes (serial.NoCycle walk) = false
 
 -- whether a report says that no transaction of its history committed
 abbrev pub is_idle : Report → Bool
 is_idle report = is_empty_yes report.serial
+
+-- a transaction of the history committed
+abbrev pub HasCommitted : History → Type 0
+HasCommitted h = (n : ℕ) × IsCommitted h n
 
 -- whether a report keeps what is required: it meets it, and a transaction committed
 abbrev pub keeps : Requirement → Report → Bool

@@ -18,7 +18,7 @@ mod telling;
 
 pub use ending::{Ending, RunFault, status};
 pub use input::read_input;
-pub use laws::idle_histories_are_idle;
+pub use laws::{idle_histories_are_idle, kept_histories_have_commits};
 pub use output::{Answer, note_text, write_text};
 pub use reporting::{
     Format, Wanted, ending_of, is_idle, print_refused, print_said, shortfall_line,

@@ -3,9 +3,10 @@ import argparse
 import os
 import subprocess
 import sys
+from typing import NoReturn
 
 NAME = "cluster/judge"
-TOP = os.path.dirname(os.path.dirname(os.path.realpath(__file__)))
+TOP = os.path.dirname(os.path.dirname(os.path.dirname(os.path.realpath(__file__))))
 LEVELS = "PL-1", "PL-2", "PL-2.99", "PL-3", "SI"
 FAILED, REFUSED, UNJUDGED, INTERRUPTED = 3, 5, 6, 130
 ABOUT = """Judges history files on the workers of a Dask cluster, and prints what `hermitage_lab batch` prints for them.
@@ -18,6 +19,7 @@ EPILOG = """examples:
   cluster/judge --scheduler tcp://HOST:8786 histories/*.json > reports
   find histories -name '*.json' -print0 | sort -z | cluster/judge --scheduler tcp://HOST:8786 --files-from - -0
   cluster/judge --scheduler tcp://HOST:8786 --parts --require PL-3 parts/part*.json
+  cluster/judge --scheduler tcp://HOST:8786 --resume results --files-from names > reports
 
 exit status: 0 to 3 as for batch or chain, the highest of all files; also 3 if the scheduler or all workers are gone: the
 output is then only the beginning of the whole; or if the program isn't hermitage_lab, or has several versions on the
@@ -30,20 +32,51 @@ class Stop(Exception):
     """Why the run can't go on."""
 
 
+class Arguments(argparse.Namespace):
+    """The arguments. `files` has the names as bytes; `program` is set if it is sent to workers or joins results here."""
+
+    scheduler: str
+    parts: bool
+    json: bool
+    require: str | None
+    shared: bool
+    progress: bool
+    program: str | None
+    program_there: str | None
+    patience: float
+    resume: str | None
+    files_from: str | None
+    null: bool
+    names: list[str]
+    files: list[bytes]
+
+    def required(self) -> list[str]:
+        """The arguments by which the program requires the level."""
+        return ["--require", self.require] if self.require else []
+
+    def as_json(self) -> list[str]:
+        """The arguments by which the program prints JSON."""
+        return ["--json"] if self.json else []
+
+
 class Parser(argparse.ArgumentParser):
-    def error(self, message):
+    """A parser whose messages are one line."""
+
+    def error(self, message: str) -> NoReturn:
         """Prints what is wrong with the arguments, in one line, and exits."""
         self.exit(REFUSED, f"{self.prog}: {message}\n")
 
 
-def seconds(number):
+def seconds(number: str) -> float:
+    """A time limit: more than 0 seconds."""
     found = float(number)
     if not 0 < found < float("inf"):
         raise argparse.ArgumentTypeError("it takes more than no time")
     return found
 
 
-def parser():
+def parser() -> Parser:
+    """The parser of the arguments."""
     as_written = argparse.RawDescriptionHelpFormatter
     made = Parser(NAME, description=ABOUT, epilog=EPILOG, formatter_class=as_written, allow_abbrev=False)
     made.add_argument("--scheduler", metavar="ADDRESS", required=True, help="the cluster's scheduler, such as tcp://HOST:8786")
@@ -56,16 +89,18 @@ def parser():
     made.add_argument("--program-there", metavar="PATH", help="each worker's own copy of the program; it isn't sent then")
     patience = "how long to wait for a scheduler, or for a worker (%(default).0f)"
     made.add_argument("--patience", metavar="SECONDS", type=seconds, default=60, help=patience)
+    resume = "keep results in this folder, and take those that an earlier call with the same arguments left there"
+    made.add_argument("--resume", metavar="FOLDER", help=resume)
     made.add_argument("--files-from", metavar="LIST", help="a file with the names, one a line; -: standard input")
     made.add_argument("-0", "--null", action="store_true", help="the names in the list are separated by NUL")
-    made.add_argument("files", metavar="FILE", nargs="*", help="a history file")
+    made.add_argument("names", metavar="FILE", nargs="*", help="a history file")
     return made
 
 
-def names_of(given):
+def names_of(given: Arguments) -> list[bytes]:
     """The given names, as bytes."""
     if given.files_from is None:
-        found = [os.fsencode(name) for name in given.files]
+        found = [os.fsencode(name) for name in given.names]
     else:
         found = [name for name in listed(given.files_from).split(b"\0" if given.null else b"\n") if name]
     for name in found:
@@ -73,18 +108,19 @@ def names_of(given):
     return found
 
 
-def listed(path):
+def listed(path: str) -> bytes:
+    """The text of a list of names."""
     if path == "-":
         return sys.stdin.buffer.read()
     with open(path, "rb") as file:
         return file.read()
 
 
-def words():
-    """The arguments. `files` has the names as bytes; `program` is set if it is sent to workers or joins results here."""
+def arguments() -> Arguments:
+    """The arguments of this call. Exits if they can't be used."""
     made = parser()
-    given = made.parse_args()
-    if bool(given.files) == (given.files_from is not None) or given.null and given.files_from is None:
+    given = made.parse_args(namespace=Arguments())
+    if bool(given.names) == (given.files_from is not None) or given.null and given.files_from is None:
         made.error("it takes either files, or --files-from LIST, which may have -0")
     try:
         given.files = names_of(given)
@@ -97,9 +133,12 @@ def words():
     return given
 
 
-def found_program():
-    """The program that is built from the current sources."""
-    ran = subprocess.run([f"{TOP}/programs/find"], stdout=subprocess.PIPE, text=True, check=False)
+def found_program() -> str:
+    """The program that is built from the current sources, or that of an unpacked release."""
+    find = f"{TOP}/programs/find"
+    if not os.path.exists(find):
+        return f"{TOP}/hermitage_lab"
+    ran = subprocess.run([find], stdout=subprocess.PIPE, text=True, check=False)
     if ran.returncode:
         # (It has printed the reason.)
         sys.exit(FAILED)

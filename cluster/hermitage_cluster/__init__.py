@@ -1,0 +1,1 @@
+"""Judges history files on the workers of a Dask cluster. `cluster/judge` is the command."""

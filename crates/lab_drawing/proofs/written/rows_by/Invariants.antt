@@ -1,8 +1,0 @@
-use Rattle.std.proofs.Common.{◌≡◌, ◌++◌, drop}
-use Rattle.lab_history.specs.Version.{ops_of}
-use Rattle.lab_drawing.specs.Written.{rows_along}
-use Rattle.lab_drawing.proofs.written.rows_by.Given as goal
-
--- the rows so far, and those of the operations that are left
-abbrev pub invariant-loop-op : goal.invariant-loop-op
-invariant-loop-op l = l.rows.items ++ rows_along l.history l.txn l.index (drop l.index (ops_of l.history l.txn)) ≡ rows_along l.history l.txn 0 (ops_of l.history l.txn)

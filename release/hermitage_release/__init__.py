@@ -1,0 +1,1 @@
+"""Makes a release from a checkout. `release/make` is the command."""
