@@ -1,5 +1,5 @@
 -- The least dependencies for the steps of a cycle of starts and commits: what is asked for one after another, and that they are one list.
-use Rattle.std.proofs.{Common.{◌≡◌, ℕ, ◌+◌, ◌<◌, Bool, true, false, Option, Some, None, Result, Ok, Err, List, [], ◌∷◌, ◌++◌, length, take, get_or, refl, sym, ap, ◌∙◌, subst}, lemmas.{Bool.{false≢true}, List.{take_more}}}
+use Rattle.std.proofs.{Common.{◌≡◌, ℕ, ◌+◌, ◌<◌, true, false, Option, Some, None, Result, Ok, Err, List, [], ◌∷◌, ◌++◌, length, take, get_or, refl, sym, ap, ◌∙◌, subst}, lemmas.{Bool.{false≢true}, List.{take_more}}}
 use Rattle.std.specs.{Prelude.{◌↔◌, Contains, IfOk, IfSome}, Ordering.{is_eq, is_lt, ordering_reverse}, declared.cmp.Ordering.{Ordering, TheVariants.{Less, Equal, Greater}}}
 use Rattle.lab_history.specs.History.{History}
 use Rattle.lab_deps.{specs.{Edges.{IsEdge}, EdgeOrder.{edge_cmp}, KindSets.{among}, declared.edge.{Edge.{Edge}}}, proofs.EdgeOrders.{edges_total, same_edge}}

@@ -52,7 +52,7 @@ pub fn told_cycle<'a>(report: &'a Report, focus: &'a Focus) -> &'a [Edge]
     match focus.shown {
         None => serial_cycle(&report.serial),
         Some(Violation::Phenomenon(phenomenon)) => cycle_of(phenomenon.found_in(report)),
-        Some(Violation::Snapshot) => &focus.walk,
+        Some(Violation::Snapshot) => focus.walk.as_slice(),
     }
 }
 
