@@ -7,7 +7,7 @@ import os
 import shutil
 import subprocess
 import sys
-from collections.abc import Iterable
+from collections.abc import Iterable, Sequence
 
 TOP = os.path.dirname(os.path.dirname(os.path.realpath(__file__)))
 sys.path.append(f"{TOP}/tests")
@@ -30,7 +30,7 @@ def below(names: Iterable[str], over: dict[str, str]) -> set[str]:
     return found
 
 
-def build(name: str, crates: list[str], kit: str = "") -> str:
+def build(name: str, crates: Sequence[str], kit: str = "") -> str:
     """Proves and builds a program over hard links of these libraries of the product, and these of the kit. Returns its
     path."""
     with open(f"{TOP}/crates.txt", encoding="ascii") as it:

@@ -1,5 +1,7 @@
 """The shapes of bench/histories.py whose writers set all values to 0 or to 1, which the selects test."""
 from collections.abc import Callable
+from functools import partial
+from typing import Any
 
 from picks import numbers
 from recorder import IDS, Recorder, Test, everything, named, seen_at_first, zeros
@@ -15,8 +17,8 @@ def flipped(part: int, is_no: bool, writers: int, rows: int, readers: int, selec
     for number in range(count):
         it.begin()
         if number >= readers if readers_first else number % 2 == 0:
-            to = 1 - it.state(1)[0]
-            it.run(f"update test set value = {to} where value >= 0", ids, everything, lambda old, to=to: to)
+            to = 1 - (it.state(1)[0] or 0)
+            it.run(f"update test set value = {to} where value >= 0", ids, everything, partial(always, to))
         else:
             for _ in range(selects):
                 text, test = condition(place)
@@ -26,23 +28,28 @@ def flipped(part: int, is_no: bool, writers: int, rows: int, readers: int, selec
     return it
 
 
+def always(value: int, _: Any) -> int:
+    """What an update to a fixed value writes."""
+    return value
+
+
 def by_value(place: int) -> tuple[str, Test]:
     wanted = place % 2
-    return f"value = {wanted}", lambda row, value: value == wanted
+    return f"value = {wanted}", lambda row, value: bool(value == wanted)
 
 
 def by_value_below(place: int) -> tuple[str, Test]:
     wanted, bound = place % 2, IDS + 1 + place
-    return f"value = {wanted} and id < {bound}", lambda row, value: value == wanted and row < bound
+    return f"value = {wanted} and id < {bound}", lambda row, value: bool(value == wanted and row < bound)
 
 
 def one(place: int) -> tuple[str, Test]:
-    return "value = 1", lambda row, value: value == 1
+    return "value = 1", lambda row, value: bool(value == 1)
 
 
 def one_below(place: int) -> tuple[str, Test]:
     bound = IDS + 1 + place
-    return f"value = 1 and id < {bound}", lambda row, value: value == 1 and row < bound
+    return f"value = 1 and id < {bound}", lambda row, value: bool(value == 1 and row < bound)
 
 
 def flips(part: int, is_no: bool) -> Recorder:

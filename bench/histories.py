@@ -3,9 +3,10 @@
 A shape's function gets the divisor of the limits, 1 for all or 2 for half, and whether the history must be a no. The
 transactions of a yes run one after another. In a no, some of them see rows as they were at first, although others have
 written them since, so the dependencies form cycles."""
+from collections.abc import Callable
 from functools import partial
 
-from flips import bounds, flips, hostile, shuffled, unlike
+from flips import always, bounds, flips, hostile, shuffled, unlike
 from picks import TABLES, numbers
 from recorder import IDS, OPERATIONS, TRANSACTIONS, Recorder, Values, everything, named, seen_at_first, table_of, zeros
 
@@ -137,7 +138,7 @@ def wide(part: int, is_no: bool) -> Recorder:
     for last in range(10):
         it.begin()
         it.run(f"update test set value = value + 10 where value = {last}", every,
-               lambda row, value, last=last: value == last, lambda old: old + 10)
+               lambda _, value, last=last: bool(value == last), lambda old: int(old) + 10)
         it.end()
     for _ in range(selects):
         it.begin()
@@ -157,7 +158,7 @@ def reborn(part: int, is_no: bool) -> Recorder:
         for _ in range(EACH):
             row = next(pick) % 10 + 1
             if it.state(row)[0] is None:
-                it.run(f"insert into test (id, value) values ({row}, {number})", [row], None, lambda old, to=number: to)
+                it.run(f"insert into test (id, value) values ({row}, {number})", [row], None, partial(always, number))
             else:
                 it.run(f"delete from test where id = {row}", [row], everything, lambda old: None)
         it.end("committed" if number % 3 else "aborted")
@@ -177,7 +178,7 @@ def worst(part: int, is_no: bool) -> Recorder:
         for place in range(10):
             modulus = 10 * number + place + 2
             it.run(f"select * from test where value % {modulus} = 1", rows,
-                   lambda row, value, modulus=modulus: value % modulus == 1, None)
+                   lambda _, value, modulus=modulus: bool(value % modulus == 1), None)
         it.end()
     return it
 
@@ -220,7 +221,7 @@ def selects(part: int, is_no: bool) -> Recorder:
         for _ in range(10):
             least = next(pick) % (IDS - 20)
             it.run(f"select * from test where value >= {least} and value < {least + 20}", every,
-                   lambda row, value, least=least: least <= value < least + 20, None)
+                   lambda _, value, least=least: bool(least <= value < least + 20), None)
         it.end()
     it.begin()
     update_row(it, 1)
@@ -234,7 +235,8 @@ def selects(part: int, is_no: bool) -> Recorder:
 
 
 IN_VERSION_1 = chain, points, wide, reborn, worst, lists, flips, bounds, shuffled, unlike, hostile
-SHAPES = {shape.__name__: (shape, 1) for shape in IN_VERSION_1} | {
+Shape = Callable[[int, bool], Recorder]
+SHAPES: dict[str, tuple[Shape, int]] = {shape.__name__: (shape, 1) for shape in IN_VERSION_1} | {
     "points_2": (points, 2),
     "wide_2": (wide, 2),
     "tables": (tables, 2),
@@ -247,7 +249,7 @@ SHAPES = {shape.__name__: (shape, 1) for shape in IN_VERSION_1} | {
     "lost": (lost, 2),
 }
 # Each history by its name: its function, and the version of its file.
-HISTORIES = {
+HISTORIES: dict[str, tuple[Callable[[], Recorder], int]] = {
     shape + ("_no" if is_no else "") + ("_half" if part == 2 else ""): (partial(make, part, is_no), version)
     for shape, (make, version) in SHAPES.items()
     for is_no in (False, True)

@@ -1,5 +1,6 @@
 """The histories that bench/shrink measures: transactions by the rules of each engine at the limits, with a lost update
 and with write skew, and records with a fault."""
+from collections.abc import Callable, Sequence
 from functools import partial
 from typing import Any
 
@@ -9,11 +10,16 @@ from recorder import OPERATIONS, TRANSACTIONS, Recorder, Row, State, Values, eve
 ROWS, SESSIONS = 100, 8
 
 
+def one_more(old: Any) -> int:
+    """What an update writes."""
+    return int(old) + 1
+
+
 class Stale(Recorder):
     """Transactions that run one after another, as with locks, except that some see rows as they were before the
     transaction right before them: `stale` has these rows by the transaction's number."""
 
-    def __init__(self, initial: Values, stale: int) -> None:
+    def __init__(self, initial: Values, stale: dict[int, Sequence[int]]) -> None:
         super().__init__(initial)
         self.stale, self.before = stale, dict(self.states)
 
@@ -34,21 +40,23 @@ class Sessions:
 
     def __init__(self, is_snapshot: bool) -> None:
         self.is_snapshot, self.commits = is_snapshot, 0
-        self.log = {("test", row): [(0, 0, None)] for row in range(1, ROWS + 1)}
-        self.transactions, self.installed, self.entries = [], {}, 0
+        self.log: dict[Row, list[Any]] = {("test", row): [(0, 0, None)] for row in range(1, ROWS + 1)}
+        self.transactions: list[dict[str, Any]] = []
+        self.installed: dict[Row, list[int]] = {}
+        self.entries = 0
 
     def begin(self) -> dict[str, Any]:
         txn = {"no": len(self.transactions) + 1, "ops": [], "since": self.commits, "own": {}}
         self.transactions.append(txn)
         return txn
 
-    def seen(self, txn: dict[str, Any], row: int) -> Any:
+    def seen(self, txn: dict[str, Any], row: Row) -> Any:
         if row in txn["own"]:
             return txn["own"][row]
         there = [it for it in self.log[row] if not self.is_snapshot or it[0] <= txn["since"]]
         return there[-1][1:]
 
-    def run(self, txn: dict[str, Any], row: int, is_update: bool) -> None:
+    def run(self, txn: dict[str, Any], row: Row, is_update: bool) -> None:
         """A select or an update of one row, which also sees its transaction's writes."""
         saw = {it: self.seen(txn, it) for it in {row, *txn["own"]}}
         view = [[*it, *name] for it, (_, name) in sorted(saw.items()) if name]
@@ -83,7 +91,8 @@ class Sessions:
 def side_by_side(is_snapshot: bool, count: int, each: int) -> Recorder:
     """This many transactions of this many operations each, by eight sessions, over 100 rows; two in five are updates,
     each of a row of which no other transaction has a pending version."""
-    it, pick, active, done = Sessions(is_snapshot), numbers(), [], 0
+    it, pick, done = Sessions(is_snapshot), numbers(), 0
+    active: list[dict[str, Any]] = []
     while done < count:
         if len(active) < SESSIONS and done + len(active) < count:
             active.append(it.begin())
@@ -99,7 +108,7 @@ def side_by_side(is_snapshot: bool, count: int, each: int) -> Recorder:
     return it.history()
 
 
-def by_locks(stale: bool, count: int, each: int) -> Recorder:
+def by_locks(stale: Sequence[int], count: int, each: int) -> Recorder:
     """This many transactions, one after another; in the middle two that interact at rows 1 and 2, of which the second
     sees rows as they were before the first: a lost update, or write skew."""
     first = count // 2
@@ -113,11 +122,11 @@ def by_locks(stale: bool, count: int, each: int) -> Recorder:
             if len(stale) == 1 and number > first:
                 # the update matches the other one's write
                 it.stale = {}
-            it.run(f"update test set value = value + 1 where id = {own}", [own], everything, lambda old: old + 1)
+            it.run(f"update test set value = value + 1 where id = {own}", [own], everything, one_more)
         for _ in range(each - len(it.operations)):
             row, is_update = next(pick) % (ROWS - 2) + 3, next(pick) % 5 < 2
             text = "update test set value = value + 1" if is_update else "select * from test"
-            it.run(f"{text} where id = {row}", [row], everything, (lambda old: old + 1) if is_update else None)
+            it.run(f"{text} where id = {row}", [row], everything, one_more if is_update else None)
         it.end()
     return it
 
@@ -133,21 +142,23 @@ def with_fault(kind: str, count: int, each: int) -> Recorder:
         middle[-1]["rows"][0][-1] += 1
     else:
         row = ("test", ROWS)
-        it.states[row] = it.states[row][0] + 1, it.states[row][1]
+        value, name = it.states[row]
+        it.states[row] = (value or 0) + 1, name
     return it
 
 
 LONG, SHORT = (TRANSACTIONS, OPERATIONS // TRANSACTIONS), (200, 50)
-MADE = {
+KINDS: tuple[tuple[Any, ...], ...] = (
+    ("locking_lost", by_locks, (1,)),
+    ("locking_skew", by_locks, (1, 2)),
+    ("committed", side_by_side, False),
+    ("snapshot", side_by_side, True),
+    ("dangling", with_fault, "F1"),
+    ("rows_differ", with_fault, "F6"),
+    ("end_differs", with_fault, "F9"),
+)
+MADE: dict[str, Callable[[], Recorder]] = {
     f"{name}_{count}": partial(make, *more, count, each)
     for count, each in (LONG, SHORT)
-    for name, make, *more in (
-        ("locking_lost", by_locks, (1,)),
-        ("locking_skew", by_locks, (1, 2)),
-        ("committed", side_by_side, False),
-        ("snapshot", side_by_side, True),
-        ("dangling", with_fault, "F1"),
-        ("rows_differ", with_fault, "F6"),
-        ("end_differs", with_fault, "F9"),
-    )
+    for name, make, *more in KINDS
 }

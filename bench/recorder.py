@@ -54,30 +54,32 @@ class Recorder:
     def __init__(self, initial: Values, past: dict[int, Iterable[Row]] | None = None) -> None:
         self.initial = dict(initial)
         self.past = past or {}
-        self.installed = {}
-        self.transactions = []
+        self.installed: dict[Row, list[int]] = {}
+        self.transactions: list[dict[str, Any]] = []
         self.entries = 0
         # the committed state: a row's value (None if it is absent) and the version's name, None for the initial one
-        self.states = {row: (value, None) for row, value in initial.items()}
+        self.states: dict[Row, State] = {row: (value, None) for row, value in initial.items()}
 
     def begin(self) -> None:
-        self.own, self.operations = {}, []
+        self.own: dict[Row, State] = {}
+        self.operations: list[dict[str, Any]] = []
         rows = self.past.get(len(self.transactions) + 1, ())
-        self.first = {row: (self.initial.get(row), None) for row in rows}
+        self.first: dict[Row, State] = {row: (self.initial.get(row), None) for row in rows}
 
     def state(self, row: int, table: str = "test") -> State:
-        row = (table, row)
-        return self.own.get(row) or self.first.get(row) or self.states.get(row, (None, None))
+        """A row's state, as the current transaction sees it."""
+        name = (table, row)
+        return self.own.get(name) or self.first.get(name) or self.states.get(name, (None, None))
 
     def run(self, statement: str, touched: Iterable[int], lists: Test | None, new: Callable[[Any], int | None] | None, table: str = "test") -> None:
         """An operation that sees the rows of these numbers and its transaction's own. It returns and writes those that
         are present and chosen by number and value, or writes an absent one if it returns none; `new` gives the value."""
-        touched = named(sorted(touched), table)
-        seen = {row: self.state(row[1], row[0]) for row in {*touched, *self.own}}
+        used = named(sorted(touched), table)
+        seen = {row: self.state(row[1], row[0]) for row in {*used, *self.own}}
         view = [[*row, *name] for row, (_, name) in sorted(seen.items()) if name]
-        there = [(row, seen[row][0]) for row in touched if seen[row][0] is not None]
+        there = [(row, seen[row][0]) for row in used if seen[row][0] is not None]
         rows = [(row, value) for row, value in there if lists and lists(row[1], value)]
-        targets = rows if lists else [(row, None) for row in touched]
+        targets = rows if lists else [(row, None) for row in used]
         writes = [(row, new(value)) for row, value in targets] if new else []
         number, place = len(self.transactions) + 1, len(self.operations) + 1
         listed, written = ([[*row, value] for row, value in states] for states in (rows, writes))
@@ -101,13 +103,13 @@ class Recorder:
             for op in txn["ops"]:
                 op["view"] = [[*row, to[writer], place] for *row, writer, place in op["view"]]
         self.installed = {row: [to[writer] for writer in writers] for row, writers in self.installed.items()}
-        self.transactions.sort(key=lambda txn: txn["no"])
+        self.transactions.sort(key=lambda txn: int(txn["no"]))
 
     def text(self, version: int) -> str:
         assert len(self.transactions) <= TRANSACTIONS and self.entries <= ENTRIES, self.entries
         assert sum(len(it["ops"]) for it in self.transactions) <= OPERATIONS
         end = {row: value for row, (value, _) in self.states.items() if value is not None}
-        initial, installed, end = (
+        initial, installed, left = (
             in_version(version, [[*row, it] for row, it in sorted(of.items())]) for of in (self.initial, self.installed, end)
         )
         lists = ("view", "rows", "writes")
@@ -121,6 +123,6 @@ class Recorder:
             "initial": initial,
             "transactions": transactions,
             "installed": installed,
-            "end": end,
+            "end": left,
         }
         return json.dumps(whole, separators=(",", ":"), sort_keys=True)

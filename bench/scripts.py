@@ -15,7 +15,8 @@ def setup(rows: int) -> str:
 
 def script(rows: int, statement: Callable[[Iterator[int], int], str], length: int) -> bytes:
     """Sessions that alternate, each in transactions of this many statements; two in three commit."""
-    inside, lines, pick = [0] * SESSIONS, [], numbers()
+    inside, pick = [0] * SESSIONS, numbers()
+    lines: list[str] = []
     while len(lines) < COMMANDS:
         session = len(lines) % SESSIONS
         if not inside[session]:

@@ -38,6 +38,7 @@ def in_sql(statement: str, version: str) -> tuple[str | None, str]:
         return (f"insert into test (id, value, txn, op) values ({row}) on conflict (id) do update set"
                 " value = excluded.value, txn = excluded.txn, op = excluded.op, gone = 0 where gone"), "false"
     parts = FORM.fullmatch(statement)
+    assert parts
     rows = condition(parts["rows"])
     change = {"select *": None, "delete": "gone = 1", "update": f"value = {parts['result']}"}[parts[1]]
     return change and f"update test set {change}, (txn, op) = ({version}) where {rows}", rows
@@ -52,7 +53,8 @@ class Recorder:
     """The table, and the recording of its transactions: their outcomes and operations."""
 
     def __init__(self, path: str, initial: list[list[int]]) -> None:
-        self.path, self.initial, self.transactions = path, initial, []
+        self.path, self.initial = path, initial
+        self.transactions: list[dict[str, Any]] = []
         self.connection = self.connect()
         self.connection.executescript(TABLES)
         self.connection.executemany("insert into test (id, value) values (?, ?)", initial)
@@ -65,7 +67,7 @@ class Recorder:
 
     def history(self) -> dict[str, Any]:
         """The object of the file. A transaction in the table of commits has committed, even if its result was lost."""
-        installed = {}
+        installed: dict[int, list[int]] = {}
         by_number = {txn["no"]: txn for txn in self.transactions}
         for no, in self.list("select txn from commits order by place"):
             by_number[no]["outcome"] = "committed"
@@ -85,7 +87,8 @@ class Session:
     """A connection, and its current transaction."""
 
     def __init__(self, recorder: Recorder) -> None:
-        self.recorder, self.connection, self.txn = recorder, recorder.connect(), None
+        self.recorder, self.connection = recorder, recorder.connect()
+        self.txn: dict[str, Any] = {}
 
     def list(self, question: str) -> list[list[Any]]:
         return [list(row) for row in self.connection.execute(question)]
