@@ -17,6 +17,22 @@ def one_more(old: int) -> int:
     return old + 1
 
 
+def ten_more(old: int) -> int:
+    return old + 10
+
+
+def is_value(wanted: int, _: int, value: int) -> bool:
+    return value == wanted
+
+
+def has_rest(modulus: int, _: int, value: int) -> bool:
+    return value % modulus == 1
+
+
+def is_from(least: int, _: int, value: int) -> bool:
+    return least <= value < least + 20
+
+
 def select_row(it: Recorder, row: int, table: str = "test") -> None:
     it.run(f"select * from {table} where id = {row}", [row], everything, None, table)
 
@@ -138,7 +154,7 @@ def wide(part: int, is_no: bool) -> Recorder:
     for last in range(10):
         it.begin()
         it.run(f"update test set value = value + 10 where value = {last}", every,
-               lambda _, value, last=last: bool(value == last), lambda old: int(old) + 10)
+               partial(is_value, last), ten_more)
         it.end()
     for _ in range(selects):
         it.begin()
@@ -178,7 +194,7 @@ def worst(part: int, is_no: bool) -> Recorder:
         for place in range(10):
             modulus = 10 * number + place + 2
             it.run(f"select * from test where value % {modulus} = 1", rows,
-                   lambda _, value, modulus=modulus: bool(value % modulus == 1), None)
+                   partial(has_rest, modulus), None)
         it.end()
     return it
 
@@ -221,7 +237,7 @@ def selects(part: int, is_no: bool) -> Recorder:
         for _ in range(10):
             least = next(pick) % (IDS - 20)
             it.run(f"select * from test where value >= {least} and value < {least + 20}", every,
-                   lambda _, value, least=least: bool(least <= value < least + 20), None)
+                   partial(is_from, least), None)
         it.end()
     it.begin()
     update_row(it, 1)

@@ -69,7 +69,7 @@ class Recorder:
     def state(self, row: int, table: str = "test") -> State:
         """A row's state, as the current transaction sees it."""
         name = (table, row)
-        return self.own.get(name) or self.first.get(name) or self.states.get(name, (None, None))
+        return self.own.get(name) or self.first.get(name) or self.states.get(name) or (None, None)
 
     def run(self, statement: str, touched: Iterable[int], lists: Test | None, new: Callable[[Any], int | None] | None, table: str = "test") -> None:
         """An operation that sees the rows of these numbers and its transaction's own. It returns and writes those that
@@ -109,9 +109,8 @@ class Recorder:
         assert len(self.transactions) <= TRANSACTIONS and self.entries <= ENTRIES, self.entries
         assert sum(len(it["ops"]) for it in self.transactions) <= OPERATIONS
         end = {row: value for row, (value, _) in self.states.items() if value is not None}
-        initial, installed, left = (
-            in_version(version, [[*row, it] for row, it in sorted(of.items())]) for of in (self.initial, self.installed, end)
-        )
+        states: tuple[dict[Row, Any], ...] = self.initial, self.installed, end
+        initial, installed, left = (in_version(version, [[*row, it] for row, it in sorted(of.items())]) for of in states)
         lists = ("view", "rows", "writes")
         transactions = [
             txn | {"ops": [op | {of: in_version(version, op[of]) for of in lists} for op in txn["ops"]]}

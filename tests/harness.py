@@ -36,7 +36,7 @@ class Words(argparse.ArgumentParser):
     def format_help(self) -> str:
         return self.docstring
 
-    def parse_args(self, *given: Any) -> argparse.Namespace:  # type: ignore[override]
+    def parse_args(self, *given: Any) -> Any:  # type: ignore[override]  # (it takes no namespace)
         """The arguments. Leaves out the functions that --only doesn't ask for."""
         found = super().parse_args(*given)
         if found.only:

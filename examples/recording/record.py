@@ -114,8 +114,8 @@ class Session:
             return False
         writes = self.list("select id, case when gone then null else value end from test"
                            f" where txn = {no} and op = {op} order by id")
-        lists = {"view": of_table(view), "rows": of_table(rows), "writes": of_table(writes)}
-        self.txn["ops"].append({"statement": statement, **lists})
+        lists: dict[str, Any] = {"view": of_table(view), "rows": of_table(rows), "writes": of_table(writes)}
+        self.txn["ops"].append({"statement": statement} | lists)
         return True
 
     def commit(self) -> None:
