@@ -3,7 +3,7 @@ import glob
 import os
 import re
 from collections.abc import Iterator
-from typing import NamedTuple
+from typing import Any, NamedTuple
 
 from crates import paragraphs
 from harness import TOP
@@ -16,13 +16,13 @@ PUBLIC = re.compile(r"\bpub (?:const )?fn ([a-z_0-9]+)\b")
 EXPORTS = re.compile(r"^pub use [\w:]+::(?:\{([^}]*)\}|(\w+));", re.M)
 
 
-def owner_name(kind, head):
+def owner_name(kind: str, head: str) -> str:
     """The name of the type that an `impl` is of, of a tuple that of its first, or of a trait."""
     head = re.sub(r"^<[^{]*?>\s", "", head.strip()) if kind == "impl" else head.strip()
     return re.search(r"\w+", head.split(" for ")[-1]).group()
 
 
-def contract(text, place, source=None):
+def contract(text: str, place: int, source: str | None = None) -> list[tuple[str, str]]:
     """The promised clauses of the function whose head begins at a place: (name, text) each. Where a source is given, of
     which the text has all but comments and quotes at the same places, the clauses are cut out of it."""
     clauses, depth = [], 0
@@ -41,7 +41,7 @@ def contract(text, place, source=None):
     return clauses
 
 
-def owners_in(text):
+def owners_in(text: str) -> list[tuple[str, str, int, int]]:
     """The types' and traits' parts of a text: kind, name, and the places between which each stands."""
     return [(m.group(1), owner_name(*m.groups()), m.start(), behind(text, m.end())) for m in OWNER.finditer(text)]
 
@@ -54,7 +54,7 @@ def items_in(text: str) -> Iterator[tuple[re.Match, str]]:
         yield item, "::".join(within[-1:] + [item.group(1)])
 
 
-def functions_of(path):
+def functions_of(path: str) -> dict[str, Any]:
     """The functions of a file by name, those of a type or trait as `Type::name`, each with its clauses."""
     text, found = code_of(path), {}
     for item, name in items_in(text):
@@ -62,13 +62,13 @@ def functions_of(path):
     return found
 
 
-def exported_from(crate):
+def exported_from(crate: str) -> set[str]:
     """The names that a crate's lib.rt exports."""
     parts = EXPORTS.findall(code_of(f"{crate}/src/lib.rt"))
     return {word for several, one in parts for word in re.findall(r"\w+", several or one)}
 
 
-def public_in(path, exported):
+def public_in(path: str, exported: Any) -> Iterator[str]:
     """The functions of a file that are exported, or are public ones of a type, or any of a trait, that is."""
     text = code_of(path)
     owners = owners_in(text)

@@ -1,10 +1,12 @@
 """Interleavings with the records that PostgreSQL's manual ("Transaction Isolation") leads to expect; and wrong input."""
+from typing import Any
+
 READ_COMMITTED, REPEATABLE_READ, SERIALIZABLE = "read committed", "repeatable read", "serializable"
 SETUP = "setup (1, 10), (2, 20);\n"
 BOTH = SETUP + "begin; -- T1\nbegin; -- T2\n"
 
 
-def of_test(*members):
+def of_test(*members: list[Any]) -> list[list[Any]]:
     return [["test", *member] for member in members]
 
 

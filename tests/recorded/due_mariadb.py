@@ -20,7 +20,7 @@ ALIKE = (
 )
 
 
-def translated(line):
+def translated(line: str) -> str:
     for theirs, ours in ERRORS.items():
         line = line.replace(f"refused {theirs} ", f"refused {ours} ")
     return line

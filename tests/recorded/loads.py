@@ -10,6 +10,7 @@ import sys
 import tempfile
 import time
 from concurrent.futures import ThreadPoolExecutor
+from typing import Any
 
 from cutting import Comparison
 from harness import TOP, run
@@ -72,7 +73,7 @@ MIXES = (
 class Ended:
     """A load that has ended: its output, and its parts by their numbers."""
 
-    def __init__(self, words, environment=None, path=f"{TOP}/recorders/load", seconds=3):
+    def __init__(self, words: list[str], environment: dict[str, str] | None = None, path: str = f"{TOP}/recorders/load", seconds: float = 3) -> None:
         with tempfile.TemporaryDirectory() as room:
             self.parts = f"{room}/parts"
             asked = ["--seconds", str(seconds), "--parts", self.parts]
@@ -83,13 +84,13 @@ class Ended:
                 with open(name, "rb") as file:
                     self.texts[int(re.fullmatch(r"part(\d{4}).json", os.path.basename(name))[1])] = file.read()
 
-    def run(self, words, environment):
+    def run(self, words: list[str], environment: dict[str, str] | None) -> Any:
         return run(words, seconds=SECONDS, env=environment)
 
-    def histories(self):
+    def histories(self) -> dict[int, Any]:
         return {number: json.loads(text) for number, text in self.texts.items()}
 
-    def is_met(self, program, promise):
+    def is_met(self, program: str, promise: str) -> tuple[bool, str]:
         """Whether all parts are histories that meet a level, which no unsound one does; and what was wrong."""
         with tempfile.TemporaryDirectory() as room:
             names = [f"{room}/part{number}.json" for number in self.texts]
@@ -103,7 +104,7 @@ class Ended:
 class Interrupted(Ended):
     """A load that is interrupted after it wrote a part."""
 
-    def run(self, words, environment):
+    def run(self, words: list[str], environment: dict[str, str] | None) -> Any:
         process = subprocess.Popen(words, stdout=subprocess.PIPE, stderr=subprocess.PIPE, env=environment)
         until = time.monotonic() + SECONDS
         while not glob.glob(f"{self.parts}/*.json") and process.poll() is None and time.monotonic() < until:
@@ -113,7 +114,7 @@ class Interrupted(Ended):
         return subprocess.CompletedProcess(words, process.returncode, out, said)
 
 
-def try_parts(tally, name, load, promise, status=0):
+def try_parts(tally: Tally, name: str, load: Any, promise: str, status: int = 0) -> None:
     """The result of a load: at least two parts, each sound and at the promised level, each beginning as the one before it
     ended; and its output about them. After an interrupt, a further line reports it."""
     summary = load.said[-2 if status == INTERRUPTED else -1 :][:1]
@@ -139,7 +140,7 @@ def try_parts(tally, name, load, promise, status=0):
     tally.note(is_cut and committed, f"{name}: a part has more transactions than asked for, or none committed")
 
 
-def try_shrunk(tally, name, load):
+def try_shrunk(tally: Tally, name: str, load: Any) -> None:
     """For parts that aren't serializable, `shrink` leaves a part of each that isn't either."""
     for number in sorted(load.texts)[:SHRUNK]:
         text, no = load.texts[number], b"serializable: no T"
@@ -150,7 +151,7 @@ def try_shrunk(tally, name, load):
             tally.note(not wrong, f"{name}: what is left of part {number}: {wrong}; {left[:300]}")
 
 
-def try_loads(tally, name, levels, environment=None):
+def try_loads(tally: Tally, name: str, levels: Any, environment: dict[str, str] | None = None) -> None:
     """Loads at some levels, side by side."""
     with ThreadPoolExecutor(len(levels)) as pool:
         loads = pool.map(lambda level: Ended([name, "--level", level, *OTHERS], environment), levels)
@@ -159,7 +160,7 @@ def try_loads(tally, name, levels, environment=None):
             try_parts(tally, f"a load on {name}, {level}", load, PROMISES[name][level])
 
 
-def edited_load(edits):
+def edited_load(edits: Any) -> Any:
     """The result of an edited load on the toy database."""
     with tempfile.TemporaryDirectory() as room:
         shutil.copytree(f"{TOP}/recorders", f"{room}/recorders", ignore=shutil.ignore_patterns("__pycache__"))
@@ -167,7 +168,7 @@ def edited_load(edits):
         return Ended(["toy", *OTHERS], path=f"{room}/recorders/load", seconds=2)
 
 
-def try_edited(tally):
+def try_edited(tally: Tally) -> None:
     """The judge reports wrong loads. A part that can't be recorded is left out, and only that one."""
     with ThreadPoolExecutor(len(WRONG) + 1) as pool:
         load, *wrong = pool.map(edited_load, [UNTOLD, *(edits for _, edits in WRONG)])
@@ -179,7 +180,7 @@ def try_edited(tally):
     try_parts(tally, "a load of which a part can't be told", load, "PL-3", status=LEFT_OUT)
 
 
-def is_of_mix(statements):
+def is_of_mix(statements: list[str]) -> bool:
     """Whether the statements of a transaction are those of a kind, with numbers as their names say."""
     heavier, lighter = HEAVIER.fullmatch(statements), LIGHTER.fullmatch(statements)
     if heavier:
@@ -188,7 +189,7 @@ def is_of_mix(statements):
     return lighter and ROWS < int(lighter[1]) <= 1000
 
 
-def try_mix(tally):
+def try_mix(tally: Tally) -> None:
     """A mix by the user: its statements are those that ran, on the rows that it names."""
     with tempfile.NamedTemporaryFile("w", suffix=".mix") as mix:
         mix.write(MIX)
@@ -203,7 +204,7 @@ def try_mix(tally):
     tally.note(len(txns) > 2 * heavier > 0, f"of {len(txns)} transactions {heavier} are of the lighter kind")
 
 
-def try_refused(tally):
+def try_refused(tally: Tally) -> None:
     """Arguments and mixes that must be refused, in one line."""
     with tempfile.TemporaryDirectory() as room:
         asked = [(what, ["--parts", f"{room}/parts", *words], due) for what, words, due in BAD]
@@ -222,7 +223,7 @@ def try_refused(tally):
                 tally.note(is_due, f"recorders/load: {what}: status {ended.returncode}, {said}")
 
 
-def try_interrupt_of_load(tally):
+def try_interrupt_of_load(tally: Tally) -> None:
     load = Interrupted(["toy", *OTHERS], seconds=60)
     tally.note(load.said[-1:] == ["recorders/load: interrupted"], f"an interrupted load said {load.said}")
     try_parts(tally, "an interrupted load", load, "PL-3", status=INTERRUPTED)

@@ -2,6 +2,8 @@
 
 An edit is a file, a text that occurs in it once, and the replacement.
 """
+from typing import Any
+
 POSTGRES, MARIADB, RECORDING, TABLES = "postgres", "mariadb", "recording.py", "tables.py"
 READ_COMMITTED, REPEATABLE_READ, SERIALIZABLE = "read committed", "repeatable read", "serializable"
 SNAPSHOTS = "innodb_snapshot_isolation"
@@ -249,7 +251,7 @@ MUTATIONS = {
 }
 
 
-def edited(folder, edits):
+def edited(folder: str, edits: Any) -> None:
     """Makes the edits in a copy of recorders/."""
     for name, old, new in edits:
         with open(f"{folder}/{name}", encoding="utf-8") as file:
