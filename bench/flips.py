@@ -7,7 +7,16 @@ from picks import numbers
 from recorder import IDS, Recorder, Test, everything, named, seen_at_first, zeros
 
 
-def flipped(part: int, is_no: bool, writers: int, rows: int, readers: int, selects: int, condition: Callable[[int], tuple[str, Test]], readers_first: bool = False) -> Recorder:
+def flipped(
+    part: int,
+    is_no: bool,
+    writers: int,
+    rows: int,
+    readers: int,
+    selects: int,
+    condition: Callable[[int], tuple[str, Test]],
+    readers_first: bool = False,
+) -> Recorder:
     """This many writers that each set the value of this many rows from 0 to 1, or back, and readers of this many selects
     each, between the writers or before them all. `condition` gives the test of the n-th select: its text, and the test
     itself for a row and its value. In the no, the last writer sees a row as it was at first."""

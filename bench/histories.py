@@ -153,8 +153,7 @@ def wide(part: int, is_no: bool) -> Recorder:
     it = Recorder(last_digits(IDS), seen_at_first(is_no, 10 + selects, named([1])))
     for last in range(10):
         it.begin()
-        it.run(f"update test set value = value + 10 where value = {last}", every,
-               partial(is_value, last), ten_more)
+        it.run(f"update test set value = value + 10 where value = {last}", every, partial(is_value, last), ten_more)
         it.end()
     for _ in range(selects):
         it.begin()
@@ -193,8 +192,7 @@ def worst(part: int, is_no: bool) -> Recorder:
         it.begin()
         for place in range(10):
             modulus = 10 * number + place + 2
-            it.run(f"select * from test where value % {modulus} = 1", rows,
-                   partial(has_rest, modulus), None)
+            it.run(f"select * from test where value % {modulus} = 1", rows, partial(has_rest, modulus), None)
         it.end()
     return it
 
@@ -236,8 +234,9 @@ def selects(part: int, is_no: bool) -> Recorder:
         it.begin()
         for _ in range(10):
             least = next(pick) % (IDS - 20)
-            it.run(f"select * from test where value >= {least} and value < {least + 20}", every,
-                   partial(is_from, least), None)
+            it.run(
+                f"select * from test where value >= {least} and value < {least + 20}", every, partial(is_from, least), None
+            )
         it.end()
     it.begin()
     update_row(it, 1)

@@ -158,7 +158,5 @@ KINDS: tuple[tuple[Any, ...], ...] = (
     ("end_differs", with_fault, "F9"),
 )
 MADE: dict[str, Callable[[], Recorder]] = {
-    f"{name}_{count}": partial(make, *more, count, each)
-    for count, each in (LONG, SHORT)
-    for name, make, *more in KINDS
+    f"{name}_{count}": partial(make, *more, count, each) for count, each in (LONG, SHORT) for name, make, *more in KINDS
 }

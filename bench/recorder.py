@@ -71,7 +71,14 @@ class Recorder:
         name = (table, row)
         return self.own.get(name) or self.first.get(name) or self.states.get(name) or (None, None)
 
-    def run(self, statement: str, touched: Iterable[int], lists: Test | None, new: Callable[[Any], int | None] | None, table: str = "test") -> None:
+    def run(
+        self,
+        statement: str,
+        touched: Iterable[int],
+        lists: Test | None,
+        new: Callable[[Any], int | None] | None,
+        table: str = "test",
+    ) -> None:
         """An operation that sees the rows of these numbers and its transaction's own. It returns and writes those that
         are present and chosen by number and value, or writes an absent one if it returns none; `new` gives the value."""
         used = named(sorted(touched), table)

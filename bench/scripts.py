@@ -65,8 +65,4 @@ def held(waiting: int, rows: int = 380) -> bytes:
     return "\n".join([*lines, ""]).encode()
 
 
-SCRIPTS = {
-    "conflicts": script(5, point(2), 4),
-    "points": script(300, point(8), 10),
-    "wide": script(300, wide, 10),
-}
+SCRIPTS = {"conflicts": script(5, point(2), 4), "points": script(300, point(8), 10), "wide": script(300, wide, 10)}

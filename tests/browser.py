@@ -29,17 +29,32 @@ class Browser:
         self.room = tempfile.TemporaryDirectory(ignore_cleanup_errors=True)
         asks, self.writes = os.pipe()
         reads, answers = os.pipe()
-        words = [self.path, "--headless", "--no-sandbox", "--disable-gpu", "--no-first-run", "--hide-scrollbars",
-                 "--disable-ipc-flooding-protection",
-                 f"--user-data-dir={self.room.name}", "--remote-debugging-pipe", "about:blank"]
+        words = [
+            self.path,
+            "--headless",
+            "--no-sandbox",
+            "--disable-gpu",
+            "--no-first-run",
+            "--hide-scrollbars",
+            "--disable-ipc-flooding-protection",
+            f"--user-data-dir={self.room.name}",
+            "--remote-debugging-pipe",
+            "about:blank",
+        ]
 
         def on_three_and_four() -> None:
             kept = [fcntl.fcntl(it, fcntl.F_DUPFD, 10) for it in (asks, answers)]
             for number, it in enumerate(kept, 3):
                 os.dup2(it, number)
 
-        self.process = subprocess.Popen(words, stdin=subprocess.DEVNULL, stdout=subprocess.DEVNULL, stderr=subprocess.DEVNULL,
-                                        close_fds=False, preexec_fn=on_three_and_four)
+        self.process = subprocess.Popen(
+            words,
+            stdin=subprocess.DEVNULL,
+            stdout=subprocess.DEVNULL,
+            stderr=subprocess.DEVNULL,
+            close_fds=False,
+            preexec_fn=on_three_and_four,
+        )
         os.close(asks)
         os.close(answers)
         self.reads, self.unread, self.session = reads, b"", None
@@ -115,8 +130,10 @@ class Browser:
 
     def point_at(self, selector: str) -> None:
         """Moves the mouse over the element that a selector finds."""
-        across, down = self.evaluate(f"""(() => {{
+        across, down = self.evaluate(
+            f"""(() => {{
           const it = document.querySelector({json.dumps(selector)}); it.scrollIntoView({{block: 'center'}});
           const at = it.getBoundingClientRect(); return [at.left + 4, at.top + at.height / 2];
-        }})()""")
+        }})()"""
+        )
         self.point(across, down)

@@ -25,10 +25,13 @@ def written(value: Any) -> bytes:
 def adding(before: Any, transactions: int, operations: int, rows: int) -> Any:
     """A part whose transactions, one after another, add 1 to one row after another. Each uses different rows, all with
     the same initial value. Returns its file, and the value of the first row after it."""
-    value, seen, all_ops = [before] * (rows + 1), {}, []
-    installed = [[] for _ in range(rows + 1)]
+    value = [before] * (rows + 1)
+    seen: dict[int, Any] = {}
+    all_ops: list[Any] = []
+    installed: list[list[int]] = [[] for _ in range(rows + 1)]
     for no in range(1, transactions + 1):
-        ops, own = [], {}
+        ops: list[Any] = []
+        own: dict[int, Any] = {}
         for place in range(1, operations + 1):
             row = ((no - 1) * operations + place - 1) % rows + 1
             view = own | ({row: seen[row]} if row in seen else {})
@@ -55,8 +58,16 @@ def adding_run(parts: int, transactions: int, operations: int, rows: int) -> lis
 
 def unchanged(entries: Any) -> bytes:
     """The file of a part without transactions, with these rows, each with its table's name."""
-    return written({"format": "hermitage-history", "version": 2, "initial": entries, "transactions": [], "installed": [],
-                    "end": entries})
+    return written(
+        {
+            "format": "hermitage-history",
+            "version": 2,
+            "initial": entries,
+            "transactions": [],
+            "installed": [],
+            "end": entries,
+        }
+    )
 
 
 def told(parts: Any, lines: Any, level: str) -> bytes:
@@ -106,11 +117,22 @@ def missing(names: Sequence[str]) -> bytes:
 def answer(parts: int, first: Any, initial: Any, end: Any) -> bytes:
     """The output of `chain --json` for this many parts, all a yes, of which a transaction committed. Rows have their tables'
     names."""
-    return written({
-        "committed": True, "parts": parts, "first": first, "initial": initial, "end": end, "level": "PL-3",
-        "serializable": {"verdict": "yes"}, "snapshot": {"verdict": "yes"},
-        "phenomena": {name: {"verdict": "absent"} for name in made.PHENOMENA},
-    }) + b"\n"
+    return (
+        written(
+            {
+                "committed": True,
+                "parts": parts,
+                "first": first,
+                "initial": initial,
+                "end": end,
+                "level": "PL-3",
+                "serializable": {"verdict": "yes"},
+                "snapshot": {"verdict": "yes"},
+                "phenomena": {name: {"verdict": "absent"} for name in made.PHENOMENA},
+            }
+        )
+        + b"\n"
+    )
 
 
 def rows_of(value: int, rows: int) -> list[list[Any]]:
@@ -161,8 +183,13 @@ def wide_seams(room: str) -> Iterator[Run]:
     """Parts with the greatest number of rows, of four tables, which differ at one row or more."""
     rows = [[table, 999_001 + row, row] for table in TABLES for row in range(ROWS // len(TABLES))]
     rows.sort()
-    changed = {"last": [*rows[:-1], [*rows[-1][:2], -1]], "none": [], "all": [[*row[:2], -1] for row in rows],
-               "fewer": rows[:-1], "middle": [*rows[:500], *rows[501:]]}
+    changed = {
+        "last": [*rows[:-1], [*rows[-1][:2], -1]],
+        "none": [],
+        "all": [[*row[:2], -1] for row in rows],
+        "fewer": rows[:-1],
+        "middle": [*rows[:500], *rows[501:]],
+    }
     put(room, {"same.json": unchanged(rows), **{f"{name}.json": unchanged(it) for name, it in changed.items()}})
     yield Run(["chain", *["same.json"] * 20], b"", told(20, {}, "PL-3"))
     where = {"last": 999, "none": 0, "all": 0, "fewer": 999, "middle": 500}
@@ -183,8 +210,16 @@ def is_answer(out: Any, initial: Any, end: Any) -> bool:
 def refused_at_the_end(room: str) -> Iterator[Run]:
     """A part of maximal length that is refused at its last byte, or is one byte too long, between two others."""
     part = unchanged([["test", 1, 0]])
-    put(room, {"part.json": part, "whole.json": part.rjust(MOST_BYTES), "cut.json": part[:-1].rjust(MOST_BYTES),
-               "more.json": (part + b"x").rjust(MOST_BYTES), "long.json": part.rjust(MOST_BYTES + 1)})
+    put(
+        room,
+        {
+            "part.json": part,
+            "whole.json": part.rjust(MOST_BYTES),
+            "cut.json": part[:-1].rjust(MOST_BYTES),
+            "more.json": (part + b"x").rjust(MOST_BYTES),
+            "long.json": part.rjust(MOST_BYTES + 1),
+        },
+    )
     yield Run(["chain", "part.json", "whole.json", "part.json"], b"", told(3, {}, "PL-3"))
     for name, fault in ("cut", "NotJson"), ("more", "NotJson"), ("long", "OverLimit bytes"):
         due = f"== {name}.json\nfile: {fault}\n".encode() + unjudged(3, f"{name}.json")
@@ -229,7 +264,12 @@ def long_lists() -> Iterator[Run]:
     assert len(text) == MOST_BYTES
     yield Run(["batch", *words], text, missing(names), 3)
     yield Run(["chain", *words], text, missing(names) + unjudged(count, names[0]), 3)
-    for word, more in ("batch", "n"), ("chain", "\n"), ("batch", "part.json\n" * 100_000), ("chain", "part.json\n" * 100_000):
+    for word, more in (
+        ("batch", "n"),
+        ("chain", "\n"),
+        ("batch", "part.json\n" * 100_000),
+        ("chain", "part.json\n" * 100_000),
+    ):
         yield Run([word, *words], text + more.encode(), b"", 5)
 
 

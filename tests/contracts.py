@@ -19,7 +19,7 @@ EXPORTS = re.compile(r"^pub use [\w:]+::(?:\{([^}]*)\}|(\w+));", re.M)
 def owner_name(kind: str, head: str) -> str:
     """The name of the type that an `impl` is of, of a tuple that of its first, or of a trait."""
     head = re.sub(r"^<[^{]*?>\s", "", head.strip()) if kind == "impl" else head.strip()
-    return re.search(r"\w+", head.split(" for ")[-1]).group()
+    return str(re.findall(r"\w+", head.split(" for ")[-1])[0])
 
 
 def contract(text: str, place: int, source: str | None = None) -> list[tuple[str, str]]:
@@ -46,7 +46,7 @@ def owners_in(text: str) -> list[tuple[str, str, int, int]]:
     return [(m.group(1), owner_name(*m.groups()), m.start(), behind(text, m.end())) for m in OWNER.finditer(text)]
 
 
-def items_in(text: str) -> Iterator[tuple[re.Match, str]]:
+def items_in(text: str) -> Iterator[tuple[re.Match[str], str]]:
     """The functions of a text: the match of each head, and its name, of a type's or a trait's `Type::name`."""
     owners = owners_in(text)
     for item in ITEM.finditer(text):
@@ -56,7 +56,8 @@ def items_in(text: str) -> Iterator[tuple[re.Match, str]]:
 
 def functions_of(path: str) -> dict[str, Any]:
     """The functions of a file by name, those of a type or trait as `Type::name`, each with its clauses."""
-    text, found = code_of(path), {}
+    text = code_of(path)
+    found: dict[str, Any] = {}
     for item, name in items_in(text):
         found.setdefault(name, []).extend(contract(text, item.end()))
     return found
@@ -83,7 +84,7 @@ def public_in(path: str, exported: Any) -> Iterator[str]:
 def doc_above(lines: list[str], number: int) -> list[str]:
     """The paragraphs and the list items of the doc comment above a line. Attributes and plain comments may be between
     them."""
-    found = []
+    found: list[Any] = []
     while number and lines[number - 1].strip().startswith(("//", "#[")):
         number -= 1
         if lines[number].strip().startswith("///"):

@@ -11,7 +11,9 @@ from typing import Any
 LISTS = "view", "rows", "writes"
 Row = tuple[str, int]
 History = dict[str, Any]
-MOST_WAYS = 10_000  # so many ways to match operations are tried, so that a wrong history of many equal ones doesn't take hours
+MOST_WAYS = (
+    10_000  # so many ways to match operations are tried, so that a wrong history of many equal ones doesn't take hours
+)
 
 
 def named(member: list[Any]) -> Row:
@@ -66,8 +68,11 @@ def without_operations(history: History, is_cut: Callable[[Any, Any], bool]) -> 
                 yield [*row, no, place]
 
     after = {no: [before[no][place - 1] for place in of] for no, of in kept.items()}
-    transactions = [txn | {"ops": [op | {"view": list(seen(op["view"]))} for op in after[txn["no"]]]}
-                    for txn in history["transactions"] if after[txn["no"]]]
+    transactions = [
+        txn | {"ops": [op | {"view": list(seen(op["view"]))} for op in after[txn["no"]]]}
+        for txn in history["transactions"]
+        if after[txn["no"]]
+    ]
     initial, end = by_row(history["initial"]), by_row(history["end"])
     installed: dict[Row, list[int]] = {}
     for row, by in by_row(history["installed"]).items():
@@ -79,24 +84,38 @@ def without_operations(history: History, is_cut: Callable[[Any, Any], bool]) -> 
             end[row] = left(after, stays[-1], row) if stays else initial.get(row)
         if stays:
             installed[row] = stays
-    return history | {"transactions": transactions, "initial": listed(initial), "end": listed(end),
-                      "installed": listed(installed)}
+    return history | {
+        "transactions": transactions,
+        "initial": listed(initial),
+        "end": listed(end),
+        "installed": listed(installed),
+    }
 
 
 def with_rows(history: History, is_kept: Callable[[Row], bool]) -> History:
     """A history whose lists all lack the rows that aren't kept."""
+
     def of(members: Any) -> list[list[Any]]:
         return [member for member in members if is_kept(named(member))]
 
-    transactions = [txn | {"ops": [op | {key: of(op[key]) for key in LISTS} for op in txn["ops"]]}
-                    for txn in history["transactions"]]
+    transactions = [
+        txn | {"ops": [op | {key: of(op[key]) for key in LISTS} for op in txn["ops"]]} for txn in history["transactions"]
+    ]
     return history | {"transactions": transactions} | {key: of(history[key]) for key in ("initial", "installed", "end")}
 
 
 def without_entry(history: History, cut: Any) -> History:
     """A history without an entry of a view, given by its transaction's number, its operation's and its row."""
-    transactions = [txn | {"ops": [op | {"view": [it for it in op["view"] if (txn["no"], place, named(it)) != cut]}
-                                   for place, op in enumerate(txn["ops"], 1)]} for txn in history["transactions"]]
+    transactions = [
+        txn
+        | {
+            "ops": [
+                op | {"view": [it for it in op["view"] if (txn["no"], place, named(it)) != cut]}
+                for place, op in enumerate(txn["ops"], 1)
+            ]
+        }
+        for txn in history["transactions"]
+    ]
     return history | {"transactions": transactions}
 
 

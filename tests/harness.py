@@ -56,7 +56,9 @@ def leave_out(module: dict[str, Any], only: str) -> None:
     calls = {name: called(module[name].__code__, tries) for name in tries}
     chosen = {name for name in tries if name.removeprefix("try_") == only}
     if not chosen:
-        refuse(f"no part is named {only}; there are {', '.join(sorted(name.removeprefix('try_') for name in tries)) or 'none'}")
+        refuse(
+            f"no part is named {only}; there are {', '.join(sorted(name.removeprefix('try_') for name in tries)) or 'none'}"
+        )
     below, above = set(chosen), set(chosen)
     for _ in tries:
         below |= {name for caller in below for name in calls[caller]}

@@ -10,6 +10,8 @@ from runs import listed
 HOMES = {"test": (1, 2, 3, 4), "stock": (1, 2)}
 ROWS = [(table, id) for table in sorted(HOMES) for id in HOMES[table]]
 NUMBERS = 3  # times as many numbers as transactions, from which theirs are drawn
+Row = tuple[str, int]
+History = dict[str, Any]
 
 
 class Version:
@@ -24,13 +26,23 @@ class Interleaving:
     transaction that commits in the end, so dependencies may form cycles. With `is_serial`, one transaction runs after the
     other and sees the last versions. `astray` says which other versions may be seen too: "aborted", "intermediate"."""
 
-    def __init__(self, draw: Random, count: int, most: int, is_serial: bool = False, astray: Sequence[str] = (), tables: Sequence[str] = ("stock", "test")) -> None:
+    def __init__(
+        self,
+        draw: Random,
+        count: int,
+        most: int,
+        is_serial: bool = False,
+        astray: Sequence[str] = (),
+        tables: Sequence[str] = ("stock", "test"),
+    ) -> None:
         self.draw, self.is_serial, self.astray = draw, is_serial, astray
         self.rows = [row for row in ROWS if row[0] in tables]
         self.initial = {row: draw.randint(0, 3) for row in self.rows if draw.random() < 0.7}
         self.versions = {row: [Version(None, self.initial.get(row))] for row in self.rows}
-        self.writers = {row: [] for row in self.rows}  # those that commit, by their first writes
-        self.behind = {row: set() for row in self.rows}  # pairs of which the first has to come first there
+        self.writers: dict[Row, list[int]] = {row: [] for row in self.rows}  # those that commit, by their first writes
+        self.behind: dict[Row, set[tuple[int, int]]] = {
+            row: set() for row in self.rows
+        }  # pairs of which the first has to come first there
         self.numbers = draw.sample(range(1, NUMBERS * count + 1), count)
         self.is_kept = {no: draw.random() < 0.85 for no in self.numbers}
         self.own, self.ops = ({no: of() for no in self.numbers} for of in (dict, list))
@@ -57,18 +69,22 @@ class Interleaving:
         if kind == "insert":
             value = draw.randint(0, 9)
             return f"insert into {table} (id, value) values ({id}, {value})", None, lambda old: value, {id}
-        where, matches, ids = draw.choice((
-            (f" where id = {id}", lambda it, value: it == id, {id}),
-            (f" where id in ({id}, 9)", lambda it, value: it == id, {id}),
-            (" where value % 2 = 0", lambda it, value: value % 2 == 0, every),
-            (f" where value > {id}", lambda it, value: value > id, every),
-            ("", lambda it, value: True, every),
-        ))
+        where, matches, ids = draw.choice(
+            (
+                (f" where id = {id}", lambda it, value: it == id, {id}),
+                (f" where id in ({id}, 9)", lambda it, value: it == id, {id}),
+                (" where value % 2 = 0", lambda it, value: value % 2 == 0, every),
+                (f" where value > {id}", lambda it, value: value > id, every),
+                ("", lambda it, value: True, every),
+            )
+        )
         if kind == "select":
             return f"select * from {table}{where}", matches, None, ids
         if kind == "delete":
             return f"delete from {table}{where}", matches, lambda old: None, ids
-        text, change = draw.choice((("value + 1", lambda old: old + 1), ("7", lambda old: 7), ("value + 0", lambda old: old)))
+        text, change = draw.choice(
+            (("value + 1", lambda old: old + 1), ("7", lambda old: 7), ("value + 0", lambda old: old))
+        )
         return f"update {table} set value = {text}{where}", matches, change, ids
 
     def operate(self, no: int) -> bool:
@@ -77,9 +93,12 @@ class Interleaving:
         text, matches, change, ids = self.statement(table)
         looked = set(self.rows) if self.draw.random() < 0.2 else {(table, id) for id in ids} | set(self.own[no])
         saw = {row: self.seen(no, row) for row in sorted(looked)}
-        found = {row: it.value for row, it in saw.items() if matches and row[0] == table and it.value is not None
-                 and matches(row[1], it.value)}
-        written = list(found) if matches else [(table, *ids)]
+        found = {
+            row: it.value
+            for row, it in saw.items()
+            if matches and row[0] == table and it.value is not None and matches(row[1], it.value)
+        }
+        written: list[Any] = list(found) if matches else [(table, *ids)]
         is_refused = not matches and saw[written[0]].value is not None
         if is_refused or change and any(self.is_fixed(no, row) for row in written):
             return False
@@ -114,20 +133,26 @@ class Interleaving:
         """The committed writers of a row by their first writes, or in another order that fits what each saw of it."""
         order = list(self.writers[row])
         for place in range(len(order) - 1):
-            first, second = order[place:place + 2]
+            first, second = order[place : place + 2]
             if not self.is_serial and (first, second) not in self.behind[row] and self.draw.random() < 0.4:
-                order[place:place + 2] = second, first
+                order[place : place + 2] = second, first
         return order
 
     def history(self) -> History:
         installed = {row: self.installers(row) for row in self.rows if self.writers[row]}
         end = self.initial | {row: self.own[of[-1]][row].value for row, of in installed.items()}
         numbers = sorted(self.numbers) if self.draw.random() < 0.7 else self.numbers
-        transactions = [{"no": no, "outcome": "committed" if self.is_kept[no] else "aborted", "ops": self.ops[no]}
-                        for no in numbers]
-        return {"format": "hermitage-history", "version": 2, "initial": listed(self.initial), "transactions": transactions,
-                "installed": [[*row, of] for row, of in sorted(installed.items())],
-                "end": listed({row: value for row, value in end.items() if value is not None})}
+        transactions = [
+            {"no": no, "outcome": "committed" if self.is_kept[no] else "aborted", "ops": self.ops[no]} for no in numbers
+        ]
+        return {
+            "format": "hermitage-history",
+            "version": 2,
+            "initial": listed(self.initial),
+            "transactions": transactions,
+            "installed": [[*row, of] for row, of in sorted(installed.items())],
+            "end": listed({row: value for row, value in end.items() if value is not None}),
+        }
 
 
 def committed(history: History) -> list[Any]:
@@ -141,7 +166,7 @@ def operations(history: History) -> list[Any]:
 
 def put(members: Any, member: Any) -> None:
     """Replaces the member of the same row, or inserts a new one in order."""
-    members[:] = sorted([it for it in members if it[:2] != member[:2]] + [member], key=lambda it: it[:2])
+    members[:] = sorted([it for it in members if it[:2] != member[:2]] + [member], key=lambda it: list(it[:2]))
 
 
 def dangling(draw: Random, history: History) -> Any:
@@ -162,8 +187,13 @@ def own_write_missed(draw: Random, history: History) -> Any:
 def later_than_own(draw: Random, history: History) -> Any:
     """A transaction that saw another's version installs before it."""
     installed = {tuple(row): by for *row, by in history["installed"]}
-    pairs = [(by, seen[2], no) for no, _, op in operations(history) for seen in op["view"]
-             for by in [installed.get(tuple(seen[:2]), [])] if seen[2] != no and {seen[2], no} <= set(by)]
+    pairs = [
+        (by, seen[2], no)
+        for no, _, op in operations(history)
+        for seen in op["view"]
+        for by in [installed.get(tuple(seen[:2]), [])]
+        if seen[2] != no and {seen[2], no} <= set(by)
+    ]
     by, first, second = draw.choice(pairs)
     by.remove(first)
     by.insert(by.index(second) + 1, first)
@@ -185,8 +215,9 @@ def rows_differ(draw: Random, history: History) -> Any:
 def writes_differ(draw: Random, history: History) -> Any:
     """A statement doesn't write the right state, at a row whose new version nobody saw."""
     seen = [member for _, _, op in operations(history) for member in op["view"]]
-    wrote = [member for no, place, op in operations(history) for member in op["writes"]
-             if [*member[:2], no, place] not in seen]
+    wrote = [
+        member for no, place, op in operations(history) for member in op["writes"] if [*member[:2], no, place] not in seen
+    ]
     draw.choice(wrote)[2] = 55
 
 

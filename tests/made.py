@@ -16,16 +16,26 @@ def of_test(members: Iterable[list[Any]]) -> list[list[Any]]:
     return [["test", *member] for member in members]
 
 
-def operation(statement: str, view: Iterable[list[Any]] = (), rows: Iterable[list[Any]] = (), writes: Iterable[list[Any]] = ()) -> Op:
+def operation(
+    statement: str, view: Iterable[list[Any]] = (), rows: Iterable[list[Any]] = (), writes: Iterable[list[Any]] = ()
+) -> Op:
     """An operation on the table `test`; its lists name rows by their ids."""
     return {"statement": statement, "view": of_test(view), "rows": of_test(rows), "writes": of_test(writes)}
 
 
-def history(initial: Iterable[list[Any]], transactions: list[list[Op]], installed: Iterable[list[Any]], end: Iterable[list[Any]]) -> bytes:
+def history(
+    initial: Iterable[list[Any]], transactions: list[list[Op]], installed: Iterable[list[Any]], end: Iterable[list[Any]]
+) -> bytes:
     """The file of a history of committed transactions, each a list of operations; they have the numbers 1, 2, .."""
     numbered = [{"no": no, "outcome": "committed", "ops": ops} for no, ops in enumerate(transactions, 1)]
-    whole = {"format": "hermitage-history", "version": 2, "initial": of_test(initial), "transactions": numbered,
-             "installed": of_test(installed), "end": of_test(end)}
+    whole = {
+        "format": "hermitage-history",
+        "version": 2,
+        "initial": of_test(initial),
+        "transactions": numbered,
+        "installed": of_test(installed),
+        "end": of_test(end),
+    }
     return json.dumps(whole, separators=(",", ":"), sort_keys=True).encode()
 
 

@@ -37,8 +37,11 @@ class Stretch:
         by_value = self.draw.random() < 0.3
         rows = [row for row in ROWS if row[0] == table and (by_value or row[1] == wanted) or row in own]
         saw = {row: self.seen(row, own) for row in rows}
-        found = {row: value for row, (_, value) in saw.items() if row[0] == table and value is not None
-                 and (value % 2 == 0 if by_value else row[1] == wanted)}
+        found = {
+            row: value
+            for row, (_, value) in saw.items()
+            if row[0] == table and value is not None and (value % 2 == 0 if by_value else row[1] == wanted)
+        }
         where = "value % 2 = 0" if by_value else f"id = {wanted}"
         is_read = self.draw.random() < 0.4
         text = f"select * from {table} where {where}" if is_read else f"update {table} set value = value + 1 where {where}"
@@ -65,8 +68,14 @@ class Stretch:
         return {row: value for row, value in last.items() if value is not None}
 
     def history(self) -> History:
-        return {"format": "hermitage-history", "version": 2, "initial": listed(self.initial), "end": listed(self.end()),
-                "transactions": self.transactions, "installed": [[*row, of] for row, of in sorted(self.installed.items())]}
+        return {
+            "format": "hermitage-history",
+            "version": 2,
+            "initial": listed(self.initial),
+            "end": listed(self.end()),
+            "transactions": self.transactions,
+            "installed": [[*row, of] for row, of in sorted(self.installed.items())],
+        }
 
 
 def joined(parts: list[History]) -> History:
@@ -88,8 +97,11 @@ def joined(parts: list[History]) -> History:
             installed.setdefault((table, row), []).extend(no + before for no in by)
             base[table, row] = by[-1] + before, last[by[-1], table, row]
         before += len(it["transactions"])
-    return whole | {"transactions": transactions, "end": parts[-1]["end"],
-                    "installed": [[*row, by] for row, by in sorted(installed.items())]}
+    return whole | {
+        "transactions": transactions,
+        "end": parts[-1]["end"],
+        "installed": [[*row, by] for row, by in sorted(installed.items())],
+    }
 
 
 def stretches(draw: Random) -> list[History]:

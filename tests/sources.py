@@ -60,7 +60,9 @@ def names_in(tree: str, above: str = "") -> Iterator[tuple[str, str]]:
 
 def unnested(text: str) -> str:
     """A text of definitions or proofs, line for line, in which each `use` says the whole path of what it brings in."""
-    return re.sub(r"^((?:unfoldable )?(?:pub )?use )(\S+\{.*\})$", lambda found: found[1] + paths_of(found[2]), text, flags=re.M)
+    return re.sub(
+        r"^((?:unfoldable )?(?:pub )?use )(\S+\{.*\})$", lambda found: found[1] + paths_of(found[2]), text, flags=re.M
+    )
 
 
 def paths_of(tree: str) -> str:

@@ -26,7 +26,9 @@ def read_all(end: int, parts: list[bytes]) -> None:
         parts.append(part)
 
 
-def run_on_terminal(words: list[str], text: bytes = b"", seconds: float = SECONDS, is_whole: bool = False, **how: Any) -> Ended:
+def run_on_terminal(
+    words: list[str], text: bytes = b"", seconds: float = SECONDS, is_whole: bool = False, **how: Any
+) -> Ended:
     """Runs a command whose standard error is a terminal, and with `is_whole` its standard output too. Its output there is
     the result's `stderr`. The exit status is None if it doesn't end in time."""
     end, terminal = pty.openpty()
@@ -35,8 +37,15 @@ def run_on_terminal(words: list[str], text: bytes = b"", seconds: float = SECOND
     reader = threading.Thread(target=read_all, args=(end, parts), daemon=True)
     reader.start()
     try:
-        ended = subprocess.run(words, input=text, stdout=terminal if is_whole else subprocess.PIPE, stderr=terminal,
-                               timeout=seconds, check=False, **how)
+        ended = subprocess.run(
+            words,
+            input=text,
+            stdout=terminal if is_whole else subprocess.PIPE,
+            stderr=terminal,
+            timeout=seconds,
+            check=False,
+            **how
+        )
         out, status = ended.stdout or b"", ended.returncode
     except subprocess.TimeoutExpired:
         pass
@@ -57,6 +66,6 @@ def shown(text: str) -> list[str]:
         elif letter.startswith("\x1b["):
             lines[-1] = "" if part.group(1) == "2" else line[:at]
         else:
-            lines[-1] = line[:at].ljust(at) + letter + line[at + 1:]
+            lines[-1] = line[:at].ljust(at) + letter + line[at + 1 :]
             at += 1
     return [line.rstrip() for line in lines]

@@ -1,5 +1,4 @@
 """A Dask cluster for the tests: a scheduler and workers on 127.0.0.1, in a temporary folder."""
-import json
 import os
 import re
 import shutil

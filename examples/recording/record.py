@@ -35,8 +35,10 @@ def in_sql(statement: str, version: str) -> tuple[str | None, str]:
     added = ADDED.fullmatch(statement)
     if added:
         row = f"{added['id']}, {added['value']}, {version}"
-        return (f"insert into test (id, value, txn, op) values ({row}) on conflict (id) do update set"
-                " value = excluded.value, txn = excluded.txn, op = excluded.op, gone = 0 where gone"), "false"
+        return (
+            f"insert into test (id, value, txn, op) values ({row}) on conflict (id) do update set"
+            " value = excluded.value, txn = excluded.txn, op = excluded.op, gone = 0 where gone"
+        ), "false"
     parts = FORM.fullmatch(statement)
     assert parts
     rows = condition(parts["rows"])
@@ -69,7 +71,7 @@ class Recorder:
         """The object of the file. A transaction in the table of commits has committed, even if its result was lost."""
         installed: dict[int, list[int]] = {}
         by_number = {txn["no"]: txn for txn in self.transactions}
-        for no, in self.list("select txn from commits order by place"):
+        for (no,) in self.list("select txn from commits order by place"):
             by_number[no]["outcome"] = "committed"
             for row in {row for op in by_number[no]["ops"] for _, row, _ in op["writes"]}:
                 installed.setdefault(row, []).append(no)
@@ -112,8 +114,9 @@ class Session:
             return False
         if statement.startswith("insert") and written == 0:  # the row is present
             return False
-        writes = self.list("select id, case when gone then null else value end from test"
-                           f" where txn = {no} and op = {op} order by id")
+        writes = self.list(
+            "select id, case when gone then null else value end from test" f" where txn = {no} and op = {op} order by id"
+        )
         lists: dict[str, Any] = {"view": of_table(view), "rows": of_table(rows), "writes": of_table(writes)}
         self.txn["ops"].append({"statement": statement} | lists)
         return True

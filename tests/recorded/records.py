@@ -74,7 +74,7 @@ def reports(program: str, texts: Any) -> list[dict[str, str]]:
     return [dict(line.split(": ", 1) for line in part.splitlines()[1:]) for part in parts]
 
 
-def broken(recorder: Recorder, report: dict[str, str]) -> str:
+def broken(recorder: Recorder, report: dict[str, str]) -> str | None:
     """The error in a record, if any: it is refused or unsound, or breaks what its level promises."""
     if "level" not in report:
         return f"refused: {report}"
@@ -87,7 +87,7 @@ def broken(recorder: Recorder, report: dict[str, str]) -> str:
 
 
 def is_remark(line: str) -> bool:
-    return re.match(r"line \d+: row ", line)
+    return re.match(r"line \d+: row ", line) is not None
 
 
 def played(program: str, recorder: Recorder, texts: Any, at_once: int = AT_ONCE) -> Any:
