@@ -7,11 +7,13 @@ import os
 import shutil
 import subprocess
 import sys
+from collections.abc import Iterable, Sequence
 
 TOP = os.path.dirname(os.path.dirname(os.path.realpath(__file__)))
+sys.path.append(f"{TOP}/tests")
 
 
-def product():
+def product() -> str:
     """The path of the program, which is built first if none was built from the present sources."""
     subprocess.run([f"{TOP}/hermitage_lab", "--help"], stdin=subprocess.DEVNULL, stdout=subprocess.DEVNULL, check=True)
     return subprocess.run([f"{TOP}/programs/find"], stdout=subprocess.PIPE, text=True, check=True).stdout.strip()
@@ -20,7 +22,7 @@ def product():
 PROGRAM = product()
 
 
-def below(names, over):
+def below(names: Iterable[str], over: dict[str, str]) -> set[str]:
     """These crates and all their dependencies."""
     found = set(names)
     for name in names:
@@ -28,7 +30,7 @@ def below(names, over):
     return found
 
 
-def build(name, crates, kit=""):
+def build(name: str, crates: Sequence[str], kit: str = "") -> str:
     """Proves and builds a program over hard links of these libraries of the product, and these of the kit. Returns its
     path."""
     with open(f"{TOP}/crates.txt", encoding="ascii") as it:

@@ -3,32 +3,49 @@
 A shape's function gets the divisor of the limits, 1 for all or 2 for half, and whether the history must be a no. The
 transactions of a yes run one after another. In a no, some of them see rows as they were at first, although others have
 written them since, so the dependencies form cycles."""
+from collections.abc import Callable
 from functools import partial
 
-from flips import bounds, flips, hostile, shuffled, unlike
+from flips import always, bounds, flips, hostile, shuffled, unlike
 from picks import TABLES, numbers
-from recorder import IDS, OPERATIONS, TRANSACTIONS, Recorder, everything, named, seen_at_first, table_of, zeros
+from recorder import IDS, OPERATIONS, TRANSACTIONS, Recorder, Values, everything, named, seen_at_first, table_of, zeros
 
 EACH = OPERATIONS // TRANSACTIONS
 
 
-def one_more(old):
+def one_more(old: int) -> int:
     return old + 1
 
 
-def select_row(it, row, table="test"):
+def ten_more(old: int) -> int:
+    return old + 10
+
+
+def is_value(wanted: int, _: int, value: int) -> bool:
+    return value == wanted
+
+
+def has_rest(modulus: int, _: int, value: int) -> bool:
+    return value % modulus == 1
+
+
+def is_from(least: int, _: int, value: int) -> bool:
+    return least <= value < least + 20
+
+
+def select_row(it: Recorder, row: int, table: str = "test") -> None:
     it.run(f"select * from {table} where id = {row}", [row], everything, None, table)
 
 
-def update_row(it, row, table="test"):
+def update_row(it: Recorder, row: int, table: str = "test") -> None:
     it.run(f"update {table} set value = value + 1 where id = {row}", [row], everything, one_more, table)
 
 
-def last_digits(rows, table="test"):
+def last_digits(rows: int, table: str = "test") -> Values:
     return table_of({row: row % 10 for row in range(1, rows + 1)}, table)
 
 
-def chain(part, is_no):
+def chain(part: int, is_no: bool) -> Recorder:
     """1,000 updates of one row, each in its own transaction. In the no, the last one misses all others."""
     count = TRANSACTIONS // part
     it = Recorder(table_of({1: 10}), seen_at_first(is_no, count, named([1])))
@@ -39,7 +56,7 @@ def chain(part, is_no):
     return it
 
 
-def ring(part, is_no):
+def ring(part: int, is_no: bool) -> Recorder:
     """1,000 transactions, each of which reads the row that the one before it wrote, and writes another one; the last one
     also reads a row that the first one wrote. In the no, it sees that row as it was at first."""
     count = TRANSACTIONS // part
@@ -58,7 +75,7 @@ def ring(part, is_no):
     return it
 
 
-def rounds(writers, rows, part, is_no):
+def rounds(writers: int, rows: int, part: int, is_no: bool) -> Recorder:
     """Writers that each update all rows, and a reader after them. In the no, it sees a row as it was at first."""
     count, every = writers // part, range(1, rows + 1)
     it = Recorder(zeros(rows), seen_at_first(is_no, count + 1, named([2])))
@@ -73,7 +90,7 @@ def rounds(writers, rows, part, is_no):
     return it
 
 
-def lost(part, is_no):
+def lost(part: int, is_no: bool) -> Recorder:
     """1,000 updates of 66 rows each. In the no, the last one misses all others' changes of the last row."""
     count, rows = TRANSACTIONS // part, 66
     it = Recorder(zeros(rows), seen_at_first(is_no, count, named([rows])))
@@ -84,7 +101,7 @@ def lost(part, is_no):
     return it
 
 
-def points(part, is_no):
+def points(part: int, is_no: bool) -> Recorder:
     """1,000 transactions of ten operations on one row each, of 1,000. In the no, the last one sees all rows as they were
     at first."""
     count, initial = TRANSACTIONS // part, last_digits(IDS)
@@ -98,7 +115,7 @@ def points(part, is_no):
     return it
 
 
-def tables(part, is_no):
+def tables(part: int, is_no: bool) -> Recorder:
     """The same over four tables with long names, of 250 rows each; each operation uses a row of one table."""
     count, rows = TRANSACTIONS // part, IDS // len(TABLES)
     initial = {row: value for name in TABLES for row, value in last_digits(rows, name).items()}
@@ -112,7 +129,7 @@ def tables(part, is_no):
     return it
 
 
-def ranges(part, is_no):
+def ranges(part: int, is_no: bool) -> Recorder:
     """1,000 transactions, each of nine selects by ranges of ids and an update of a row. In the no, all of them see the
     rows as they were at first, so write skew is everywhere; since views are empty, ranges are twice as wide."""
     count, span = TRANSACTIONS // part, 20 if is_no else 10
@@ -129,15 +146,14 @@ def ranges(part, is_no):
     return it
 
 
-def wide(part, is_no):
+def wide(part: int, is_no: bool) -> Recorder:
     """200,000 entries: updates of a tenth of 1,000 rows each, and selects of all rows. In the no, the last one sees a row
     as it was at first."""
     every, selects = range(1, IDS + 1), 96 // part
     it = Recorder(last_digits(IDS), seen_at_first(is_no, 10 + selects, named([1])))
     for last in range(10):
         it.begin()
-        it.run(f"update test set value = value + 10 where value = {last}", every,
-               lambda row, value, last=last: value == last, lambda old: old + 10)
+        it.run(f"update test set value = value + 10 where value = {last}", every, partial(is_value, last), ten_more)
         it.end()
     for _ in range(selects):
         it.begin()
@@ -146,7 +162,7 @@ def wide(part, is_no):
     return it
 
 
-def reborn(part, is_no):
+def reborn(part: int, is_no: bool) -> Recorder:
     """10,000 deletes and inserts of the same rows; a third of the transactions aborts. In the no, the last one that
     commits sees all rows as they were at first."""
     count, initial = TRANSACTIONS // part, table_of({row: row for row in range(1, 11)})
@@ -157,14 +173,14 @@ def reborn(part, is_no):
         for _ in range(EACH):
             row = next(pick) % 10 + 1
             if it.state(row)[0] is None:
-                it.run(f"insert into test (id, value) values ({row}, {number})", [row], None, lambda old, to=number: to)
+                it.run(f"insert into test (id, value) values ({row}, {number})", [row], None, partial(always, number))
             else:
                 it.run(f"delete from test where id = {row}", [row], everything, lambda old: None)
         it.end("committed" if number % 3 else "aborted")
     return it
 
 
-def worst(part, is_no):
+def worst(part: int, is_no: bool) -> Recorder:
     """500 transactions that update ten rows, and between them 500 of ten selects whose predicates differ. In the no, the
     last update sees a row as it was at first."""
     rows, count = range(1, 11), TRANSACTIONS // part
@@ -176,13 +192,12 @@ def worst(part, is_no):
         it.begin()
         for place in range(10):
             modulus = 10 * number + place + 2
-            it.run(f"select * from test where value % {modulus} = 1", rows,
-                   lambda row, value, modulus=modulus: value % modulus == 1, None)
+            it.run(f"select * from test where value % {modulus} = 1", rows, partial(has_rest, modulus), None)
         it.end()
     return it
 
 
-def lists(part, is_no):
+def lists(part: int, is_no: bool) -> Recorder:
     """9,600 selects, each with its own long list of numbers. In the no, an update of two rows comes before them, and
     after them a transaction reads one of these rows new and one as it was at first."""
     count = 960 // part
@@ -209,7 +224,7 @@ def lists(part, is_no):
     return it
 
 
-def selects(part, is_no):
+def selects(part: int, is_no: bool) -> Recorder:
     """9,200 selects by a range of values over 1,000 rows, each of which returns twenty, an update of two rows, and a
     reader of these. In the no, it sees one of the two as it was at first."""
     count, every = 920 // part, range(1, IDS + 1)
@@ -219,8 +234,9 @@ def selects(part, is_no):
         it.begin()
         for _ in range(10):
             least = next(pick) % (IDS - 20)
-            it.run(f"select * from test where value >= {least} and value < {least + 20}", every,
-                   lambda row, value, least=least: least <= value < least + 20, None)
+            it.run(
+                f"select * from test where value >= {least} and value < {least + 20}", every, partial(is_from, least), None
+            )
         it.end()
     it.begin()
     update_row(it, 1)
@@ -234,7 +250,8 @@ def selects(part, is_no):
 
 
 IN_VERSION_1 = chain, points, wide, reborn, worst, lists, flips, bounds, shuffled, unlike, hostile
-SHAPES = {shape.__name__: (shape, 1) for shape in IN_VERSION_1} | {
+Shape = Callable[[int, bool], Recorder]
+SHAPES: dict[str, tuple[Shape, int]] = {shape.__name__: (shape, 1) for shape in IN_VERSION_1} | {
     "points_2": (points, 2),
     "wide_2": (wide, 2),
     "tables": (tables, 2),
@@ -247,7 +264,7 @@ SHAPES = {shape.__name__: (shape, 1) for shape in IN_VERSION_1} | {
     "lost": (lost, 2),
 }
 # Each history by its name: its function, and the version of its file.
-HISTORIES = {
+HISTORIES: dict[str, tuple[Callable[[], Recorder], int]] = {
     shape + ("_no" if is_no else "") + ("_half" if part == 2 else ""): (partial(make, part, is_no), version)
     for shape, (make, version) in SHAPES.items()
     for is_no in (False, True)
@@ -255,7 +272,7 @@ HISTORIES = {
 }
 
 
-def write(name, file):
+def write(name: str, file: str) -> None:
     made, version = HISTORIES[name]
     with open(file, "w", encoding="ascii") as it:
         it.write(made().text(version))

@@ -7,7 +7,7 @@ import sys
 from histories import HISTORIES, write
 
 
-def run(words, file, output):
+def run(words: list[str], file: str, output: str) -> tuple[float, float]:
     """The processor milliseconds and the MiB of one run of a program."""
     with open(file, "rb") as given, open(output, "wb") as taken:
         started = subprocess.Popen(words, stdin=given, stdout=taken)
@@ -18,7 +18,7 @@ def run(words, file, output):
     return 1_000 * (used.ru_utime + used.ru_stime), used.ru_maxrss / 1024
 
 
-def chosen(names):
+def chosen(names: list[str]) -> list[str]:
     """The histories of these names, and those whose names continue one; all of them without names."""
     found = [it for it in HISTORIES if not names or any(it == name or it.startswith(f"{name}_") for name in names)]
     if not found:
@@ -26,7 +26,7 @@ def chosen(names):
     return found
 
 
-def made(name, file):
+def made(name: str, file: str) -> None:
     """Writes a history, in a separate process, so that this one stays small: a child's peak starts at its parent's size."""
     maker = multiprocessing.Process(target=write, args=(name, file))
     maker.start()

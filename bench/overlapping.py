@@ -1,28 +1,35 @@
 """The histories that bench/shrink measures: transactions by the rules of each engine at the limits, with a lost update
 and with write skew, and records with a fault."""
+from collections.abc import Callable, Sequence
 from functools import partial
+from typing import Any
 
 from picks import numbers
-from recorder import OPERATIONS, TRANSACTIONS, Recorder, everything, zeros
+from recorder import OPERATIONS, TRANSACTIONS, Recorder, Row, State, Values, everything, zeros
 
 ROWS, SESSIONS = 100, 8
+
+
+def one_more(old: Any) -> int:
+    """What an update writes."""
+    return int(old) + 1
 
 
 class Stale(Recorder):
     """Transactions that run one after another, as with locks, except that some see rows as they were before the
     transaction right before them: `stale` has these rows by the transaction's number."""
 
-    def __init__(self, initial, stale):
+    def __init__(self, initial: Values, stale: dict[int, Sequence[int]]) -> None:
         super().__init__(initial)
         self.stale, self.before = stale, dict(self.states)
 
-    def state(self, row, table="test"):
+    def state(self, row: int, table: str = "test") -> State:
         number, name = len(self.transactions) + 1, (table, row)
         if name not in self.own and row in self.stale.get(number, ()):
             return self.before.get(name, (None, None))
         return super().state(row, table)
 
-    def end(self, outcome="committed"):
+    def end(self, outcome: str = "committed") -> None:
         self.before = dict(self.states)
         super().end(outcome)
 
@@ -31,23 +38,25 @@ class Sessions:
     """Transactions that alternate, on committed or snapshot. `log` has each row's committed versions, the last one last:
     how many transactions had committed then, the value, and the version's name."""
 
-    def __init__(self, is_snapshot):
+    def __init__(self, is_snapshot: bool) -> None:
         self.is_snapshot, self.commits = is_snapshot, 0
-        self.log = {("test", row): [(0, 0, None)] for row in range(1, ROWS + 1)}
-        self.transactions, self.installed, self.entries = [], {}, 0
+        self.log: dict[Row, list[Any]] = {("test", row): [(0, 0, None)] for row in range(1, ROWS + 1)}
+        self.transactions: list[dict[str, Any]] = []
+        self.installed: dict[Row, list[int]] = {}
+        self.entries = 0
 
-    def begin(self):
+    def begin(self) -> dict[str, Any]:
         txn = {"no": len(self.transactions) + 1, "ops": [], "since": self.commits, "own": {}}
         self.transactions.append(txn)
         return txn
 
-    def seen(self, txn, row):
+    def seen(self, txn: dict[str, Any], row: Row) -> Any:
         if row in txn["own"]:
             return txn["own"][row]
         there = [it for it in self.log[row] if not self.is_snapshot or it[0] <= txn["since"]]
         return there[-1][1:]
 
-    def run(self, txn, row, is_update):
+    def run(self, txn: dict[str, Any], row: Row, is_update: bool) -> None:
         """A select or an update of one row, which also sees its transaction's writes."""
         saw = {it: self.seen(txn, it) for it in {row, *txn["own"]}}
         view = [[*it, *name] for it, (_, name) in sorted(saw.items()) if name]
@@ -60,7 +69,7 @@ class Sessions:
         if is_update:
             txn["own"][row] = value + 1, (txn["no"], place)
 
-    def end(self, txn):
+    def end(self, txn: dict[str, Any]) -> None:
         """Commits, or aborts on snapshot if another transaction has committed a version of a row since the begin."""
         is_late = self.is_snapshot and any(self.log[row][-1][0] > txn["since"] for row in txn["own"])
         txn["outcome"] = "aborted" if is_late else "committed"
@@ -70,7 +79,7 @@ class Sessions:
                 self.log[row].append((self.commits, *version))
                 self.installed.setdefault(row, []).append(txn["no"])
 
-    def history(self):
+    def history(self) -> Recorder:
         """The same as a recorder that writes a file."""
         made = Recorder({row: 0 for row in self.log})
         made.transactions = [{key: txn[key] for key in ("no", "outcome", "ops")} for txn in self.transactions]
@@ -79,10 +88,11 @@ class Sessions:
         return made
 
 
-def side_by_side(is_snapshot, count, each):
+def side_by_side(is_snapshot: bool, count: int, each: int) -> Recorder:
     """This many transactions of this many operations each, by eight sessions, over 100 rows; two in five are updates,
     each of a row of which no other transaction has a pending version."""
-    it, pick, active, done = Sessions(is_snapshot), numbers(), [], 0
+    it, pick, done = Sessions(is_snapshot), numbers(), 0
+    active: list[dict[str, Any]] = []
     while done < count:
         if len(active) < SESSIONS and done + len(active) < count:
             active.append(it.begin())
@@ -98,7 +108,7 @@ def side_by_side(is_snapshot, count, each):
     return it.history()
 
 
-def by_locks(stale, count, each):
+def by_locks(stale: Sequence[int], count: int, each: int) -> Recorder:
     """This many transactions, one after another; in the middle two that interact at rows 1 and 2, of which the second
     sees rows as they were before the first: a lost update, or write skew."""
     first = count // 2
@@ -112,16 +122,16 @@ def by_locks(stale, count, each):
             if len(stale) == 1 and number > first:
                 # the update matches the other one's write
                 it.stale = {}
-            it.run(f"update test set value = value + 1 where id = {own}", [own], everything, lambda old: old + 1)
+            it.run(f"update test set value = value + 1 where id = {own}", [own], everything, one_more)
         for _ in range(each - len(it.operations)):
             row, is_update = next(pick) % (ROWS - 2) + 3, next(pick) % 5 < 2
             text = "update test set value = value + 1" if is_update else "select * from test"
-            it.run(f"{text} where id = {row}", [row], everything, (lambda old: old + 1) if is_update else None)
+            it.run(f"{text} where id = {row}", [row], everything, one_more if is_update else None)
         it.end()
     return it
 
 
-def with_fault(kind, count, each):
+def with_fault(kind: str, count: int, each: int) -> Recorder:
     """The same without stale rows, with one fault in the middle or at the end."""
     it = by_locks((), count, each)
     middle = it.transactions[count // 2]["ops"]
@@ -132,21 +142,21 @@ def with_fault(kind, count, each):
         middle[-1]["rows"][0][-1] += 1
     else:
         row = ("test", ROWS)
-        it.states[row] = it.states[row][0] + 1, it.states[row][1]
+        value, name = it.states[row]
+        it.states[row] = (value or 0) + 1, name
     return it
 
 
 LONG, SHORT = (TRANSACTIONS, OPERATIONS // TRANSACTIONS), (200, 50)
-MADE = {
-    f"{name}_{count}": partial(make, *more, count, each)
-    for count, each in (LONG, SHORT)
-    for name, make, *more in (
-        ("locking_lost", by_locks, (1,)),
-        ("locking_skew", by_locks, (1, 2)),
-        ("committed", side_by_side, False),
-        ("snapshot", side_by_side, True),
-        ("dangling", with_fault, "F1"),
-        ("rows_differ", with_fault, "F6"),
-        ("end_differs", with_fault, "F9"),
-    )
+KINDS: tuple[tuple[Any, ...], ...] = (
+    ("locking_lost", by_locks, (1,)),
+    ("locking_skew", by_locks, (1, 2)),
+    ("committed", side_by_side, False),
+    ("snapshot", side_by_side, True),
+    ("dangling", with_fault, "F1"),
+    ("rows_differ", with_fault, "F6"),
+    ("end_differs", with_fault, "F9"),
+)
+MADE: dict[str, Callable[[], Recorder]] = {
+    f"{name}_{count}": partial(make, *more, count, each) for count, each in (LONG, SHORT) for name, make, *more in KINDS
 }

@@ -1,4 +1,6 @@
 """The scripts that bench/run and bench/native play, made by rule: sessions that alternate; and the engines."""
+from collections.abc import Callable, Iterator
+
 from picks import numbers
 
 ENGINES = ("locking", "committed", "snapshot", "optimistic")
@@ -6,14 +8,15 @@ SESSIONS = 9
 COMMANDS = 1_999
 
 
-def setup(rows):
+def setup(rows: int) -> str:
     """The line of a setup with rows (1, 1), (2, 2), .. with values of one digit."""
     return "setup " + ", ".join(f"({row}, {row % 10})" for row in range(1, rows + 1)) + ";"
 
 
-def script(rows, statement, length):
+def script(rows: int, statement: Callable[[Iterator[int], int], str], length: int) -> bytes:
     """Sessions that alternate, each in transactions of this many statements; two in three commit."""
-    inside, lines, pick = [0] * SESSIONS, [], numbers()
+    inside, pick = [0] * SESSIONS, numbers()
+    lines: list[str] = []
     while len(lines) < COMMANDS:
         session = len(lines) % SESSIONS
         if not inside[session]:
@@ -27,10 +30,10 @@ def script(rows, statement, length):
     return "\n".join([setup(rows), *lines, ""]).encode()
 
 
-def point(updates):
+def point(updates: int) -> Callable[[Iterator[int], int], str]:
     """A read of one row, or one time in this many an update of it."""
 
-    def statement(pick, rows):
+    def statement(pick: Iterator[int], rows: int) -> str:
         row = next(pick) % rows + 1
         if next(pick) % updates:
             return f"select * from test where id = {row}"
@@ -39,14 +42,14 @@ def point(updates):
     return statement
 
 
-def wide(pick, rows):
+def wide(pick: Iterator[int], rows: int) -> str:
     """A select by value, sometimes an update of a few rows."""
     if next(pick) % 64:
         return f"select * from test where value % 7 = {next(pick) % 7}"
     return f"update test set value = value + 1 where value % 97 = {next(pick) % 97}"
 
 
-def held(waiting, rows=380):
+def held(waiting: int, rows: int = 380) -> bytes:
     """One session holds most rows of a setup, and this many wait for the last of them by a condition. Two others
     meanwhile read other rows, one by one, and update those for which nobody waits, in transactions of ten statements."""
     last = rows - 80
@@ -62,8 +65,4 @@ def held(waiting, rows=380):
     return "\n".join([*lines, ""]).encode()
 
 
-SCRIPTS = {
-    "conflicts": script(5, point(2), 4),
-    "points": script(300, point(8), 10),
-    "wide": script(300, wide, 10),
-}
+SCRIPTS = {"conflicts": script(5, point(2), 4), "points": script(300, point(8), 10), "wide": script(300, wide, 10)}

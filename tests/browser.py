@@ -7,36 +7,54 @@ import select
 import shutil
 import subprocess
 import tempfile
+from typing import Any
 
 NAMES = "chromium", "chromium-browser", "google-chrome"
 SECONDS = 60
 
 
 class Browser:
-    def __init__(self, path):
-        self.path, self.number, self.events, self.told = path, 0, [], []
+    def __init__(self, path: str) -> None:
+        self.path, self.number = path, 0
+        self.events: list[Any] = []
+        self.told: list[Any] = []
 
     @staticmethod
-    def found():
+    def found() -> "Browser | None":
         """The browser on this machine, or None."""
-        path = next((path for path in map(shutil.which, NAMES) if path), None)
+        path = next(filter(None, (shutil.which(name) for name in NAMES)), None)
         return Browser(path) if path else None
 
-    def __enter__(self):
+    def __enter__(self) -> "Browser":
         self.room = tempfile.TemporaryDirectory(ignore_cleanup_errors=True)
         asks, self.writes = os.pipe()
         reads, answers = os.pipe()
-        words = [self.path, "--headless", "--no-sandbox", "--disable-gpu", "--no-first-run", "--hide-scrollbars",
-                 "--disable-ipc-flooding-protection",
-                 f"--user-data-dir={self.room.name}", "--remote-debugging-pipe", "about:blank"]
+        words = [
+            self.path,
+            "--headless",
+            "--no-sandbox",
+            "--disable-gpu",
+            "--no-first-run",
+            "--hide-scrollbars",
+            "--disable-ipc-flooding-protection",
+            f"--user-data-dir={self.room.name}",
+            "--remote-debugging-pipe",
+            "about:blank",
+        ]
 
-        def on_three_and_four():
+        def on_three_and_four() -> None:
             kept = [fcntl.fcntl(it, fcntl.F_DUPFD, 10) for it in (asks, answers)]
             for number, it in enumerate(kept, 3):
                 os.dup2(it, number)
 
-        self.process = subprocess.Popen(words, stdin=subprocess.DEVNULL, stdout=subprocess.DEVNULL, stderr=subprocess.DEVNULL,
-                                        close_fds=False, preexec_fn=on_three_and_four)
+        self.process = subprocess.Popen(
+            words,
+            stdin=subprocess.DEVNULL,
+            stdout=subprocess.DEVNULL,
+            stderr=subprocess.DEVNULL,
+            close_fds=False,
+            preexec_fn=on_three_and_four,
+        )
         os.close(asks)
         os.close(answers)
         self.reads, self.unread, self.session = reads, b"", None
@@ -47,7 +65,7 @@ class Browser:
         self.size(1280, 900)
         return self
 
-    def __exit__(self, *_):
+    def __exit__(self, *_: object) -> None:
         os.close(self.writes)
         try:
             self.process.wait(SECONDS)
@@ -57,7 +75,7 @@ class Browser:
         os.close(self.reads)
         self.room.cleanup()
 
-    def message(self):
+    def message(self) -> Any:
         """The next message."""
         while b"\0" not in self.unread:
             if not select.select([self.reads], [], [], SECONDS)[0]:
@@ -69,7 +87,7 @@ class Browser:
         text, _, self.unread = self.unread.partition(b"\0")
         return json.loads(text)
 
-    def ask(self, method, **words):
+    def ask(self, method: str, **words: Any) -> Any:
         self.number += 1
         message = {"id": self.number, "method": method, "params": words}
         if self.session:
@@ -83,13 +101,13 @@ class Browser:
                 return answer["result"]
             self.events.append(answer)
 
-    def load(self, address):
+    def load(self, address: str) -> None:
         self.events = []
         self.ask("Page.navigate", url=address)
         while not any(it.get("method") == "Page.loadEventFired" for it in self.events):
             self.events.append(self.message())
 
-    def go(self, address):
+    def go(self, address: str) -> int:
         """Loads a page, and returns how many files were requested."""
         self.load("about:blank")
         self.load(address)
@@ -97,23 +115,25 @@ class Browser:
         self.told = [it["params"]["entry"]["text"] for it in self.events if it.get("method") == "Log.entryAdded"]
         return sum(it.get("method") == "Network.requestWillBeSent" for it in self.events)
 
-    def evaluate(self, text):
+    def evaluate(self, text: str) -> Any:
         """The value of an expression in the page."""
         found = self.ask("Runtime.evaluate", expression=text, returnByValue=True)
         if "exceptionDetails" in found:
             raise ValueError(f"{text}: {found['exceptionDetails']['text']}")
         return found["result"].get("value")
 
-    def size(self, width, height):
+    def size(self, width: int, height: int) -> None:
         self.ask("Emulation.setDeviceMetricsOverride", width=width, height=height, deviceScaleFactor=1, mobile=width < 800)
 
-    def point(self, across, down):
+    def point(self, across: float, down: float) -> None:
         self.ask("Input.dispatchMouseEvent", type="mouseMoved", x=across, y=down)
 
-    def point_at(self, selector):
+    def point_at(self, selector: str) -> None:
         """Moves the mouse over the element that a selector finds."""
-        across, down = self.evaluate(f"""(() => {{
+        across, down = self.evaluate(
+            f"""(() => {{
           const it = document.querySelector({json.dumps(selector)}); it.scrollIntoView({{block: 'center'}});
           const at = it.getBoundingClientRect(); return [at.left + 4, at.top + at.height / 2];
-        }})()""")
+        }})()"""
+        )
         self.point(across, down)

@@ -4,6 +4,8 @@ tests/made.py makes most histories. The expected result for a run follows from t
 import collections
 import json
 import os
+from collections.abc import Iterator, Sequence
+from typing import Any
 
 import made
 
@@ -15,18 +17,21 @@ NAME, PATH = 255, 4_095  # bytes of a file name, and of a path to it
 TABLES = "a_table_of_words", "accounts_of_last", "stock", "test"
 
 
-def written(value):
+def written(value: Any) -> bytes:
     """A value as the program writes JSON."""
     return json.dumps(value, separators=(",", ":"), sort_keys=True).encode()
 
 
-def adding(before, transactions, operations, rows):
+def adding(before: Any, transactions: int, operations: int, rows: int) -> Any:
     """A part whose transactions, one after another, add 1 to one row after another. Each uses different rows, all with
     the same initial value. Returns its file, and the value of the first row after it."""
-    value, seen, all_ops = [before] * (rows + 1), {}, []
-    installed = [[] for _ in range(rows + 1)]
+    value = [before] * (rows + 1)
+    seen: dict[int, Any] = {}
+    all_ops: list[Any] = []
+    installed: list[list[int]] = [[] for _ in range(rows + 1)]
     for no in range(1, transactions + 1):
-        ops, own = [], {}
+        ops: list[Any] = []
+        own: dict[int, Any] = {}
         for place in range(1, operations + 1):
             row = ((no - 1) * operations + place - 1) % rows + 1
             view = own | ({row: seen[row]} if row in seen else {})
@@ -42,7 +47,7 @@ def adding(before, transactions, operations, rows):
     return made.history(initial, all_ops, [[row, installed[row]] for row in numbers if installed[row]], end), value[1]
 
 
-def adding_run(parts, transactions, operations, rows):
+def adding_run(parts: int, transactions: int, operations: int, rows: int) -> list[bytes]:
     """The files of the parts of such a run. Each row is used equally often."""
     value, files = 0, []
     for _ in range(parts):
@@ -51,37 +56,45 @@ def adding_run(parts, transactions, operations, rows):
     return files
 
 
-def unchanged(entries):
+def unchanged(entries: Any) -> bytes:
     """The file of a part without transactions, with these rows, each with its table's name."""
-    return written({"format": "hermitage-history", "version": 2, "initial": entries, "transactions": [], "installed": [],
-                    "end": entries})
+    return written(
+        {
+            "format": "hermitage-history",
+            "version": 2,
+            "initial": entries,
+            "transactions": [],
+            "installed": [],
+            "end": entries,
+        }
+    )
 
 
-def told(parts, lines, level):
+def told(parts: Any, lines: Any, level: str) -> bytes:
     """The eleven lines of a run. `lines` has those that aren't `yes` or `absent`."""
     said = [f"{name}: {lines.get(name, 'absent' if name in made.PHENOMENA else 'yes')}" for name in LINES]
     return "\n".join([f"=== parts {parts}", *said, f"level: {level}", ""]).encode()
 
 
-def everywhere(said):
+def everywhere(said: Any) -> dict[str, str]:
     """The lines of a run in which every line says the same."""
     return dict.fromkeys(LINES, said)
 
 
-def unjudged(parts, name):
+def unjudged(parts: int, name: str) -> bytes:
     """The eleven lines of a run whose first refused or missing part has this name, and in which no other part shows
     anything."""
     return told(parts, everywhere(f"not judged {name}"), "not judged")
 
 
-def at_seam(parts, name, row):
+def at_seam(parts: int, name: str, row: Any) -> bytes:
     """The eleven lines of a run that is a yes, except that the part of this name doesn't fit, at this row."""
     verdict = f"no {name}: seam row {row}"
     lines = everywhere(f"not judged {name}") | {"serializable": verdict, "snapshot": verdict}
     return told(parts, lines, "unsound")
 
 
-def of_part(name, said):
+def of_part(name: str, said: str) -> str:
     """The text of a report's line, as the run's line has it for the part of this name."""
     word, _, reason = said.partition(" ")
     if word in ("no", "present"):
@@ -89,29 +102,40 @@ def of_part(name, said):
     return f"{said} {name}" if said == "not judged" else word
 
 
-def of_one(parts, name, report):
+def of_one(parts: int, name: str, report: bytes) -> bytes:
     """The eleven lines of a run in which the part of this name has this report, and the others say yes."""
     said = dict(line.split(": ", 1) for line in report.decode().splitlines())
     level = said.pop("level")
     return told(parts, {line: of_part(name, of) for line, of in said.items()}, level)
 
 
-def missing(names):
+def missing(names: Sequence[str]) -> bytes:
     """The output for missing files."""
     return b"".join(b"== %s\nfile: unreadable\n" % name.encode() for name in names)
 
 
-def answer(parts, first, initial, end):
+def answer(parts: int, first: Any, initial: Any, end: Any) -> bytes:
     """The output of `chain --json` for this many parts, all a yes, of which a transaction committed. Rows have their tables'
     names."""
-    return written({
-        "committed": True, "parts": parts, "first": first, "initial": initial, "end": end, "level": "PL-3",
-        "serializable": {"verdict": "yes"}, "snapshot": {"verdict": "yes"},
-        "phenomena": {name: {"verdict": "absent"} for name in made.PHENOMENA},
-    }) + b"\n"
+    return (
+        written(
+            {
+                "committed": True,
+                "parts": parts,
+                "first": first,
+                "initial": initial,
+                "end": end,
+                "level": "PL-3",
+                "serializable": {"verdict": "yes"},
+                "snapshot": {"verdict": "yes"},
+                "phenomena": {name: {"verdict": "absent"} for name in made.PHENOMENA},
+            }
+        )
+        + b"\n"
+    )
 
 
-def rows_of(value, rows):
+def rows_of(value: int, rows: int) -> list[list[Any]]:
     """Rows of `test`, all with one value."""
     return [["test", row, value] for row in range(1, rows + 1)]
 
@@ -120,12 +144,12 @@ def rows_of(value, rows):
 Run = collections.namedtuple("Run", "words text due status by_one", defaults=(0, False))
 
 
-def by_one_worker():
+def by_one_worker() -> None:
     """Leaves a run one processor, and so one worker: with short parts, starting several workers takes most of the time."""
     os.sched_setaffinity(0, {min(os.sched_getaffinity(0))})
 
 
-def put(room, files):
+def put(room: str, files: Any) -> None:
     """Writes files there under their names."""
     for name, file in files.items():
         os.makedirs(os.path.dirname(f"{room}/{name}"), exist_ok=True)
@@ -133,12 +157,12 @@ def put(room, files):
             new.write(file)
 
 
-def listed(names):
+def listed(names: Sequence[str]) -> tuple[list[str], bytes]:
     """The arguments and the input of a list of names."""
     return ["--files-from", "-"], "".join(f"{name}\n" for name in names).encode()
 
 
-def long_parts(room, rings):
+def long_parts(room: str, rings: Any) -> Iterator[Run]:
     """Runs whose parts have the greatest number of transactions and operations, and runs whose first part is a ring."""
     files = adding_run(LONG, MOST, OPERATIONS, ROWS)
     names = [f"long{number}.json" for number in range(LONG)]
@@ -155,12 +179,17 @@ def long_parts(room, rings):
         yield Run(["chain", "ring.json", *["still.json"] * 20], b"", of_one(21, "ring.json", report))
 
 
-def wide_seams(room):
+def wide_seams(room: str) -> Iterator[Run]:
     """Parts with the greatest number of rows, of four tables, which differ at one row or more."""
     rows = [[table, 999_001 + row, row] for table in TABLES for row in range(ROWS // len(TABLES))]
     rows.sort()
-    changed = {"last": [*rows[:-1], [*rows[-1][:2], -1]], "none": [], "all": [[*row[:2], -1] for row in rows],
-               "fewer": rows[:-1], "middle": [*rows[:500], *rows[501:]]}
+    changed = {
+        "last": [*rows[:-1], [*rows[-1][:2], -1]],
+        "none": [],
+        "all": [[*row[:2], -1] for row in rows],
+        "fewer": rows[:-1],
+        "middle": [*rows[:500], *rows[501:]],
+    }
     put(room, {"same.json": unchanged(rows), **{f"{name}.json": unchanged(it) for name, it in changed.items()}})
     yield Run(["chain", *["same.json"] * 20], b"", told(20, {}, "PL-3"))
     where = {"last": 999, "none": 0, "all": 0, "fewer": 999, "middle": 500}
@@ -172,24 +201,32 @@ def wide_seams(room):
         yield Run(words, b"", lambda ran, it=changed[name]: is_answer(ran.stdout, rows, it))
 
 
-def is_answer(out, initial, end):
+def is_answer(out: Any, initial: Any, end: Any) -> bool:
     """Whether the output has these rows at its ends."""
     said = json.loads(out)
     return (said["initial"], said["end"]) == (initial, end) and written(said) + b"\n" == out
 
 
-def refused_at_the_end(room):
+def refused_at_the_end(room: str) -> Iterator[Run]:
     """A part of maximal length that is refused at its last byte, or is one byte too long, between two others."""
     part = unchanged([["test", 1, 0]])
-    put(room, {"part.json": part, "whole.json": part.rjust(MOST_BYTES), "cut.json": part[:-1].rjust(MOST_BYTES),
-               "more.json": (part + b"x").rjust(MOST_BYTES), "long.json": part.rjust(MOST_BYTES + 1)})
+    put(
+        room,
+        {
+            "part.json": part,
+            "whole.json": part.rjust(MOST_BYTES),
+            "cut.json": part[:-1].rjust(MOST_BYTES),
+            "more.json": (part + b"x").rjust(MOST_BYTES),
+            "long.json": part.rjust(MOST_BYTES + 1),
+        },
+    )
     yield Run(["chain", "part.json", "whole.json", "part.json"], b"", told(3, {}, "PL-3"))
     for name, fault in ("cut", "NotJson"), ("more", "NotJson"), ("long", "OverLimit bytes"):
         due = f"== {name}.json\nfile: {fault}\n".encode() + unjudged(3, f"{name}.json")
         yield Run(["chain", "part.json", f"{name}.json", "part.json"], b"", due, 2)
 
 
-def many_parts(room):
+def many_parts(room: str) -> Iterator[Run]:
     """Runs of many parts: named one by one, and in a list of many names, most of which or one of which name no file."""
     part, names = unchanged([["test", 1, 0]]), [f"p{number}.json" for number in range(MOST)]
     put(room, dict.fromkeys(names, part))
@@ -202,11 +239,11 @@ def many_parts(room):
     yield Run(["chain", *words], text, missing(["absent.json"]) + unjudged(MOST + 1, "absent.json"), 3)
 
 
-def no_answer(names):
+def no_answer(names: Sequence[str]) -> bytes:
     return b"".join(b"== %s\nfile: NoAnswer\n" % name.encode() for name in names)
 
 
-def long_names(room):
+def long_names(room: str) -> Iterator[Run]:
     """Parts whose names have the greatest length that the system allows, and longer names, up to that of a whole list."""
     deep, wide = ("d" * 39 + "/") * (PATH // 40) + "n" * (PATH % 40), "n" * NAME
     part = unchanged([["test", 1, 0]])
@@ -219,7 +256,7 @@ def long_names(room):
     yield from long_lists()
 
 
-def long_lists():
+def long_lists() -> Iterator[Run]:
     """Runs with lists of names that are as long as allowed, and longer. None of the names is that of a file."""
     count = MOST_BYTES // 4_096
     names = [f"{number:04095}" for number in range(count)]
@@ -227,11 +264,16 @@ def long_lists():
     assert len(text) == MOST_BYTES
     yield Run(["batch", *words], text, missing(names), 3)
     yield Run(["chain", *words], text, missing(names) + unjudged(count, names[0]), 3)
-    for word, more in ("batch", "n"), ("chain", "\n"), ("batch", "part.json\n" * 100_000), ("chain", "part.json\n" * 100_000):
+    for word, more in (
+        ("batch", "n"),
+        ("chain", "\n"),
+        ("batch", "part.json\n" * 100_000),
+        ("chain", "part.json\n" * 100_000),
+    ):
         yield Run([word, *words], text + more.encode(), b"", 5)
 
 
-def many_answers(room):
+def many_answers(room: str) -> Iterator[Run]:
     """Outputs about pieces with the greatest number of rows, and one at the end of the longest input."""
     count, names = 100, []
     for number in range(count):
@@ -249,7 +291,7 @@ def many_answers(room):
         yield Run(["chain", "--join", "full.json"], b"", due, status)
 
 
-def inputs(room, rings):
+def inputs(room: str, rings: Any) -> Iterator[tuple[str, Iterator[Run]]]:
     """The name of each kind of input, and its runs. `rings` make histories with a cycle of dependencies."""
     yield "parts with as much as may be", long_parts(room, rings)
     yield f"seams of {ROWS} rows", wide_seams(room)

@@ -3,7 +3,7 @@ import glob
 import os
 import re
 from collections.abc import Iterator
-from typing import NamedTuple
+from typing import Any, NamedTuple
 
 from crates import paragraphs
 from harness import TOP
@@ -16,13 +16,13 @@ PUBLIC = re.compile(r"\bpub (?:const )?fn ([a-z_0-9]+)\b")
 EXPORTS = re.compile(r"^pub use [\w:]+::(?:\{([^}]*)\}|(\w+));", re.M)
 
 
-def owner_name(kind, head):
+def owner_name(kind: str, head: str) -> str:
     """The name of the type that an `impl` is of, of a tuple that of its first, or of a trait."""
     head = re.sub(r"^<[^{]*?>\s", "", head.strip()) if kind == "impl" else head.strip()
-    return re.search(r"\w+", head.split(" for ")[-1]).group()
+    return str(re.findall(r"\w+", head.split(" for ")[-1])[0])
 
 
-def contract(text, place, source=None):
+def contract(text: str, place: int, source: str | None = None) -> list[tuple[str, str]]:
     """The promised clauses of the function whose head begins at a place: (name, text) each. Where a source is given, of
     which the text has all but comments and quotes at the same places, the clauses are cut out of it."""
     clauses, depth = [], 0
@@ -41,12 +41,12 @@ def contract(text, place, source=None):
     return clauses
 
 
-def owners_in(text):
+def owners_in(text: str) -> list[tuple[str, str, int, int]]:
     """The types' and traits' parts of a text: kind, name, and the places between which each stands."""
     return [(m.group(1), owner_name(*m.groups()), m.start(), behind(text, m.end())) for m in OWNER.finditer(text)]
 
 
-def items_in(text: str) -> Iterator[tuple[re.Match, str]]:
+def items_in(text: str) -> Iterator[tuple[re.Match[str], str]]:
     """The functions of a text: the match of each head, and its name, of a type's or a trait's `Type::name`."""
     owners = owners_in(text)
     for item in ITEM.finditer(text):
@@ -54,21 +54,22 @@ def items_in(text: str) -> Iterator[tuple[re.Match, str]]:
         yield item, "::".join(within[-1:] + [item.group(1)])
 
 
-def functions_of(path):
+def functions_of(path: str) -> dict[str, Any]:
     """The functions of a file by name, those of a type or trait as `Type::name`, each with its clauses."""
-    text, found = code_of(path), {}
+    text = code_of(path)
+    found: dict[str, Any] = {}
     for item, name in items_in(text):
         found.setdefault(name, []).extend(contract(text, item.end()))
     return found
 
 
-def exported_from(crate):
+def exported_from(crate: str) -> set[str]:
     """The names that a crate's lib.rt exports."""
     parts = EXPORTS.findall(code_of(f"{crate}/src/lib.rt"))
     return {word for several, one in parts for word in re.findall(r"\w+", several or one)}
 
 
-def public_in(path, exported):
+def public_in(path: str, exported: Any) -> Iterator[str]:
     """The functions of a file that are exported, or are public ones of a type, or any of a trait, that is."""
     text = code_of(path)
     owners = owners_in(text)
@@ -83,7 +84,7 @@ def public_in(path, exported):
 def doc_above(lines: list[str], number: int) -> list[str]:
     """The paragraphs and the list items of the doc comment above a line. Attributes and plain comments may be between
     them."""
-    found = []
+    found: list[Any] = []
     while number and lines[number - 1].strip().startswith(("//", "#[")):
         number -= 1
         if lines[number].strip().startswith("///"):

@@ -35,8 +35,9 @@ def counted(counter: tuple[str, ...], words: list[str], given: IO[bytes] | int, 
     """Runs a command, its standard input `given`; the counter writes into files whose names begin with `told`."""
     is_callgrind = counter == CALLGRIND
     options = [f"--log-file={told}", f"--callgrind-out-file={told}.calls"] if is_callgrind else [f"--output={told}"]
-    ran = subprocess.run([*counter, *options, *words], stdin=given, stdout=subprocess.DEVNULL, stderr=subprocess.DEVNULL,
-                         check=False, **how)
+    ran = subprocess.run(
+        [*counter, *options, *words], stdin=given, stdout=subprocess.DEVNULL, stderr=subprocess.DEVNULL, check=False, **how
+    )
     with open(told, encoding="utf-8", errors="replace") as file:
         found = re.search(r"Collected : (\d+)|^(\d+),,instructions", file.read(), re.M)
     instructions = int(found[1] or found[2]) if found else None

@@ -7,6 +7,7 @@ from harness import TOP
 # A link of a doc comment: [`name`], or [text](path of an item).
 ITEM_LINK = re.compile(r"\[([^\[\]]*)\]\((?!https?:)[^()]*\)|(?<![\w\]])\[(`[^`\]]*`)\]")
 
+
 class Layer(NamedTuple):
     """A layer: its title, what it has, and the names of its crates."""
 

@@ -2,111 +2,147 @@
 smaller history".
 
 A history is the value of a file of version 2. These functions are simple and slow."""
+import functools
+import operator
+from collections.abc import Callable, Iterator
 from itertools import islice, product
+from typing import Any
 
 LISTS = "view", "rows", "writes"
-MOST_WAYS = 10_000  # so many ways to match operations are tried, so that a wrong history of many equal ones doesn't take hours
+Row = tuple[str, int]
+History = dict[str, Any]
+MOST_WAYS = (
+    10_000  # so many ways to match operations are tried, so that a wrong history of many equal ones doesn't take hours
+)
 
 
-def named(member):
+def named(member: list[Any]) -> Row:
     """The row of a list's member."""
-    return tuple(member[:2])
+    table, number = member[:2]
+    return table, number
 
 
-def states(operations, row):
+def states(operations: list[Any], row: Row) -> list[Any]:
     """The states in which operations left a row, the last one last; None if it is absent."""
     return [member[2] for op in operations for member in op["writes"] if named(member) == row]
 
 
-def writer(operations, row):
+def writer(operations: list[Any], row: Row) -> Any:
     """The last of some operations that wrote a row, or None."""
     return next((op for op in reversed(operations) if states([op], row)), None)
 
 
-def left(operations, no, row):
+def left(operations: dict[int, list[Any]], no: int, row: Row) -> Any:
     """The state in which these operations of a transaction leave a row; absent if they don't write it."""
-    op = writer(operations.get(no, ()), row)
+    op = writer(operations.get(no, []), row)
     return op and states([op], row)[0]
 
 
-def rows_of(history):
+def rows_of(history: History) -> list[Row]:
     """The rows of all lists."""
     lists = [history[key] for key in ("initial", "installed", "end")]
     lists += [op[key] for txn in history["transactions"] for op in txn["ops"] for key in LISTS]
     return sorted({named(member) for members in lists for member in members})
 
 
-def by_row(members):
+def by_row(members: Any) -> dict[Row, Any]:
     return {named(member): member[2] for member in members}
 
 
-def listed(rows):
+def listed(rows: dict[Row, Any]) -> list[list[Any]]:
     return [[*row, value] for row, value in sorted(rows.items()) if value is not None]
 
 
-def without_operations(history, is_cut):
+def without_operations(history: History, is_cut: Callable[[Any, Any], bool]) -> History:
     """A history without the operations for which `is_cut` holds, by the transaction's number and the operation's."""
-    before = {txn["no"]: txn["ops"] for txn in history["transactions"]}
+    before: dict[int, list[Any]] = {txn["no"]: txn["ops"] for txn in history["transactions"]}
     kept = {no: [place for place in range(1, len(ops) + 1) if not is_cut(no, place)] for no, ops in before.items()}
     places = {(no, place): new for no, of in kept.items() for new, place in enumerate(of, 1)}
 
-    def seen(view):
+    def seen(view: Any) -> Iterator[list[Any]]:
         """A view with renumbered operations, and without those that are cut."""
         for *row, no, place in view:
             if (no, place) in places:
                 yield [*row, no, places[no, place]]
-            elif not 1 <= place <= len(before.get(no, ())):
+            elif not 1 <= place <= len(before.get(no, [])):
                 yield [*row, no, place]
 
     after = {no: [before[no][place - 1] for place in of] for no, of in kept.items()}
-    transactions = [txn | {"ops": [op | {"view": list(seen(op["view"]))} for op in after[txn["no"]]]}
-                    for txn in history["transactions"] if after[txn["no"]]]
-    initial, end, installed = by_row(history["initial"]), by_row(history["end"]), {}
+    transactions = [
+        txn | {"ops": [op | {"view": list(seen(op["view"]))} for op in after[txn["no"]]]}
+        for txn in history["transactions"]
+        if after[txn["no"]]
+    ]
+    initial, end = by_row(history["initial"]), by_row(history["end"])
+    installed: dict[Row, list[int]] = {}
     for row, by in by_row(history["installed"]).items():
-        stays = [no for no in by if states(after.get(no, ()), row) or not states(before.get(no, ()), row)]
+        stays = [no for no in by if states(after.get(no, []), row) or not states(before.get(no, []), row)]
         first = next((place for place, no in enumerate(by) if no in stays), len(by))
         if first:
             initial[row] = states(before[by[first - 1]], row)[-1]
-        if writer(after.get(by[-1], ()), row) is not writer(before.get(by[-1], ()), row):
+        if writer(after.get(by[-1], []), row) is not writer(before.get(by[-1], []), row):
             end[row] = left(after, stays[-1], row) if stays else initial.get(row)
         if stays:
             installed[row] = stays
-    return history | {"transactions": transactions, "initial": listed(initial), "end": listed(end),
-                      "installed": listed(installed)}
+    return history | {
+        "transactions": transactions,
+        "initial": listed(initial),
+        "end": listed(end),
+        "installed": listed(installed),
+    }
 
 
-def with_rows(history, is_kept):
+def with_rows(history: History, is_kept: Callable[[Row], bool]) -> History:
     """A history whose lists all lack the rows that aren't kept."""
-    def of(members):
+
+    def of(members: Any) -> list[list[Any]]:
         return [member for member in members if is_kept(named(member))]
 
-    transactions = [txn | {"ops": [op | {key: of(op[key]) for key in LISTS} for op in txn["ops"]]}
-                    for txn in history["transactions"]]
+    transactions = [
+        txn | {"ops": [op | {key: of(op[key]) for key in LISTS} for op in txn["ops"]]} for txn in history["transactions"]
+    ]
     return history | {"transactions": transactions} | {key: of(history[key]) for key in ("initial", "installed", "end")}
 
 
-def without_entry(history, cut):
+def without_entry(history: History, cut: Any) -> History:
     """A history without an entry of a view, given by its transaction's number, its operation's and its row."""
-    transactions = [txn | {"ops": [op | {"view": [it for it in op["view"] if (txn["no"], place, named(it)) != cut]}
-                                   for place, op in enumerate(txn["ops"], 1)]} for txn in history["transactions"]]
+    transactions = [
+        txn
+        | {
+            "ops": [
+                op | {"view": [it for it in op["view"] if (txn["no"], place, named(it)) != cut]}
+                for place, op in enumerate(txn["ops"], 1)
+            ]
+        }
+        for txn in history["transactions"]
+    ]
     return history | {"transactions": transactions}
 
 
-def single_cuts(history):
+def is_of(txn: int, no: int, _: int) -> bool:
+    return no == txn
+
+
+def is_at(wanted: tuple[int, int], no: int, place: int) -> bool:
+    return (no, place) == wanted
+
+
+def single_cuts(history: History) -> Iterator[tuple[str, History]]:
     """The results of all single cuts, with their names: of a transaction, an operation, a row, an entry of a view."""
     operations = [(txn["no"], place, op) for txn in history["transactions"] for place, op in enumerate(txn["ops"], 1)]
-    cuts = [(f"T{txn['no']}", lambda no, place, of=txn["no"]: no == of) for txn in history["transactions"]]
-    cuts += [(f"T{of} op {at}", lambda no, place, it=(of, at): (no, place) == it) for of, at, _ in operations]
+    cuts: list[tuple[str, Callable[[int, int], bool]]] = []
+    cuts += [(f"T{txn['no']}", functools.partial(is_of, txn["no"])) for txn in history["transactions"]]
+    cuts += [(f"T{of} op {at}", functools.partial(is_at, (of, at))) for of, at, _ in operations]
     for name, is_cut in cuts:
         yield name, without_operations(history, is_cut)
     for row in rows_of(history):
-        yield f"row {row}", with_rows(history, lambda it, row=row: it != row)
+        yield f"row {row}", with_rows(history, functools.partial(operator.ne, row))
     for no, place, op in operations:
         for row in map(named, op["view"]):
             yield f"T{no} op {place}, row {row} of its view", without_entry(history, (no, place, row))
 
 
-def is_sublist(part, whole):
+def is_sublist(part: Any, whole: Any) -> bool:
     rest = iter(whole)
     return all(it in rest for it in part)
 
@@ -114,12 +150,12 @@ def is_sublist(part, whole):
 class Comparison:
     """A history, and another one of which it has to be a part."""
 
-    def __init__(self, part, whole):
+    def __init__(self, part: Any, whole: Any) -> None:
         self.part, self.whole = part, whole
         self.rows = set(rows_of(part))
         self.ops, self.old = ({txn["no"]: txn["ops"] for txn in it["transactions"]} for it in (part, whole))
 
-    def wrong(self):
+    def wrong(self) -> str:
         """The reason why it isn't a part; empty if it is."""
         heads, old = ([(txn["no"], txn["outcome"]) for txn in it["transactions"]] for it in (self.part, self.whole))
         if not is_sublist(heads, old):
@@ -139,7 +175,7 @@ class Comparison:
                 break
         return wrong
 
-    def ways(self, ops, old, place=0, found=()):
+    def ways(self, ops: Any, old: Any, place: int = 0, found: tuple[int, ...] = ()) -> Iterator[tuple[int, ...]]:
         """The possible positions, in the whole's transaction, of a part's operations: they return the same for the rows
         that the part has, in the same order."""
         if not ops:
@@ -149,13 +185,13 @@ class Comparison:
             if self.is_of(ops[0], old[at]):
                 yield from self.ways(ops[1:], old, at + 1, (*found, at + 1))
 
-    def is_of(self, op, old):
+    def is_of(self, op: Any, old: Any) -> bool:
         """Whether an operation equals another one, apart from the operations' numbers in its view."""
         lists = all(op[key] == [it for it in old[key] if named(it) in self.rows] for key in ("rows", "writes"))
         seen, before = ([it[:3] for it in of["view"]] for of in (op, old))
         return lists and op["statement"] == old["statement"] and is_sublist(seen, before)
 
-    def are_seen(self, places):
+    def are_seen(self, places: Any) -> bool:
         """Whether views name the same versions as before, if operations had these positions."""
         for no, ops in self.ops.items():
             for op, place in zip(ops, places[no]):
@@ -164,17 +200,18 @@ class Comparison:
                     return False
         return True
 
-    def place_before(self, places, no, place):
+    def place_before(self, places: Any, no: int, place: int) -> int | None:
         """The former position of an operation. A nonexistent operation keeps its number, if it didn't exist before
         either."""
-        if 1 <= place <= len(self.ops.get(no, ())):
-            return places[no][place - 1]
-        return place if not 1 <= place <= len(self.old.get(no, ())) else None
+        if 1 <= place <= len(self.ops.get(no, [])):
+            former: int = places[no][place - 1]
+            return former
+        return place if not 1 <= place <= len(self.old.get(no, [])) else None
 
-    def wrong_at(self, places, row):
+    def wrong_at(self, places: Any, row: Row) -> Iterator[str]:
         """The error in the installers, the initial state or the final state of a row."""
         by = by_row(self.whole["installed"]).get(row, [])
-        stays = [no for no in by if states(self.ops.get(no, ()), row) or not states(self.old.get(no, ()), row)]
+        stays = [no for no in by if states(self.ops.get(no, []), row) or not states(self.old.get(no, []), row)]
         if by_row(self.part["installed"]).get(row, []) != stays:
             yield f"its installers aren't {stays}"
         initial, end = ([by_row(it[key]).get(row) for it in (self.part, self.whole)] for key in ("initial", "end"))
@@ -183,7 +220,7 @@ class Comparison:
         if initial[0] not in first:
             yield f"it begins as {initial[0]}, and not as one of {first}"
         kept = {no: [self.old[no][place - 1] for place in of] for no, of in places.items()}
-        if not by or writer(kept.get(by[-1], ()), row) is writer(self.old.get(by[-1], ()), row):
+        if not by or writer(kept.get(by[-1], []), row) is writer(self.old.get(by[-1], []), row):
             last = end[1]
         else:
             last = left(self.ops, stays[-1], row) if stays else initial[0]

@@ -3,6 +3,9 @@ import argparse
 import os
 import subprocess
 import sys
+from collections.abc import Sequence
+from types import CodeType
+from typing import Any, NoReturn
 
 TOP = os.path.dirname(os.path.dirname(os.path.realpath(__file__)))
 # Modules of these folders may be imported after this one.
@@ -11,26 +14,60 @@ NAME = os.path.basename(sys.argv[0])
 SECONDS = 60
 # No call has to ask for more bytes at once: the preloaded library ends a program that does.
 LARGEST = 64 * 1_024 * 1_024
+Ended = subprocess.CompletedProcess[bytes]
 
 
-def refuse(why):
+def refuse(why: str) -> NoReturn:
     """Prints why nothing can be tested, and exits with status 2."""
     print(f"{NAME}: {why}", file=sys.stderr)
     sys.exit(2)
 
 
 class Words(argparse.ArgumentParser):
-    """The arguments of a test. Its help is the test's docstring, which has the usage after `usage: `."""
+    """The arguments of a test. Its help is the test's docstring, which has the usage after `usage: `. With --only NAME, the
+    test runs only the functions try_NAME, those that they call, and those that call them."""
 
-    def __init__(self, docstring):
-        usage = docstring.partition("usage: ")[2].partition("\n\n")[0]
-        super().__init__(usage=usage, description=docstring, allow_abbrev=False)
+    def __init__(self, docstring: str | None) -> None:
+        self.docstring = docstring or ""
+        usage = self.docstring.partition("usage: ")[2].partition("\n\n")[0]
+        super().__init__(usage=usage, description=self.docstring, allow_abbrev=False)
+        self.add_argument("--only", metavar="NAME")
 
-    def format_help(self):
-        return self.description
+    def format_help(self) -> str:
+        return self.docstring
+
+    def parse_args(self, *given: Any) -> Any:  # type: ignore[override]  # (it takes no namespace)
+        """The arguments. Leaves out the functions that --only doesn't ask for."""
+        found = super().parse_args(*given)
+        if found.only:
+            leave_out(vars(sys.modules["__main__"]), found.only)
+        return found
 
 
-def find_program(named=None):
+def called(code: CodeType, names: set[str]) -> set[str]:
+    """The functions of these names that a function calls, also in functions within it."""
+    inner = [called(part, names) for part in code.co_consts if isinstance(part, CodeType)]
+    return names.intersection(code.co_names).union(*inner)
+
+
+def leave_out(module: dict[str, Any], only: str) -> None:
+    """Lets the functions try_* of a test do nothing, except those of this name, all that they call, and their callers."""
+    tries = {name for name in module if name.startswith("try_")}
+    calls = {name: called(module[name].__code__, tries) for name in tries}
+    chosen = {name for name in tries if name.removeprefix("try_") == only}
+    if not chosen:
+        refuse(
+            f"no part is named {only}; there are {', '.join(sorted(name.removeprefix('try_') for name in tries)) or 'none'}"
+        )
+    below, above = set(chosen), set(chosen)
+    for _ in tries:
+        below |= {name for caller in below for name in calls[caller]}
+        above |= {caller for caller in tries if calls[caller] & above}
+    for name in tries - below - above:
+        module[name] = lambda *_, **__: None
+
+
+def find_program(named: str | None = None) -> str:
     """The path of the given program, or else of the one that programs/find names."""
     if named is None:
         found = subprocess.run([f"{TOP}/programs/find"], stdout=subprocess.PIPE, text=True, check=False)
@@ -43,14 +80,14 @@ def find_program(named=None):
     return os.path.abspath(named)
 
 
-def program_of(docstring):
+def program_of(docstring: str | None) -> str:
     """The program of a test that accepts only a program as an argument."""
     words = Words(docstring)
     words.add_argument("program", nargs="?")
     return find_program(words.parse_args().program)
 
 
-def library_and_program(docstring):
+def library_and_program(docstring: str | None) -> tuple[str, str]:
     """The library that refuses allocations, .ci/refuse.c compiled, and the program, for a test that accepts both."""
     words = Words(docstring)
     words.add_argument("library")
@@ -61,21 +98,22 @@ def library_and_program(docstring):
     return os.path.abspath(given.library), find_program(given.program)
 
 
-def run(words, text=b"", seconds=SECONDS, **how):
+def run(words: Sequence[Any], text: bytes = b"", seconds: float = SECONDS, **how: Any) -> Ended:
     """Runs a command with a text on its standard input. The exit status is None if it doesn't end in time."""
     try:
         return subprocess.run(words, input=text, capture_output=True, timeout=seconds, check=False, **how)
     except subprocess.TimeoutExpired as late:
-        return subprocess.CompletedProcess(words, None, late.stdout or b"", late.stderr or b"")
+        status: Any = None
+        return subprocess.CompletedProcess(words, status, late.stdout or b"", late.stderr or b"")
 
 
 class Tally:
     """How many tries of a test passed, and how many failed."""
 
-    def __init__(self):
+    def __init__(self) -> None:
         self.passed = self.failed = 0
 
-    def note(self, is_right, *why):
+    def note(self, is_right: object, *why: object) -> bool:
         """Counts a try, prints why it failed, and returns whether it passed."""
         if is_right:
             self.passed += 1
@@ -85,7 +123,7 @@ class Tally:
             print(f"{NAME}: {line}", flush=True)
         return False
 
-    def end(self, more=""):
+    def end(self, more: str = "") -> NoReturn:
         """Writes the last line. Exit status 1 if a try failed, or if there was none."""
         print(f"{self.passed} passed, {self.failed} failed{more}")
         sys.exit(1 if self.failed or not self.passed else 0)
@@ -95,15 +133,15 @@ class Progress:
     """A progress line, such as `3 of 10 tests`, each time in place of the one before. Nothing is written if standard
     error isn't a terminal."""
 
-    def __init__(self, count, what):
+    def __init__(self, count: int, what: str) -> None:
         self.count, self.what, self.is_told = count, what, sys.stderr.isatty()
 
-    def tell(self, done):
+    def tell(self, done: int) -> None:
         """Shows how much is done."""
         if self.is_told:
             print(f"\r{done} of {self.count} {self.what}\x1b[K", end="", file=sys.stderr, flush=True)
 
-    def clear(self):
+    def clear(self) -> None:
         """Erases the line, so that another can be written."""
         if self.is_told:
             print("\r\x1b[K", end="", file=sys.stderr, flush=True)

@@ -1,20 +1,22 @@
 """The part of JSON Schema that docs/history.schema.json and docs/report.schema.json use: which values are valid."""
 import re
+from collections.abc import Callable, Iterator
+from typing import Any
 
 # Members of a schema that don't restrict a value.
 SILENT = {"$schema", "$id", "$comment", "$defs", "title", "description"}
 
 
-def is_whole(value):
+def is_whole(value: Any) -> bool:
     """Whether a value is an integer for JSON Schema, which counts 1.0 as one."""
     return isinstance(value, int) and not isinstance(value, bool) or isinstance(value, float) and value.is_integer()
 
 
-def is_number(value):
+def is_number(value: Any) -> bool:
     return isinstance(value, (int, float)) and not isinstance(value, bool)
 
 
-TYPES = {
+TYPES: dict[str, Callable[[Any], bool]] = {
     "object": lambda value: isinstance(value, dict),
     "array": lambda value: isinstance(value, list),
     "string": lambda value: isinstance(value, str),
@@ -24,27 +26,27 @@ TYPES = {
 }
 
 
-def is_same(value, other):
+def is_same(value: Any, other: Any) -> bool:
     """Equality of JSON Schema, for which true isn't 1; the constants here are texts and numbers."""
     return isinstance(value, bool) == isinstance(other, bool) and value == other
 
 
-def of_type(types, value):
+def of_type(types: Any, value: Any) -> bool:
     return any(TYPES[name](value) for name in ([types] if isinstance(types, str) else types))
 
 
-def matches(pattern, value):
+def matches(pattern: str, value: str) -> bool:
     """A `$` of the schema is the end of the text; Python's also matches before a final newline."""
     return re.search(re.sub(r"\$$", r"\\Z", pattern), value) is not None
 
 
-def further(schema, value):
+def further(schema: Any, value: Any) -> range:
     """The members of a list after those that `prefixItems` has."""
     return range(len(schema.get("prefixItems", [])), len(value))
 
 
 # For each keyword: the values that it applies to, and whether one meets it.
-TESTS_OF = {
+TESTS_OF: dict[str, tuple[Callable[[Any], object], Callable[[Any, Any], object]]] = {
     "type": (lambda value: True, lambda said, value: of_type(said, value)),
     "const": (lambda value: True, lambda said, value: is_same(value, said)),
     "enum": (lambda value: True, lambda said, value: any(is_same(value, one) for one in said)),
@@ -62,7 +64,7 @@ PARTS = {"properties", "additionalProperties", "prefixItems", "items"}
 BRANCHES = {"if", "then", "else"}
 
 
-def parts(schema, value):
+def parts(schema: Any, value: Any) -> Iterator[tuple[Any, Any, Any]]:
     """The parts of a value that a schema restricts, each with its key or position and its schema."""
     if isinstance(value, dict):
         known = schema.get("properties", {})
@@ -74,14 +76,14 @@ def parts(schema, value):
             yield place, value[place], schema.get("items", True)
 
 
-def branch(root, schema, value):
+def branch(root: Any, schema: Any, value: Any) -> Any:
     """The further schemas for a value, by the result of `if`."""
     if "if" not in schema:
         return True
     return schema.get("else" if breach(root, schema["if"], value) else "then", True)
 
 
-def breach(root, schema, value, path=""):
+def breach(root: Any, schema: Any, value: Any, path: str = "") -> str | None:
     """The first place and keyword at which a value isn't valid, or None."""
     if isinstance(schema, bool):
         return None if schema else f"{path or '/'}: nothing may stand here"
@@ -92,11 +94,11 @@ def breach(root, schema, value, path=""):
     for word, (speaks_of, meets) in TESTS_OF.items():
         if word in schema and speaks_of(value) and not meets(schema[word], value):
             return f"{path or '/'}: {word}"
-    found = (breach(root, below, part, f"{path}/{key}") for key, part, below in parts(schema, value))
-    return next(filter(None, found), None) or breach(root, branch(root, schema, value), value, path)
+    inner = (breach(root, below, part, f"{path}/{key}") for key, part, below in parts(schema, value))
+    return next(filter(None, inner), None) or breach(root, branch(root, schema, value), value, path)
 
 
-def unknown_words(schema):
+def unknown_words(schema: Any) -> set[str]:
     """The keywords of a schema that this module doesn't support, and would otherwise ignore."""
     if isinstance(schema, bool):
         return set()

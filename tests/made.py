@@ -4,28 +4,42 @@ A ring of N transactions has dependencies from T1 to T2 and so on to TN, and fro
 cycle, of transactions or of their starts and commits, contains all of them. All histories are rings except the skew, in
 which transactions miss what many others write. The expected results are written from docs/FORMATS.md."""
 import json
+from collections.abc import Callable, Iterable
+from typing import Any
 
 PHENOMENA = "G0", "G1a", "G1b", "G1c", "G-single", "G2-item", "G2"
+Op = dict[str, Any]
+Made = tuple[bytes, bytes]  # a history's file, and its report
 
 
-def of_test(members):
+def of_test(members: Iterable[list[Any]]) -> list[list[Any]]:
     return [["test", *member] for member in members]
 
 
-def operation(statement, view=(), rows=(), writes=()):
+def operation(
+    statement: str, view: Iterable[list[Any]] = (), rows: Iterable[list[Any]] = (), writes: Iterable[list[Any]] = ()
+) -> Op:
     """An operation on the table `test`; its lists name rows by their ids."""
     return {"statement": statement, "view": of_test(view), "rows": of_test(rows), "writes": of_test(writes)}
 
 
-def history(initial, transactions, installed, end):
+def history(
+    initial: Iterable[list[Any]], transactions: list[list[Op]], installed: Iterable[list[Any]], end: Iterable[list[Any]]
+) -> bytes:
     """The file of a history of committed transactions, each a list of operations; they have the numbers 1, 2, .."""
     numbered = [{"no": no, "outcome": "committed", "ops": ops} for no, ops in enumerate(transactions, 1)]
-    whole = {"format": "hermitage-history", "version": 2, "initial": of_test(initial), "transactions": numbered,
-             "installed": of_test(installed), "end": of_test(end)}
+    whole = {
+        "format": "hermitage-history",
+        "version": 2,
+        "initial": of_test(initial),
+        "transactions": numbered,
+        "installed": of_test(installed),
+        "end": of_test(end),
+    }
     return json.dumps(whole, separators=(",", ":"), sort_keys=True).encode()
 
 
-def skewing(selects):
+def skewing(selects: int) -> bytes:
     """Write skew of two transactions, each after this many selects that return nothing."""
     initial = [[1, 10], [2, 20]]
     idle = [operation("select * from test where id = 3")] * selects
@@ -38,70 +52,70 @@ def skewing(selects):
     return history(initial, transactions, [[1, [1]], [2, [2]]], end)
 
 
-def report(serial, snapshot, found, level):
+def report(serial: str, snapshot: str, found: dict[str, str], level: str) -> bytes:
     """The ten lines; `found` has the phenomena that are present."""
     lines = [f"serializable: {serial}", f"snapshot: {snapshot}"]
     lines += [f"{name}: present {found[name]}" if name in found else f"{name}: absent" for name in PHENOMENA]
     return "\n".join([*lines, f"level: {level}", ""]).encode()
 
 
-def after_each_other(count):
+def after_each_other(count: int) -> bytes:
     """The report on transactions that run one after another."""
     order = "".join(f" T{no}" for no in range(1, count + 1))
     places = "".join(f" T{no} {2 * no - 2}-{2 * no - 1}" for no in range(1, count + 1))
     return report(f"yes{order}", f"yes{places}", {}, "PL-3")
 
 
-def before(no, count):
+def before(no: int, count: int) -> int:
     """The transaction before this one in a ring."""
     return no - 1 if no > 1 else count
 
 
-def behind(no, count):
+def behind(no: int, count: int) -> int:
     return no + 1 if no < count else 1
 
 
-def round_walk(count, dependency):
+def round_walk(count: int, dependency: Callable[[int], str]) -> str:
     """The cycle of a ring; `dependency` names the one from a transaction to the next."""
     return "".join(f"T{no} {dependency(no)} " for no in range(1, count + 1)) + "T1"
 
 
-def round_circle(count):
+def round_circle(count: int) -> str:
     """The cycle in which each commit must come before the next transaction's start."""
     return "no " + "".join(f"s{no} c{no} " for no in range(1, count + 1)) + "s1"
 
 
-def circle_from_commit(count):
+def circle_from_commit(count: int) -> str:
     """The cycle of a ring in which only the last transaction must start before the next one's commit."""
     return "no c1 " + "".join(f"s{no} c{no} " for no in range(2, count)) + f"s{count} c1"
 
 
-def report_but_once(count, dependency):
+def report_but_once(count: int, dependency: Callable[[int], str]) -> bytes:
     """The expected report of a ring with one anti-dependency, by a returned row, from the last transaction to the first."""
     walk = round_walk(count, dependency)
     return report(f"no {walk}", circle_from_commit(count), dict.fromkeys(("G-single", "G2-item", "G2"), walk), "PL-2")
 
 
-def places_of_readers(count):
+def places_of_readers(count: int) -> str:
     """The timestamps if each transaction must start before the next one's commit: all but the first and the last commit
     right after their starts, and those two after the last start."""
     inner = "".join(f" T{no} {2 * no - 3}-{2 * no - 2}" for no in range(2, count))
     return f"yes T1 0-{2 * count - 2}{inner} T{count} {2 * count - 3}-{2 * count - 1}"
 
 
-def rows_of_zero(count):
+def rows_of_zero(count: int) -> list[list[int]]:
     return [[row, 0] for row in range(1, count + 1)]
 
 
-def update(row, to, old, view=()):
+def update(row: int, to: int, old: int, view: Iterable[list[Any]] = ()) -> Op:
     return operation(f"update test set value = {to} where id = {row}", view, [[row, old]], [[row, to]])
 
 
-def select(row, value, view):
+def select(row: int, value: int, view: Iterable[list[Any]]) -> Op:
     return operation(f"select * from test where id = {row}", view, [[row, value]])
 
 
-def overwriting(count):
+def overwriting(count: int) -> Made:
     """Each overwrites what the one before it wrote: G0."""
     transactions, installed, end = [], [], []
     for no in range(1, count + 1):
@@ -115,14 +129,14 @@ def overwriting(count):
     return history(rows_of_zero(count), transactions, installed, end), due
 
 
-def update_all(seen):
+def update_all(seen: list[Any]) -> Op:
     """The operation that adds 1 to all rows, with the version and the value that it sees of each."""
     view = [[row, writer, 1] for row, (writer, _) in enumerate(seen, 1) if writer]
     old = [[row, value] for row, (_, value) in enumerate(seen, 1)]
     return operation("update test set value = value + 1", view, old, [[row, value + 1] for row, value in old])
 
 
-def overwriting_all(count, rows):
+def overwriting_all(count: int, rows: int) -> Made:
     """Each updates all rows, two or more, after the one before it, but the last one comes first at the last row: G0."""
     transactions = []
     for no in range(1, count + 1):
@@ -136,7 +150,7 @@ def overwriting_all(count, rows):
     return history(rows_of_zero(rows), transactions, installed, [[row, count] for row in range(1, rows + 1)]), due
 
 
-def overwriting_missed(count, rows):
+def overwriting_missed(count: int, rows: int) -> Made:
     """Each updates all rows, two or more, after the one before it, but the last one misses all others' changes of the
     last row: G-single."""
     seen = [[(no - 1, no - 1)] * rows for no in range(1, count + 1)]
@@ -147,7 +161,7 @@ def overwriting_missed(count, rows):
     return history(rows_of_zero(rows), transactions, [[row, order] for row in range(1, rows + 1)], last), due
 
 
-def overwriting_then_reading(writers, rows):
+def overwriting_then_reading(writers: int, rows: int) -> Made:
     """Each writer updates all rows, two or more, after the one before it. A reader after them sees row 1 as the last one
     left it, and row 2 as it was at first: G-single."""
     transactions = [[update_all([(no - 1, no - 1)] * rows)] for no in range(1, writers + 1)]
@@ -158,7 +172,7 @@ def overwriting_then_reading(writers, rows):
     return history(rows_of_zero(rows), transactions, [[row, order] for row in every], [[row, writers] for row in every]), due
 
 
-def reading(count):
+def reading(count: int) -> Made:
     """Each reads what the one before it wrote: G1c."""
     transactions = []
     for no in range(1, count + 1):
@@ -171,7 +185,7 @@ def reading(count):
     return history(rows_of_zero(count), transactions, [[row, [row]] for row in rows], [[row, row] for row in rows]), due
 
 
-def missing(count):
+def missing(count: int) -> Made:
     """Each finds no row that the one before it deleted: G1c by rows that no statement returns."""
     transactions = []
     for no in range(1, count + 1):
@@ -185,7 +199,7 @@ def missing(count):
     return history([[row, row] for row in rows], transactions, [[row, [row]] for row in rows], []), due
 
 
-def reading_but_once(count):
+def reading_but_once(count: int) -> Made:
     """Each reads what the one before it wrote, and the last one a row as it was before the first one wrote it: G-single."""
     transactions = [[update(1, 1, 0), update(count, 1, 0, [[1, 1, 1]])]]
     for no in range(2, count + 1):
@@ -193,13 +207,14 @@ def reading_but_once(count):
         last = select(count, 0, view) if no == count else update(no, no, 0, view)
         transactions.append([select(no - 1, no - 1, view), last])
     due = report_but_once(count, lambda no: f"{'rw' if no == count else 'wr'}({no})")
-    installed = [[row, [row]] for row in range(1, count)] + [[count, [1]]]
+    installed: list[list[Any]] = [[row, [row]] for row in range(1, count)] + [[count, [1]]]
     return history(rows_of_zero(count), transactions, installed, [[row, who] for row, (who,) in installed]), due
 
 
-def reading_old(count):
+def reading_old(count: int) -> Made:
     """Each reads a row as it was before the next one wrote it: G2-item."""
-    transactions, installed = [], []
+    transactions: list[list[Op]] = []
+    installed: list[list[Any]] = []
     for no in range(1, count + 1):
         last = before(no, count)
         transactions.append([select(no, 0, ()), update(last, no, 0)])
@@ -209,7 +224,7 @@ def reading_old(count):
     return history(rows_of_zero(count), transactions, installed, [[row, who] for row, (who,) in installed]), due
 
 
-def finding_none(count):
+def finding_none(count: int) -> Made:
     """Each finds no row of the value that the next one then inserts: G2."""
     transactions, end = [], []
     for no in range(1, count + 1):
@@ -222,7 +237,7 @@ def finding_none(count):
     return history([], transactions, [[row, [row]] for row in range(1, count + 1)], end), due
 
 
-def select_range(first, span, rows):
+def select_range(first: int, span: int, rows: int) -> Op:
     """Selects this many rows as they were at first, from this one on; the first row follows the last."""
     listed = sorted((first + place - 1) % rows + 1 for place in range(span))
     last = (first + span - 2) % rows + 1
@@ -230,7 +245,7 @@ def select_range(first, span, rows):
     return operation(f"select * from test where id >= {first} {joined} id <= {last}", (), [[row, 0] for row in listed])
 
 
-def places_of_skewed(count, reach):
+def places_of_skewed(count: int, reach: int) -> str:
     """The timestamps if each must start before this many after it commit: the first ones start before any commit, then
     each right before its own commit, and after the last start come the remaining commits."""
     starts = [max(no - 1, 2 * no - reach - 2) for no in range(1, count + 1)]
@@ -240,7 +255,7 @@ def places_of_skewed(count, reach):
     return "yes " + " ".join(f"T{no} {start}-{end}" for no, (start, end) in enumerate(zip(starts, ends), 1))
 
 
-def skewed(count, selects, span):
+def skewed(count: int, selects: int, span: int) -> Made:
     """Each selects so many ranges of as many rows as there are transactions, from its own row on, and updates that row. It
     sees all rows as they were at first, and misses the writes of the next `reach` transactions: G2-item.
 

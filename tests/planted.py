@@ -47,9 +47,13 @@ def test_functions() -> set[str]:
 
 def clauses_of(crates: list[str], function: str) -> list[str] | None:
     """The names of a function's clauses, in these crates; None if it isn't there. `Type::name` or `name` names it."""
-    found = [clauses for crate in crates for name, clauses in clauses_in(crate).items()
-             if function in (name, name.rpartition("::")[2])]
-    return sum(found, []) if found else None
+    found = [
+        clauses
+        for crate in crates
+        for name, clauses in clauses_in(crate).items()
+        if function in (name, name.rpartition("::")[2])
+    ]
+    return [clause for clauses in found for clause in clauses] if found else None
 
 
 def case_names(file: str) -> list[str]:
@@ -71,8 +75,12 @@ def is_shown(kind: str, text: str, clauses: list[str]) -> bool:
     if kind == "test":
         name = text.partition(":")[0]
         return os.path.exists(f"{TOP}/tests/{name}") or name in test_functions()
-    return {"contract": not text, "invariant": not text, "cases": bool(case_names(text)),
-            "example": os.path.exists(f"{TOP}/examples/{text}")}.get(kind, bool(text))
+    return {
+        "contract": not text,
+        "invariant": not text,
+        "cases": bool(case_names(text)),
+        "example": os.path.exists(f"{TOP}/examples/{text}"),
+    }.get(kind, bool(text))
 
 
 def wrong(cells: list[str]) -> Iterator[str]:

@@ -1,6 +1,8 @@
 """Converts reports and refusals between lines and JSON values, as docs/FORMATS.md defines both."""
 import json
 import re
+from collections.abc import Callable
+from typing import Any
 
 from made import PHENOMENA
 
@@ -10,9 +12,10 @@ READ = re.compile(rf"T(\d+) op (\d+) row {ROW}")
 FAULT = re.compile(rf"(F\d) (\w+)(?: T(\d+) op (\d+))? row {ROW}")
 SPAN = re.compile(r"T(\d+) (\d+)-(\d+)")
 POINTS = {"s": "start", "c": "commit"}
+Value = dict[str, Any]  # a JSON object
 
 
-def line_of(value):
+def line_of(value: Any) -> str:
     """A value as the program writes it."""
     return json.dumps(value, ensure_ascii=False, separators=(",", ":"), sort_keys=True) + "\n"
 
@@ -20,36 +23,44 @@ def line_of(value):
 # ---- from lines to values
 
 
-def row_of(table, number):
+def matched(pattern: re.Pattern[str], text: str) -> tuple[Any, ...]:
+    """The groups of a pattern, which must match the whole text."""
+    found = pattern.fullmatch(text)
+    assert found, text
+    return found.groups()
+
+
+def row_of(table: str | None, number: str) -> Value:
     return {"table": table or "test", "id": int(number)}
 
 
-def cycle_of(text):
+def cycle_of(text: str) -> list[Value]:
     """The dependencies of a cycle, as `T1 rw(2) T2 rw(1) T1`."""
-    at, cycle = int(re.match(r"T(\d+)", text).group(1)), []
+    at = int(matched(re.compile(r"T(\d+)"), text.partition(" ")[0])[0])
+    cycle: list[Value] = []
     for kind, table, number, to in STEP.findall(text):
         cycle.append({"from": at, "to": int(to), "kind": kind, **row_of(table, number)})
         at = int(to)
     return cycle
 
 
-def read_of(text):
-    txn, op, table, number = READ.fullmatch(text).groups()
+def read_of(text: str) -> Value:
+    txn, op, table, number = matched(READ, text)
     return {"txn": int(txn), "op": int(op), **row_of(table, number)}
 
 
-def fault_of(text):
-    code, kind, txn, op, table, number = FAULT.fullmatch(text).groups()
+def fault_of(text: str) -> Value:
+    code, kind, txn, op, table, number = matched(FAULT, text)
     place = {"txn": int(txn), "op": int(op)} if txn else {}
     return {"code": code, "kind": kind, **place, **row_of(table, number)}
 
 
-def circle_of(text):
+def circle_of(text: str) -> list[Value]:
     """The points of a cycle without the last, which is the first."""
     return [{"point": POINTS[point[0]], "txn": int(point[1:])} for point in text.split()[:-1]]
 
 
-def verdict_of(said, yes, cycle):
+def verdict_of(said: Any, yes: Callable[[str], Value], cycle: Callable[[str], Any]) -> Value:
     """A verdict, with the order, timestamps or cycle of it."""
     word, _, rest = said.partition(" ")
     if word == "yes":
@@ -57,22 +68,23 @@ def verdict_of(said, yes, cycle):
     return {"verdict": "no", **({"fault": fault_of(rest)} if rest.startswith("F") else {"cycle": cycle(rest)})}
 
 
-def order_of(text):
+def order_of(text: str) -> Value:
     return {"order": [int(txn[1:]) for txn in text.split()]}
 
 
-def places_of(text):
+def places_of(text: str) -> Value:
     return {"places": [{"txn": int(no), "start": int(a), "commit": int(b)} for no, a, b in SPAN.findall(text)]}
 
 
-def finding_of(said):
+def finding_of(said: Any) -> Value:
     word, _, rest = said.partition(" ")
     if word != "present":
         return {"verdict": said}
-    return {"verdict": "present", **({"read": read_of(rest)} if " op " in rest else {"cycle": cycle_of(rest)})}
+    found: Value = {"read": read_of(rest)} if " op " in rest else {"cycle": cycle_of(rest)}
+    return {"verdict": "present"} | found
 
 
-def refusal_of(line):
+def refusal_of(line: str) -> Value:
     """The value of a line about a file, a script or a play, such as `file: OverLimit entries` or `line 3: NoSession`."""
     about, said = line.split(": ", 1)
     kind, *rest = said.split()
@@ -88,7 +100,7 @@ def refusal_of(line):
     return {"refused": {"kind": kind, **({key: rest[0]} if key else {})}}
 
 
-def value_of(text):
+def value_of(text: str) -> Value:
     """The value of ten lines, or of the one line of a file that is refused or can't be read."""
     if not text.startswith("serializable: "):
         return refusal_of(text.rstrip("\n"))
@@ -104,45 +116,45 @@ def value_of(text):
 # ---- from values to lines
 
 
-def row_text(value):
+def row_text(value: Any) -> str:
     return f"{value['id']}" if value["table"] == "test" else f"{value['table']} {value['id']}"
 
 
-def cycle_text(cycle):
+def cycle_text(cycle: Any) -> str:
     return f"T{cycle[0]['from']}" + "".join(f" {step['kind']}({row_text(step)}) T{step['to']}" for step in cycle)
 
 
-def read_text(read):
+def read_text(read: Value) -> str:
     return f"T{read['txn']} op {read['op']} row {row_text(read)}"
 
 
-def fault_text(fault):
+def fault_text(fault: Value) -> str:
     place = read_text(fault) if "txn" in fault else f"row {row_text(fault)}"
     return f"{fault['code']} {fault['kind']} {place}"
 
 
-def spans_text(verdict):
+def spans_text(verdict: Value) -> list[str]:
     return [f"T{span['txn']} {span['start']}-{span['commit']}" for span in verdict["places"]]
 
 
-def circle_text(points):
+def circle_text(points: list[Value]) -> str:
     return " ".join(f"{point['point'][0]}{point['txn']}" for point in [*points, points[0]])
 
 
-def verdict_text(verdict, yes, cycle):
+def verdict_text(verdict: Value, yes: Callable[[Value], list[str]], cycle: Callable[[Any], str]) -> str:
     if verdict["verdict"] == "yes":
         return " ".join(["yes", *yes(verdict)])
     return "no " + (fault_text(verdict["fault"]) if "fault" in verdict else cycle(verdict["cycle"]))
 
 
-def finding_text(finding):
+def finding_text(finding: Value) -> str:
     said = [finding["verdict"]]
     said += [cycle_text(finding["cycle"])] if "cycle" in finding else []
     said += [read_text(finding["read"])] if "read" in finding else []
     return " ".join(said)
 
 
-def refusal_text(refused, about):
+def refusal_text(refused: Value, about: str) -> str:
     """The line of a refusal; `about` is `file` or `play`, if it isn't a script."""
     if "line" in refused:
         return f"line {refused['line']}: {refused['kind']}\n"
@@ -154,7 +166,7 @@ def refusal_text(refused, about):
     return " ".join(words) + "\n"
 
 
-def text_of(value, about="file"):
+def text_of(value: Any, about: str = "file") -> str:
     """The ten lines of a report's value, or the one line of a refusal's."""
     if "refused" in value:
         return refusal_text(value["refused"], about)
@@ -169,13 +181,13 @@ def text_of(value, about="file"):
     return "\n".join(lines) + "\n"
 
 
-def said_of_run(found):
+def said_of_run(found: Any) -> str:
     """The text of a line about a run in parts."""
     part = f" {found['file']}" if "file" in found else ""
-    return found["verdict"] + part + (f": {found['reason']}" if "reason" in found else "")
+    return str(found["verdict"]) + part + (f": {found['reason']}" if "reason" in found else "")
 
 
-def run_text(value):
+def run_text(value: Any) -> str:
     """The eleven lines of a run in parts."""
     lines = [f"=== parts {value['parts']}"]
     lines += [f"{name}: {said_of_run(value[name])}" for name in ("serializable", "snapshot")]

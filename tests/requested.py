@@ -12,9 +12,7 @@ from sources import behind
 CALL = re.compile(r"\b(?:with_capacity|(?:try_)?reserve(?:_exact)?|resize)\(|\bvec!\[\s*in\b")
 DEFINED = re.compile(r"\bfn $")
 # Names, fields, and methods that return how many elements something has.
-PLAIN = re.compile(
-    r"^(?:\w+(?:\.\w+)*(?:\.entries\(\)|\.as_bytes\(\))?(?:\.(?:len|nodes)\(\))?)(?: as usize)?$"
-)
+PLAIN = re.compile(r"^(?:\w+(?:\.\w+)*(?:\.entries\(\)|\.as_bytes\(\))?(?:\.(?:len|nodes)\(\))?)(?: as usize)?$")
 NUMBER = re.compile(r"^\d|(?:^|[.:])[A-Z][A-Z_0-9]*$")
 
 

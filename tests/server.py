@@ -7,24 +7,25 @@ import signal
 import subprocess
 import tempfile
 import time
+from typing import Any
 
 PATIENCE = 60
 ASIDE = "\nThe server says:\n"
 
 
-def folder_of(program, *others):
+def folder_of(program: str, *others: str) -> str | None:
     """The folder of a program that is on the path, or in one of these folders; None if there is none."""
     named = shutil.which(program)
     found = sorted(path for folder in others for path in glob.glob(f"{folder}/{program}"))
     return os.path.dirname(os.path.realpath(named or found[-1])) if named or found else None
 
 
-def programs():
+def programs() -> str | None:
     """The folder of PostgreSQL's initdb, or None where there is none."""
     return folder_of("initdb", "/usr/lib/postgresql/*/bin", "/usr/local/pgsql/bin")
 
 
-def mariadb_programs():
+def mariadb_programs() -> str | None:
     """The folder of mariadbd, or None where there is none."""
     return folder_of("mariadbd", "/usr/sbin", "/usr/local/mysql/bin")
 
@@ -37,30 +38,30 @@ class Server:
     VARIABLES = "PG"  # the beginnings of the variables by which clients find another server
     STOP = signal.SIGINT
 
-    def __init__(self, folder):
+    def __init__(self, folder: str) -> None:
         self.folder = folder
         self.room = tempfile.mkdtemp(prefix="lab", dir="/tmp" if os.path.isdir("/tmp") else None)
-        self.process = None
-        self.owner = {}
+        self.process: subprocess.Popen[bytes] | None = None
+        self.owner: dict[str, Any] = {}
         others = {name: value for name, value in os.environ.items() if not name.startswith(self.VARIABLES)}
         self.environment = {**others, "PATH": f"{folder}:{os.environ['PATH']}", **self.own()}
 
-    def own(self):
+    def own(self) -> dict[str, str]:
         """The variables by which clients find this server."""
         return {"PGHOST": self.room, "PGPORT": "5432", "PGUSER": "lab", "PGDATABASE": "postgres"}
 
-    def making(self, data):
+    def making(self, data: str) -> list[str]:
         """The arguments that make the server's files."""
         return [f"{self.folder}/initdb", "-D", data, "-A", "trust", "-U", "lab", "-E", "UTF8", "--no-locale", "-N"]
 
-    def running(self, data):
+    def running(self, data: str) -> list[str]:
         settings = {**self.SETTINGS, "unix_socket_directories": self.room}
         return [f"{self.folder}/postgres", "-D", data, *(f"--{name}={value}" for name, value in settings.items())]
 
-    def asking(self, question):
+    def asking(self, question: str) -> list[str]:
         return [f"{self.folder}/psql", "-X", "-A", "-t", "-w", "-c", question]
 
-    def give_away(self):
+    def give_away(self) -> None:
         """Root's folder goes to the user who runs the server."""
         if os.geteuid() == 0:
             users = {entry.pw_name: entry for entry in pwd.getpwall()}
@@ -68,7 +69,7 @@ class Server:
             os.chown(self.room, user.pw_uid, user.pw_gid)
             self.owner = {"user": user.pw_uid, "group": user.pw_gid, "extra_groups": []}
 
-    def __enter__(self):
+    def __enter__(self) -> "Server":
         try:
             self.give_away()
             os.chmod(self.room, 0o755)
@@ -77,7 +78,7 @@ class Server:
             if made.returncode:
                 raise RuntimeError("the server's files weren't made: " + made.stderr.decode(errors="replace"))
             with open(log, "wb") as out:
-                streams = {"stdin": subprocess.DEVNULL, "stdout": out, "stderr": out}
+                streams: dict[str, Any] = {"stdin": subprocess.DEVNULL, "stdout": out, "stderr": out}
                 words = self.running(data)
                 self.process = subprocess.Popen(words, cwd=self.room, start_new_session=True, **streams, **self.owner)
             self.wait_for(log)
@@ -86,20 +87,21 @@ class Server:
             raise
         return self
 
-    def wait_for(self, log):
+    def wait_for(self, log: str) -> None:
         until = time.monotonic() + PATIENCE
         while self.ask("select 1") != ["1"]:
-            if self.process.poll() is not None or time.monotonic() > until:
+            if not self.process or self.process.poll() is not None or time.monotonic() > until:
                 with open(log, encoding="utf-8", errors="replace") as said:
                     raise RuntimeError("the server doesn't answer." + ASIDE + said.read())
             time.sleep(0.05)
 
-    def ask(self, question):
+    def ask(self, question: str) -> list[str]:
         """The lines of a result."""
-        words, how = self.asking(question), {"env": self.environment, "check": False}
-        return subprocess.run(words, capture_output=True, text=True, **how).stdout.splitlines()
+        words = self.asking(question)
+        ended = subprocess.run(words, capture_output=True, text=True, env=self.environment, check=False)
+        return ended.stdout.splitlines()
 
-    def __exit__(self, *_):
+    def __exit__(self, *_: object) -> None:
         """Stops the server by its process, and waits for its end."""
         if self.process and self.process.poll() is None:
             self.process.send_signal(self.STOP)
@@ -119,18 +121,19 @@ class MariaDB(Server):
     SETTINGS = {"debug-no-sync": "1", "innodb-doublewrite": "0", "innodb-flush-log-at-trx-commit": "0"}
     STOP = signal.SIGTERM
 
-    def own(self):
+    def own(self) -> dict[str, str]:
         with open(f"{self.room}/.my.cnf", "w", encoding="utf-8") as options:
             options.write(f"[client]\nsocket={self.room}/socket\nuser=root\n")
         return {"HOME": self.room}
 
-    def making(self, data):
+    def making(self, data: str) -> list[str]:
         words = ["--no-defaults", "--auth-root-authentication-method=normal", "--skip-test-db", f"--datadir={data}"]
-        return [shutil.which("mariadb-install-db", path=f"{self.folder}:{os.environ['PATH']}:/usr/bin"), *words]
+        path = f"{self.folder}:{os.environ['PATH']}:/usr/bin"
+        return [shutil.which("mariadb-install-db", path=path) or "mariadb-install-db", *words]
 
-    def running(self, data):
+    def running(self, data: str) -> list[str]:
         words = ["--no-defaults", f"--datadir={data}", f"--socket={self.room}/socket", "--skip-networking"]
         return [f"{self.folder}/mariadbd", *words, *(f"--{name}={value}" for name, value in self.SETTINGS.items())]
 
-    def asking(self, question):
+    def asking(self, question: str) -> list[str]:
         return ["mariadb", "--batch", "--skip-column-names", "--execute", question]

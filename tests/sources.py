@@ -1,5 +1,6 @@
 """How the tests read sources of the crates."""
 import re
+from collections.abc import Iterator
 
 # Comments, strings and characters, which may hold braces.
 NO_CODE = re.compile(r"//[^\n]*|b?r#\".*?\"#|b?\"(?:\\.|[^\"\\])*\"|b?'(?:\\[^']*|[^'\\\n])'", re.S)
@@ -8,7 +9,7 @@ NO_CODE = re.compile(r"//[^\n]*|b?r#\".*?\"#|b?\"(?:\\.|[^\"\\])*\"|b?'(?:\\[^']
 SEPARATOR = re.compile(r"::|\.")
 
 
-def blank(text, pattern=NO_CODE):
+def blank(text: str, pattern: re.Pattern[str] = NO_CODE) -> str:
     """A text without what a pattern finds, line for line."""
     return pattern.sub(lambda found: '""' + "\n" * found.group().count("\n"), text)
 
@@ -18,13 +19,13 @@ def hidden(text: str) -> str:
     return NO_CODE.sub(lambda found: re.sub(r"[^\n]", " ", found.group()), text)
 
 
-def code_of(path):
+def code_of(path: str) -> str:
     """A file's text, line for line, without comments and without what stands in quotes."""
     with open(path, encoding="utf-8") as file:
         return blank(file.read())
 
 
-def behind(text, place, opening="{", closing="}"):
+def behind(text: str, place: int, opening: str = "{", closing: str = "}") -> int:
     """The place behind the bracket that closes the one that was opened right before this place."""
     depth = 1
     while depth and place < len(text):
@@ -33,7 +34,7 @@ def behind(text, place, opening="{", closing="}"):
     return place
 
 
-def members(text):
+def members(text: str) -> Iterator[str]:
     """The members of a list between braces."""
     depth, first = 0, 0
     for place, sign in enumerate(text):
@@ -44,7 +45,7 @@ def members(text):
     yield text[first:]
 
 
-def names_in(tree, above=""):
+def names_in(tree: str, above: str = "") -> Iterator[tuple[str, str]]:
     """The names that a tree of uses brings in, each with its path."""
     tree = tree.strip()
     if tree.endswith("}"):
@@ -57,14 +58,16 @@ def names_in(tree, above=""):
     yield other.strip() or SEPARATOR.split(path)[-1], path
 
 
-def unnested(text):
+def unnested(text: str) -> str:
     """A text of definitions or proofs, line for line, in which each `use` says the whole path of what it brings in."""
-    return re.sub(r"^((?:unfoldable )?(?:pub )?use )(\S+\{.*\})$", lambda found: found[1] + paths_of(found[2]), text, flags=re.M)
+    return re.sub(
+        r"^((?:unfoldable )?(?:pub )?use )(\S+\{.*\})$", lambda found: found[1] + paths_of(found[2]), text, flags=re.M
+    )
 
 
-def paths_of(tree):
+def paths_of(tree: str) -> str:
     """What a tree of uses brings in, module by module."""
-    modules = {}
+    modules: dict[str, list[str]] = {}
     for _, path in names_in(tree):
         module, _, name = path.rpartition(".")
         modules.setdefault(module, []).append(name)

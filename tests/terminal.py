@@ -4,14 +4,16 @@ import pty
 import re
 import subprocess
 import threading
+from typing import Any
 
-from harness import SECONDS
+from harness import SECONDS, Ended
 
+LATE: Any = None  # the status of a command that didn't end
 # Sequences that move on a line or erase it, and their replacements.
 PARTS = re.compile(r"\r|\n|\x1b\[([02]?)K|.", re.DOTALL)
 
 
-def read_all(end, parts):
+def read_all(end: int, parts: list[bytes]) -> None:
     """Reads what is written to a terminal, until no process has it open."""
     while True:
         try:
@@ -24,16 +26,26 @@ def read_all(end, parts):
         parts.append(part)
 
 
-def run_on_terminal(words, text=b"", seconds=SECONDS, is_whole=False, **how):
+def run_on_terminal(
+    words: list[str], text: bytes = b"", seconds: float = SECONDS, is_whole: bool = False, **how: Any
+) -> Ended:
     """Runs a command whose standard error is a terminal, and with `is_whole` its standard output too. Its output there is
     the result's `stderr`. The exit status is None if it doesn't end in time."""
     end, terminal = pty.openpty()
-    parts, out, status = [], b"", None
+    parts: list[bytes] = []
+    out, status = b"", LATE
     reader = threading.Thread(target=read_all, args=(end, parts), daemon=True)
     reader.start()
     try:
-        ended = subprocess.run(words, input=text, stdout=terminal if is_whole else subprocess.PIPE, stderr=terminal,
-                               timeout=seconds, check=False, **how)
+        ended = subprocess.run(
+            words,
+            input=text,
+            stdout=terminal if is_whole else subprocess.PIPE,
+            stderr=terminal,
+            timeout=seconds,
+            check=False,
+            **how
+        )
         out, status = ended.stdout or b"", ended.returncode
     except subprocess.TimeoutExpired:
         pass
@@ -43,7 +55,7 @@ def run_on_terminal(words, text=b"", seconds=SECONDS, is_whole=False, **how):
     return subprocess.CompletedProcess(words, status, out, b"".join(parts))
 
 
-def shown(text):
+def shown(text: str) -> list[str]:
     """What a terminal shows of a text in the end, line by line, without trailing spaces."""
     lines, at = [""], 0
     for part in PARTS.finditer(text):
@@ -54,6 +66,6 @@ def shown(text):
         elif letter.startswith("\x1b["):
             lines[-1] = "" if part.group(1) == "2" else line[:at]
         else:
-            lines[-1] = line[:at].ljust(at) + letter + line[at + 1:]
+            lines[-1] = line[:at].ljust(at) + letter + line[at + 1 :]
             at += 1
     return [line.rstrip() for line in lines]

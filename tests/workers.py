@@ -1,5 +1,4 @@
 """A Dask cluster for the tests: a scheduler and workers on 127.0.0.1, in a temporary folder."""
-import json
 import os
 import re
 import shutil
@@ -7,6 +6,8 @@ import subprocess
 import sys
 import tempfile
 import time
+from functools import partial
+from typing import Any
 
 PATIENCE, ENDING = 60, 10
 ASIDE = "\nIt says:\n"
@@ -25,20 +26,21 @@ PYTHON = next(filter(has_dask, [sys.executable, "/usr/bin/python3"]), "")
 class Process:
     """A scheduler or a worker. Its output goes to a file."""
 
-    def __init__(self, room, what, words, processors):
+    def __init__(self, room: str, what: str, words: list[str], processors: set[int] | None) -> None:
         self.folder = tempfile.mkdtemp(dir=room)
         self.log = f"{self.folder}/log"
         command = [PYTHON, "-B", "-m", f"distributed.cli.dask_{what}", "--host", "127.0.0.1", "--no-dashboard", *words]
-        bound = {"preexec_fn": lambda: os.sched_setaffinity(0, processors)} if processors else {}
+        bound: dict[str, Any] = {"preexec_fn": partial(os.sched_setaffinity, 0, processors)} if processors else {}
         with open(self.log, "wb") as log:
-            streams = {"stdin": subprocess.DEVNULL, "stdout": log, "stderr": log}
-            self.process = subprocess.Popen(command, cwd=self.folder, **streams, **bound)
+            self.process = subprocess.Popen(
+                command, cwd=self.folder, stdin=subprocess.DEVNULL, stdout=log, stderr=log, **bound
+            )
 
-    def said(self):
+    def said(self) -> str:
         with open(self.log, encoding="utf-8", errors="replace") as log:
             return log.read()
 
-    def wait_for(self, pattern):
+    def wait_for(self, pattern: str) -> re.Match[str]:
         """Waits until it prints a text."""
         until = time.monotonic() + PATIENCE
         while not (found := re.search(pattern, self.said())):
@@ -47,11 +49,11 @@ class Process:
             time.sleep(0.05)
         return found
 
-    def end(self):
+    def end(self) -> None:
         if self.process.poll() is None:
             self.process.terminate()
 
-    def see_it_end(self):
+    def see_it_end(self) -> None:
         try:
             self.process.wait(ENDING)
         except subprocess.TimeoutExpired:
@@ -63,11 +65,12 @@ class Cluster:
     """A scheduler and workers of one thread each, as a context, in a new folder below the given one. With `is_bound`,
     each worker and its child processes have one processor, the first worker the second one."""
 
-    def __init__(self, workers, is_bound=False, below=None):
+    def __init__(self, workers: int, is_bound: bool = False, below: str | None = None) -> None:
         self.room, self.count, self.is_bound = tempfile.mkdtemp(prefix="lab", dir=below), workers, is_bound
-        self.started, self.workers = [], []
+        self.started: list[Process] = []
+        self.workers: list[Process] = []
 
-    def __enter__(self):
+    def __enter__(self) -> "Cluster":
         try:
             self.scheduler = self.start("scheduler", ["--port", "0"])
             self.address = self.scheduler.wait_for(r"Scheduler at: +(tcp://[\d.:]+)")[1]
@@ -77,13 +80,14 @@ class Cluster:
             raise
         return self
 
-    def start(self, what, words):
+    def start(self, what: str, words: list[str]) -> Process:
         there = sorted(os.sched_getaffinity(0))
         processors = {there[len(self.started)]} if self.is_bound and what == "worker" else None
-        self.started.append(Process(self.room, what, words, processors))
-        return self.started[-1]
+        process = Process(self.room, what, words, processors)
+        self.started.append(process)
+        return process
 
-    def add(self, count=1, *more):
+    def add(self, count: int = 1, *more: str) -> None:
         """Starts some workers, with further arguments, and waits until the scheduler has them."""
         words = [self.address, "--nthreads", "1", "--local-directory", self.room, *more]
         added = [self.start("worker", words) for _ in range(count)]
@@ -91,7 +95,7 @@ class Cluster:
             worker.wait_for("Registered to:")
         self.workers += added
 
-    def __exit__(self, *_):
+    def __exit__(self, *_: object) -> None:
         """Ends each process, workers first, and waits for their end."""
         for process in reversed(self.started):
             process.end()

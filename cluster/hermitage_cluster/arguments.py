@@ -79,7 +79,9 @@ def parser() -> Parser:
     """The parser of the arguments."""
     as_written = argparse.RawDescriptionHelpFormatter
     made = Parser(NAME, description=ABOUT, epilog=EPILOG, formatter_class=as_written, allow_abbrev=False)
-    made.add_argument("--scheduler", metavar="ADDRESS", required=True, help="the cluster's scheduler, such as tcp://HOST:8786")
+    made.add_argument(
+        "--scheduler", metavar="ADDRESS", required=True, help="the cluster's scheduler, such as tcp://HOST:8786"
+    )
     made.add_argument("--parts", action="store_true", help="the files are the parts of one run")
     made.add_argument("--json", action="store_true", help="print JSON, as batch or chain does")
     made.add_argument("--require", metavar="LEVEL", choices=LEVELS, help="exit with status 1 if it isn't met")

@@ -12,6 +12,8 @@ import os
 import re
 import sqlite3
 import tempfile
+from collections.abc import Iterable
+from typing import Any
 
 NAME = "test"
 TABLES = """
@@ -23,25 +25,28 @@ FORM = re.compile(r"(select \*|delete|update)(?: from)? test(?: set value = (?P<
 ADDED = re.compile(r"insert into test \(id, value\) values \((?P<id>-?\d+), (?P<value>-?\d+)\)")
 
 
-def condition(where):
+def condition(where: str | None) -> str:
     """The condition of the rows that a statement matches: they are present and meet its `where`."""
     return f"not gone and ({where or 'true'})"
 
 
-def in_sql(statement, version):
+def in_sql(statement: str, version: str) -> tuple[str | None, str]:
     """A statement's write as SQL that names the version, or None for a select; and the condition of the rows it returns."""
     added = ADDED.fullmatch(statement)
     if added:
         row = f"{added['id']}, {added['value']}, {version}"
-        return (f"insert into test (id, value, txn, op) values ({row}) on conflict (id) do update set"
-                " value = excluded.value, txn = excluded.txn, op = excluded.op, gone = 0 where gone"), "false"
+        return (
+            f"insert into test (id, value, txn, op) values ({row}) on conflict (id) do update set"
+            " value = excluded.value, txn = excluded.txn, op = excluded.op, gone = 0 where gone"
+        ), "false"
     parts = FORM.fullmatch(statement)
+    assert parts
     rows = condition(parts["rows"])
     change = {"select *": None, "delete": "gone = 1", "update": f"value = {parts['result']}"}[parts[1]]
     return change and f"update test set {change}, (txn, op) = ({version}) where {rows}", rows
 
 
-def of_table(members):
+def of_table(members: Iterable[list[Any]]) -> list[list[Any]]:
     """Entries of a list of the file, which begin with the name of the row's table."""
     return [[NAME, *member] for member in members]
 
@@ -49,23 +54,24 @@ def of_table(members):
 class Recorder:
     """The table, and the recording of its transactions: their outcomes and operations."""
 
-    def __init__(self, path, initial):
-        self.path, self.initial, self.transactions = path, initial, []
+    def __init__(self, path: str, initial: list[list[int]]) -> None:
+        self.path, self.initial = path, initial
+        self.transactions: list[dict[str, Any]] = []
         self.connection = self.connect()
         self.connection.executescript(TABLES)
         self.connection.executemany("insert into test (id, value) values (?, ?)", initial)
 
-    def connect(self):
+    def connect(self) -> sqlite3.Connection:
         return sqlite3.connect(self.path, isolation_level=None, timeout=0)
 
-    def list(self, question):
+    def list(self, question: str) -> list[list[Any]]:
         return [list(row) for row in self.connection.execute(question)]
 
-    def history(self):
+    def history(self) -> dict[str, Any]:
         """The object of the file. A transaction in the table of commits has committed, even if its result was lost."""
-        installed = {}
+        installed: dict[int, list[int]] = {}
         by_number = {txn["no"]: txn for txn in self.transactions}
-        for no, in self.list("select txn from commits order by place"):
+        for (no,) in self.list("select txn from commits order by place"):
             by_number[no]["outcome"] = "committed"
             for row in {row for op in by_number[no]["ops"] for _, row, _ in op["writes"]}:
                 installed.setdefault(row, []).append(no)
@@ -82,19 +88,20 @@ class Recorder:
 class Session:
     """A connection, and its current transaction."""
 
-    def __init__(self, recorder):
-        self.recorder, self.connection, self.txn = recorder, recorder.connect(), None
+    def __init__(self, recorder: Recorder) -> None:
+        self.recorder, self.connection = recorder, recorder.connect()
+        self.txn: dict[str, Any] = {}
 
-    def list(self, question):
+    def list(self, question: str) -> list[list[Any]]:
         return [list(row) for row in self.connection.execute(question)]
 
-    def begin(self):
+    def begin(self) -> None:
         """Begins a transaction. It counts as aborted until its commit has succeeded."""
         self.txn = {"no": len(self.recorder.transactions) + 1, "outcome": "aborted", "ops": []}
         self.recorder.transactions.append(self.txn)
         self.connection.execute("begin")
 
-    def run(self, statement):
+    def run(self, statement: str) -> bool:
         """Runs a statement, and records it if it succeeds: only then its number is used."""
         no, op = self.txn["no"], len(self.txn["ops"]) + 1
         change, matched = in_sql(statement, f"{no}, {op}")
@@ -107,13 +114,14 @@ class Session:
             return False
         if statement.startswith("insert") and written == 0:  # the row is present
             return False
-        writes = self.list("select id, case when gone then null else value end from test"
-                           f" where txn = {no} and op = {op} order by id")
-        lists = {"view": of_table(view), "rows": of_table(rows), "writes": of_table(writes)}
-        self.txn["ops"].append({"statement": statement, **lists})
+        writes = self.list(
+            "select id, case when gone then null else value end from test" f" where txn = {no} and op = {op} order by id"
+        )
+        lists: dict[str, Any] = {"view": of_table(view), "rows": of_table(rows), "writes": of_table(writes)}
+        self.txn["ops"].append({"statement": statement} | lists)
         return True
 
-    def commit(self):
+    def commit(self) -> None:
         """Commits. The commit number is drawn under the write lock, which is held until the commit."""
         if any(op["writes"] for op in self.txn["ops"]):
             self.connection.execute("insert into commits (txn) values (?)", [self.txn["no"]])
@@ -121,7 +129,7 @@ class Session:
         self.txn["outcome"] = "committed"
 
 
-def play(recorder):
+def play(recorder: Recorder) -> None:
     """Two sessions read who is on duty, and both leave; the second one is refused, and reads again."""
     one, two = Session(recorder), Session(recorder)
     one.begin()

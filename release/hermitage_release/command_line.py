@@ -89,7 +89,9 @@ def subcommand(program: str, name: str, about: str) -> Subcommand:
     text = printed(program, name, "--help")
     whole, _, rest = text.partition("\nUsage: ")
     usage = rest.partition("\n")[0]
-    return Subcommand(name, about, whole.strip("\n"), usage, items(section(text, "Arguments")), items(section(text, "Options")))
+    return Subcommand(
+        name, about, whole.strip("\n"), usage, items(section(text, "Arguments")), items(section(text, "Options"))
+    )
 
 
 def short_options(lines: str) -> list[Item]:

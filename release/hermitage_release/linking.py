@@ -33,7 +33,14 @@ def link(made: Path, program: Path) -> None:
         raise Unlinked("rt, whose kit has the linker, is not on the path")
     kit, library = Path(rt).resolve().parents[1], gcc()
     at = [found(C_LIBRARY / name) for name in ("rcrt1.o", "crti.o", "crtn.o", "libc.a")]
-    words = [kit / "toolchain/bin/ld.lld", "-static", "-pie", "--no-dynamic-linker", "--gc-sections", "--strip-all"]
+    words: list[str | Path] = [
+        kit / "toolchain/bin/ld.lld",
+        "-static",
+        "-pie",
+        "--no-dynamic-linker",
+        "--gc-sections",
+        "--strip-all",
+    ]
     words += ["-z", "noexecstack", "-z", "relro", "-z", "now", "-o", program, at[0], at[1], library / "crtbeginS.o"]
     words += [found(made), kit / "c/libos_c.a", kit / "c/liblibc_c.a", "--start-group", at[3], library / "libgcc.a"]
     words += [library / "libgcc_eh.a", "--end-group", library / "crtendS.o", at[2]]

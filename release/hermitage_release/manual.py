@@ -72,14 +72,24 @@ def of_group(program: Program, group: str) -> str:
     made = [found for name in names for found in program.subcommands if found.name == name]
     synopsis = "\n.br\n".join(f"\\fB{NAME} {one.name}\\fR {escaped(one.usage.partition(one.name + ' ')[2])}" for one in made)
     head = heading(f"{NAME}-{group}", program.version, about)
-    parts = [head, f".SH SYNOPSIS\n{synopsis}", *map(of_subcommand, made), status_lines(program), see_also(f"{NAME}-{group}")]
+    parts = [
+        head,
+        f".SH SYNOPSIS\n{synopsis}",
+        *map(of_subcommand, made),
+        status_lines(program),
+        see_also(f"{NAME}-{group}"),
+    ]
     return "\n".join(parts) + "\n"
 
 
 def of_program(program: Program) -> str:
     """The page of the program."""
     parts = [heading(NAME, program.version, "check the isolation of database transactions")]
-    parts += [f".SH SYNOPSIS\n\\fB{NAME}\\fR \\fICOMMAND\\fR [\\fIARGUMENT\\fR ...]", ".SH DESCRIPTION", prose(program.about)]
+    parts += [
+        f".SH SYNOPSIS\n\\fB{NAME}\\fR \\fICOMMAND\\fR [\\fIARGUMENT\\fR ...]",
+        ".SH DESCRIPTION",
+        prose(program.about),
+    ]
     parts += [".PP", "\\fBhermitage_lab help\\fR \\fICOMMAND\\fR prints the help of a command."]
     for group, (about, names) in GROUPS.items():
         parts.append(f".SS To {escaped(about)}: see \\fB{NAME}\\-{group}\\fR(1)")

@@ -6,6 +6,7 @@ import shutil
 import subprocess
 import tarfile
 from pathlib import Path
+from typing import IO, cast
 
 TOP = Path(__file__).resolve().parents[2]
 NAME, PACKAGE, SYSTEM = "hermitage_lab", "hermitage-lab", "x86_64-linux"
@@ -143,7 +144,7 @@ def pack_archive(tree: Path, out: Path, seconds: int) -> Path:
     """Packs the archive, whose only top folder is the tree's."""
     path = out / f"{tree.name}.tar.gz"
     with path.open("wb") as raw, gzip.GzipFile("", "wb", fileobj=raw, mtime=seconds) as packed:
-        with tarfile.open(fileobj=packed, mode="w", format=tarfile.GNU_FORMAT) as archive:
+        with tarfile.open(fileobj=cast(IO[bytes], packed), mode="w", format=tarfile.GNU_FORMAT) as archive:
             for member in [tree, *sorted(tree.rglob("*"))]:
                 archive.add(member, member.relative_to(tree.parent), recursive=False, filter=owned)
     return path

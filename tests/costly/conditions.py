@@ -106,9 +106,20 @@ def mixed(draw: random.Random) -> str:
 
 # The kinds of parts of a condition, by their names.
 KINDS: dict[str, Maker] = {
-    "remainders": remainder, "no_remainders": no_remainder, "negative_remainders": negative_remainder, "equals": equal,
-    "not_unequals": not_unequal, "unequals": unequal_twice, "gaps": in_gap, "out_of_reach": out_of_reach, "members": members,
-    "negations": negation, "some_ids": of_some_ids, "id_or_values": id_or_value, "id_remainders": id_remainder, "mixed": mixed,
+    "remainders": remainder,
+    "no_remainders": no_remainder,
+    "negative_remainders": negative_remainder,
+    "equals": equal,
+    "not_unequals": not_unequal,
+    "unequals": unequal_twice,
+    "gaps": in_gap,
+    "out_of_reach": out_of_reach,
+    "members": members,
+    "negations": negation,
+    "some_ids": of_some_ids,
+    "id_or_values": id_or_value,
+    "id_remainders": id_remainder,
+    "mixed": mixed,
 }
 
 

@@ -27,7 +27,7 @@ def in_order(numbers: list[int]) -> bytes:
 def with_skew(numbers: list[int], first: int) -> bytes:
     """The report where writers from `first` on overwrite each other, and the last transaction reads row 1 as the last of them
     left it, and row 2 as it was at first."""
-    *writers, reader = numbers[numbers.index(first):]
+    *writers, reader = numbers[numbers.index(first) :]
     walk = " ww(1) ".join(f"T{no}" for no in writers) + f" wr(1) T{reader} rw(2) T{first}"
     circle = f"no c{first} " + "".join(f"s{no} c{no} " for no in writers[1:]) + f"s{reader} c{first}"
     return report(f"no {walk}", circle, dict.fromkeys(("G-single", "G2-item", "G2"), walk), "PL-2")
@@ -36,7 +36,13 @@ def with_skew(numbers: list[int], first: int) -> bytes:
 def mislisted(number: int) -> bytes:
     """The report of a select that is the transaction's first and lists row 1."""
     fault = f"no F6 RowsDiffer T{number} op 1 row 1"
-    lines = [f"serializable: {fault}", f"snapshot: {fault}", *(f"{name}: not judged" for name in PHENOMENA), "level: unsound", ""]
+    lines = [
+        f"serializable: {fault}",
+        f"snapshot: {fault}",
+        *(f"{name}: not judged" for name in PHENOMENA),
+        "level: unsound",
+        "",
+    ]
     return "\n".join(lines).encode()
 
 

@@ -1,8 +1,10 @@
 """Histories whose statements have long conditions, over as many versions as there may be."""
-import os
-import sys
 from collections.abc import Iterator
 from functools import partial
+
+import harness  # noqa: F401  (it lets modules of bench/ be imported)
+from flips import always
+from recorder import Recorder, everything, named, seen_at_first, table_of
 
 from .conditions import (
     KINDS,
@@ -19,8 +21,6 @@ from .conditions import (
 )
 from .made import FILE, TABLES, Made, Values, forever
 
-sys.path.append(os.path.join(os.path.dirname(os.path.realpath(__file__)), "..", "..", "bench"))
-from recorder import Recorder, everything, named, seen_at_first, table_of  # noqa: E402
 
 # The operations of a transaction that reads.
 EACH = 10
@@ -100,7 +100,12 @@ def long_selects(
     for _ in range(writers):
         it.begin()
         plus = "+" if sign > 0 else "-"
-        it.run(f"update test set value = value {plus} {STEP}", range(1, rows + 1), everything, lambda old: old + sign * STEP)
+        it.run(
+            f"update test set value = value {plus} {STEP}",
+            range(1, rows + 1),
+            everything,
+            lambda old: int(old) + sign * STEP,
+        )
         it.end()
     select_pair(it)
     return text(it)
@@ -126,7 +131,9 @@ def selects_between(part: int, maker: Maker = small_remainder) -> bytes:
 def over_tables(part: int, maker: Maker = small_remainder) -> bytes:
     """The same over four tables of 100 rows each, by turns."""
     rows, writers, readers = range(1, 101), 500 // part, 450 // part
-    it = Recorder({row: value for name in TABLES for row, value in table_of({row: alike(row) for row in rows}, name).items()})
+    it = Recorder(
+        {row: value for name in TABLES for row, value in table_of({row: alike(row) for row in rows}, name).items()}
+    )
     selects = [long_conditions(maker, f"select * from {name} where ") for name in TABLES]
     for number in range(readers):
         read_nothing(it, selects[number % len(TABLES)], 1)
@@ -150,7 +157,7 @@ def born_again(part: int, maker: Maker = small_remainder) -> bytes:
             if row % EACH == 1:
                 it.begin()
             value = STEP * (row + 100 * number)
-            it.run(f"insert into test (id, value) values ({row}, {value})", [row], None, lambda old, to=value: to)
+            it.run(f"insert into test (id, value) values ({row}, {value})", [row], None, partial(always, value))
             if row % EACH == 0:
                 it.end()
     return text(it)
@@ -174,7 +181,9 @@ def half_reborn(part: int, maker: Maker = small_remainder) -> bytes:
     return text(it)
 
 
-def long_updates(part: int, maker: Maker = small_remainder, rows: int = 120, writers: int = 500, kind: str = "update") -> bytes:
+def long_updates(
+    part: int, maker: Maker = small_remainder, rows: int = 120, writers: int = 500, kind: str = "update"
+) -> bytes:
     """Updates of all rows by a long condition of which only the last part holds, and read skew after them."""
     writers = max(2, writers // part)
     it = Recorder(table_of({row: alike(row) for row in range(1, rows + 1)}), seen_at_first(True, writers + 1, named([2])))
@@ -219,7 +228,6 @@ def mislisted(part: int, maker: Maker = small_remainder) -> bytes:
     return text(it)
 
 
-
 # Histories that are sound, by their names.
 HISTORIES: dict[str, Made] = {
     "long_selects": long_selects,
@@ -250,7 +258,4 @@ HISTORIES: dict[str, Made] = {
     "large_table_mixed": partial(large_table, maker=mixed),
 }
 # Histories that have a fault.
-UNSOUND: dict[str, Made] = {
-    "mislisted": mislisted,
-    "mislisted_mixed": partial(mislisted, maker=mixed),
-}
+UNSOUND: dict[str, Made] = {"mislisted": mislisted, "mislisted_mixed": partial(mislisted, maker=mixed)}

@@ -22,8 +22,15 @@ def of(session: int, *commands: str) -> str:
     return "; ".join(commands) + f"; -- T{session}"
 
 
-def locked(part: int, maker: Maker = small_remainder, selects: int = 1_800, updates: int = 150, rows: int = 400,
-           change: str = f"update test set value = value + {STEP}", different: int | None = None) -> bytes:
+def locked(
+    part: int,
+    maker: Maker = small_remainder,
+    selects: int = 1_800,
+    updates: int = 150,
+    rows: int = 400,
+    change: str = f"update test set value = value + {STEP}",
+    different: int | None = None,
+) -> bytes:
     """T1 runs long selects that list nothing, then T2 updates all rows again and again, in one transaction: at locking
     each of T1's conditions has to be asked of each row, as it was and as it would be."""
     conditions = long_conditions(maker, "select * from test where ")
@@ -33,8 +40,15 @@ def locked(part: int, maker: Maker = small_remainder, selects: int = 1_800, upda
     return script([*lines, of(2, "commit"), of(1, "commit")])
 
 
-def validated(part: int, maker: Maker = small_remainder, selects: int = 1_600, updates: int = 130, rows: int = 400,
-              change: str = f"update test set value = value + {STEP}", different: int | None = None) -> bytes:
+def validated(
+    part: int,
+    maker: Maker = small_remainder,
+    selects: int = 1_600,
+    updates: int = 130,
+    rows: int = 400,
+    change: str = f"update test set value = value + {STEP}",
+    different: int | None = None,
+) -> bytes:
     """T1 runs long selects that list nothing; T2 meanwhile commits updates of all rows: at T1's commit the optimistic
     engine has to ask each of its conditions of each of these versions."""
     conditions = long_conditions(maker, "select * from test where ")
@@ -85,8 +99,12 @@ def nine_at_once(part: int) -> bytes:
     return script(lines)
 
 
-def waiting(part: int, maker: Maker = small_remainder, change: str = "update test set value = value + 2520 where id = {row}",
-            tail: str = " or id = 1") -> bytes:
+def waiting(
+    part: int,
+    maker: Maker = small_remainder,
+    change: str = "update test set value = value + 2520 where id = {row}",
+    tail: str = " or id = 1",
+) -> bytes:
     """T1 writes row 1; eight sessions wait for it, each by a long condition of which the last part names the row; T1 then
     writes other rows, one by one."""
     head = "delete from test where "

@@ -9,15 +9,19 @@ def rows_in_two_lists(part: int, version: int = 1) -> bytes:
     name = '"test",' if version == 2 else ""
     count = 2 * (360_000 if version == 1 else 230_000) // part
     end, initial = (",".join(f"[{name}{row},1]" for row in range(first, count, 2)) for first in (1, 2))
-    return (f'{{"end":[{end}],"format":"hermitage-history","initial":[{initial}],"installed":[],"transactions":[],'
-            f'"version":{version}}}').encode()
+    return (
+        f'{{"end":[{end}],"format":"hermitage-history","initial":[{initial}],"installed":[],"transactions":[],'
+        f'"version":{version}}}'
+    ).encode()
 
 
 def unsorted_at_end(part: int) -> bytes:
     """A file with its keys in the order of docs/FORMATS.md, many rows at first, and two in the wrong order in the end."""
     initial = ",".join(f"[{row},0]" for row in range(1, 700_000 // part))
-    return (f'{{"format":"hermitage-history","version":1,"initial":[{initial}],"transactions":[],"installed":[],'
-            '"end":[[2,0],[1,0]]}').encode()
+    return (
+        f'{{"format":"hermitage-history","version":1,"initial":[{initial}],"transactions":[],"installed":[],'
+        '"end":[[2,0],[1,0]]}'
+    ).encode()
 
 
 def repeated(unit: str, size: int, part: int) -> bytes:

@@ -1,15 +1,17 @@
 """Interleavings with the records that PostgreSQL's manual ("Transaction Isolation") leads to expect; and wrong input."""
+from typing import Any
+
 READ_COMMITTED, REPEATABLE_READ, SERIALIZABLE = "read committed", "repeatable read", "serializable"
 SETUP = "setup (1, 10), (2, 20);\n"
 BOTH = SETUP + "begin; -- T1\nbegin; -- T2\n"
 
 
-def of_test(*members):
+def of_test(*members: list[Any]) -> list[list[Any]]:
     return [["test", *member] for member in members]
 
 
 # The purpose, the level, the script, lines of the log, and parts of operations by transaction and operation.
-DUE = (
+DUE: tuple[tuple[Any, ...], ...] = (
     (
         "an update that waited takes the row as it is then, where that matches",
         READ_COMMITTED,
@@ -171,7 +173,7 @@ FIVE = b"setup a (1, 1), b (1, 1), c (1, 1), d (1, 1), (1, 1);"
 MANY = b"".join(b"insert into test (id, value) values (%d, 1); -- T1\n" % id for id in range(3, 1003))
 # The error, for one recorder after its name, the arguments, standard input, the status, and a part of the one line on
 # standard error.
-BAD_INPUT = (
+BAD_INPUT: tuple[tuple[Any, ...], ...] = (
     ("no script", LEVEL, b"", 2, r": line 1: NoSetup$"),
     ("a statement that isn't one", LEVEL, BEGUN + b"select value from test; -- T1\n", 2, r": line 3: UnknownStatement$"),
     ("a line without a session", LEVEL, SCRIPT + b"begin;\n", 2, r": line 2: NoSession$"),

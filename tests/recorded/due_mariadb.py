@@ -20,7 +20,7 @@ ALIKE = (
 )
 
 
-def translated(line):
+def translated(line: str) -> str:
     for theirs, ours in ERRORS.items():
         line = line.replace(f"refused {theirs} ", f"refused {ours} ")
     return line
@@ -42,8 +42,7 @@ DUE_OF_MARIADB = (
     (
         "at read uncommitted what isn't committed is read",
         READ_UNCOMMITTED,
-        BOTH + "update test set value = 11 where id = 1; -- T1\nselect * from test; -- T2\n"
-        "abort; -- T1\ncommit; -- T2\n",
+        BOTH + "update test set value = 11 where id = 1; -- T1\nselect * from test; -- T2\n" "abort; -- T1\ncommit; -- T2\n",
         (r"^line 5: T2 .*: rows \(1, 11\), \(2, 20\)$",),
         {(2, 1): {"view": of_test([1, 1, 1]), "rows": of_test([1, 11], [2, 20])}},
     ),

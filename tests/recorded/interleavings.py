@@ -1,5 +1,5 @@
 """Scripts of interleaved sessions, made by rule, for recorders: many sessions use few rows, and keys are used again."""
-import random
+from random import Random
 
 SETUP = "setup (1, 10), (2, 20), (3, 30), stock (1, 11), stock (2, 22);"
 COMMANDS = 30
@@ -8,7 +8,7 @@ ENDS = (("commit", "begin"), ("commit", "begin"), ("commit", "begin"), ("abort",
 RESULTS = "value + 1", "value + 7", "value - 5", "12", "value + 0"
 
 
-def condition(draw):
+def condition(draw: Random) -> str:
     row, low, high = draw.randint(1, 4), draw.randint(5, 20), draw.randint(8, 30)
     return draw.choice(
         (
@@ -25,7 +25,7 @@ def condition(draw):
     )
 
 
-def statement(draw):
+def statement(draw: Random) -> str:
     table, kind = draw.choice(("test", "test", "test", "stock")), draw.choice(KINDS)
     if kind == "select":
         return f"select * from {table}{condition(draw)}"
@@ -36,9 +36,9 @@ def statement(draw):
     return f"delete from {table}{condition(draw)}"
 
 
-def made(seed):
+def made(seed: int) -> str:
     """A script: two to five sessions begin, and then come commands of any of them."""
-    draw = random.Random(seed)
+    draw = Random(seed)
     sessions = range(1, draw.randint(2, 5) + 1)
     lines = [f"begin; -- T{session}" for session in sessions]
     for _ in range(COMMANDS):

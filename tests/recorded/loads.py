@@ -10,6 +10,7 @@ import sys
 import tempfile
 import time
 from concurrent.futures import ThreadPoolExecutor
+from typing import Any
 
 from cutting import Comparison
 from harness import TOP, run
@@ -39,7 +40,7 @@ UNTOLD = (
     ("toy", "        listed = answered(", f"{GONE}        listed = answered("),
     ("toy", "LARGEST = ", "CALLS = itertools.count()\nLARGEST = "),
 )
-BAD = (
+BAD: tuple[tuple[Any, ...], ...] = (
     ("no database", [], "DATABASE"),
     ("a database that there isn't", ["oracle", *OTHERS], "oracle"),
     ("no session", ["toy", *OTHERS, "--sessions", "0"], "1 to 90 sessions"),
@@ -72,7 +73,13 @@ MIXES = (
 class Ended:
     """A load that has ended: its output, and its parts by their numbers."""
 
-    def __init__(self, words, environment=None, path=f"{TOP}/recorders/load", seconds=3):
+    def __init__(
+        self,
+        words: list[str],
+        environment: dict[str, str] | None = None,
+        path: str = f"{TOP}/recorders/load",
+        seconds: float = 3,
+    ) -> None:
         with tempfile.TemporaryDirectory() as room:
             self.parts = f"{room}/parts"
             asked = ["--seconds", str(seconds), "--parts", self.parts]
@@ -81,15 +88,15 @@ class Ended:
             self.texts = {}
             for name in sorted(glob.glob(f"{self.parts}/*")):
                 with open(name, "rb") as file:
-                    self.texts[int(re.fullmatch(r"part(\d{4}).json", os.path.basename(name))[1])] = file.read()
+                    self.texts[int(os.path.basename(name)[4:8])] = file.read()
 
-    def run(self, words, environment):
+    def run(self, words: list[str], environment: dict[str, str] | None) -> Any:
         return run(words, seconds=SECONDS, env=environment)
 
-    def histories(self):
+    def histories(self) -> dict[int, Any]:
         return {number: json.loads(text) for number, text in self.texts.items()}
 
-    def is_met(self, program, promise):
+    def is_met(self, program: str, promise: str) -> tuple[bool, str]:
         """Whether all parts are histories that meet a level, which no unsound one does; and what was wrong."""
         with tempfile.TemporaryDirectory() as room:
             names = [f"{room}/part{number}.json" for number in self.texts]
@@ -103,7 +110,7 @@ class Ended:
 class Interrupted(Ended):
     """A load that is interrupted after it wrote a part."""
 
-    def run(self, words, environment):
+    def run(self, words: list[str], environment: dict[str, str] | None) -> Any:
         process = subprocess.Popen(words, stdout=subprocess.PIPE, stderr=subprocess.PIPE, env=environment)
         until = time.monotonic() + SECONDS
         while not glob.glob(f"{self.parts}/*.json") and process.poll() is None and time.monotonic() < until:
@@ -113,12 +120,12 @@ class Interrupted(Ended):
         return subprocess.CompletedProcess(words, process.returncode, out, said)
 
 
-def try_parts(tally, name, load, promise, status=0):
+def try_parts(tally: Any, name: str, load: Any, promise: str, status: int = 0) -> None:
     """The result of a load: at least two parts, each sound and at the promised level, each beginning as the one before it
     ended; and its output about them. After an interrupt, a further line reports it."""
     summary = load.said[-2 if status == INTERRUPTED else -1 :][:1]
     told = TOLD.fullmatch(*summary) if summary else None
-    if not tally.note(load.ended.returncode == status and told, f"{name}: {load.ended.returncode}, {load.said}"):
+    if not tally.note(load.ended.returncode == status and told, f"{name}: {load.ended.returncode}, {load.said}") or not told:
         return
     is_met, why = load.is_met(tally.program, promise)
     tally.note(is_met, f"{name}: not {promise}: {why}")
@@ -139,7 +146,7 @@ def try_parts(tally, name, load, promise, status=0):
     tally.note(is_cut and committed, f"{name}: a part has more transactions than asked for, or none committed")
 
 
-def try_shrunk(tally, name, load):
+def try_shrunk(tally: Any, name: str, load: Any) -> None:
     """For parts that aren't serializable, `shrink` leaves a part of each that isn't either."""
     for number in sorted(load.texts)[:SHRUNK]:
         text, no = load.texts[number], b"serializable: no T"
@@ -147,10 +154,10 @@ def try_shrunk(tally, name, load):
             left = run([tally.program, "shrink"], text).stdout
             is_no = run([tally.program, "judge"], left).stdout.startswith(no)
             wrong = Comparison(json.loads(left), json.loads(text)).wrong() if is_no else "it is serializable"
-            tally.note(not wrong, f"{name}: what is left of part {number}: {wrong}; {left[:300]}")
+            tally.note(not wrong, f"{name}: what is left of part {number}: {wrong}; {left[:300]!r}")
 
 
-def try_loads(tally, name, levels, environment=None):
+def try_loads(tally: Any, name: str, levels: Any, environment: dict[str, str] | None = None) -> None:
     """Loads at some levels, side by side."""
     with ThreadPoolExecutor(len(levels)) as pool:
         loads = pool.map(lambda level: Ended([name, "--level", level, *OTHERS], environment), levels)
@@ -159,7 +166,7 @@ def try_loads(tally, name, levels, environment=None):
             try_parts(tally, f"a load on {name}, {level}", load, PROMISES[name][level])
 
 
-def edited_load(edits):
+def edited_load(edits: Any) -> Any:
     """The result of an edited load on the toy database."""
     with tempfile.TemporaryDirectory() as room:
         shutil.copytree(f"{TOP}/recorders", f"{room}/recorders", ignore=shutil.ignore_patterns("__pycache__"))
@@ -167,7 +174,7 @@ def edited_load(edits):
         return Ended(["toy", *OTHERS], path=f"{room}/recorders/load", seconds=2)
 
 
-def try_edited(tally):
+def try_edited(tally: Any) -> None:
     """The judge reports wrong loads. A part that can't be recorded is left out, and only that one."""
     with ThreadPoolExecutor(len(WRONG) + 1) as pool:
         load, *wrong = pool.map(edited_load, [UNTOLD, *(edits for _, edits in WRONG)])
@@ -179,16 +186,16 @@ def try_edited(tally):
     try_parts(tally, "a load of which a part can't be told", load, "PL-3", status=LEFT_OUT)
 
 
-def is_of_mix(statements):
+def is_of_mix(statements: str) -> bool:
     """Whether the statements of a transaction are those of a kind, with numbers as their names say."""
     heavier, lighter = HEAVIER.fullmatch(statements), LIGHTER.fullmatch(statements)
     if heavier:
         b, a, again = map(int, heavier.groups())
         return 1 <= a == again < b <= ROWS
-    return lighter and ROWS < int(lighter[1]) <= 1000
+    return lighter is not None and ROWS < int(lighter[1]) <= 1000
 
 
-def try_mix(tally):
+def try_mix(tally: Any) -> None:
     """A mix by the user: its statements are those that ran, on the rows that it names."""
     with tempfile.NamedTemporaryFile("w", suffix=".mix") as mix:
         mix.write(MIX)
@@ -203,7 +210,7 @@ def try_mix(tally):
     tally.note(len(txns) > 2 * heavier > 0, f"of {len(txns)} transactions {heavier} are of the lighter kind")
 
 
-def try_refused(tally):
+def try_refused(tally: Any) -> None:
     """Arguments and mixes that must be refused, in one line."""
     with tempfile.TemporaryDirectory() as room:
         asked = [(what, ["--parts", f"{room}/parts", *words], due) for what, words, due in BAD]
@@ -222,7 +229,7 @@ def try_refused(tally):
                 tally.note(is_due, f"recorders/load: {what}: status {ended.returncode}, {said}")
 
 
-def try_interrupt_of_load(tally):
+def try_interrupt_of_load(tally: Any) -> None:
     load = Interrupted(["toy", *OTHERS], seconds=60)
     tally.note(load.said[-1:] == ["recorders/load: interrupted"], f"an interrupted load said {load.said}")
     try_parts(tally, "an interrupted load", load, "PL-3", status=INTERRUPTED)

@@ -2,6 +2,8 @@
 
 An edit is a file, a text that occurs in it once, and the replacement.
 """
+from typing import Any
+
 POSTGRES, MARIADB, RECORDING, TABLES = "postgres", "mariadb", "recording.py", "tables.py"
 READ_COMMITTED, REPEATABLE_READ, SERIALIZABLE = "read committed", "repeatable read", "serializable"
 SNAPSHOTS = "innodb_snapshot_isolation"
@@ -13,9 +15,7 @@ SHARED = (
     (
         "installers stand by their numbers",
         (READ_COMMITTED,),
-        (
-            (RECORDING, "key=lambda txn: txn.place", "key=lambda txn: txn.no"),
-        ),
+        ((RECORDING, "key=lambda txn: txn.place", "key=lambda txn: txn.no"),),
     ),
     (
         "aborted ones are kept among the installers",
@@ -35,18 +35,14 @@ SHARED = (
                 '            self.tell(command, f"refused {why}")\n'
                 "            return\n"
                 "        txn.outcome",
-                "        except Refused:\n"
-                "            txn.place = len(self.transactions)\n"
-                "        txn.outcome",
+                "        except Refused:\n" "            txn.place = len(self.transactions)\n" "        txn.outcome",
             ),
         ),
     ),
     (
         "the column op keeps the number of the transaction's first operation",
         ALL,
-        (
-            (TABLES, "value = {left}, txn = {no}, op = {op}", "value = {left}, txn = {no}, op = 1"),
-        ),
+        ((TABLES, "value = {left}, txn = {no}, op = {op}", "value = {left}, txn = {no}, op = 1"),),
     ),
     (
         "an update that leaves the value as it is isn't noted as a write",
@@ -70,9 +66,7 @@ SHARED = (
     (
         "the server gets another result than the script has",
         ALL,
-        (
-            (TABLES, "value = {left}, txn", "value = 1 + {left}, txn"),
-        ),
+        ((TABLES, "value = {left}, txn", "value = 1 + {left}, txn"),),
     ),
 )
 MUTATIONS = {
@@ -92,30 +86,18 @@ MUTATIONS = {
         (
             "a view is read over another connection, without the transaction's own writes",
             OF_SNAPSHOTS,
-            (
-                (RECORDING, "**txn.own, **seen}", "**seen}"),
-            ),
+            ((RECORDING, "**txn.own, **seen}", "**seen}"),),
         ),
         (
             "a transaction that has no snapshot of its own is taken for one that has",
             (READ_COMMITTED,),
-            (
-                (POSTGRES, 'OF_SNAPSHOTS = "repeatable read"', 'OF_SNAPSHOTS = "read committed", "repeatable read"'),
-            ),
+            ((POSTGRES, 'OF_SNAPSHOTS = "repeatable read"', 'OF_SNAPSHOTS = "read committed", "repeatable read"'),),
         ),
-        (
-            "the level isn't asked for",
-            OF_SNAPSHOTS,
-            (
-                (POSTGRES, 'f"begin isolation level {self.words.level}"', '"begin"'),
-            ),
-        ),
+        ("the level isn't asked for", OF_SNAPSHOTS, ((POSTGRES, 'f"begin isolation level {self.words.level}"', '"begin"'),)),
         (
             "a delete leaves no note, so views don't have it",
             ALL,
-            (
-                (POSTGRES, 'if statement.kind != "delete":', "if True:"),
-            ),
+            ((POSTGRES, 'if statement.kind != "delete":', "if True:"),),
         ),
         (
             "the version that an update replaced is the one of the statement's snapshot",
@@ -123,19 +105,15 @@ MUTATIONS = {
             (
                 (
                     RECORDING,
-                    'if statement.kind != "insert":\n'
-                    "        view.update",
-                    'if statement.kind == "select":\n'
-                    "        view.update",
+                    'if statement.kind != "insert":\n' "        view.update",
+                    'if statement.kind == "select":\n' "        view.update",
                 ),
             ),
         ),
         (
             "what a statement passed over when it looked again isn't asked for",
             (READ_COMMITTED,),
-            (
-                (POSTGRES, "for row in passed if statement.kind in CHANGES}", "for row in ()}"),
-            ),
+            ((POSTGRES, "for row in passed if statement.kind in CHANGES}", "for row in ()}"),),
         ),
         (
             "an insert's view doesn't have its row",
@@ -151,24 +129,12 @@ MUTATIONS = {
         (
             "rows are listed with the values that an update left",
             ALL,
-            (
-                (
-                    TABLES,
-                    "returning id, old_value, old_txn, old_op, value",
-                    "returning id, value, old_txn, old_op, value",
-                ),
-            ),
+            ((TABLES, "returning id, old_value, old_txn, old_op, value", "returning id, value, old_txn, old_op, value"),),
         ),
         (
             "the server gets another condition than the script has",
             OF_SNAPSHOTS,
-            (
-                (
-                    TABLES,
-                    'where = f"where {statement.condition()}"',
-                    'where = f"where {statement.condition()} and id <> 2"',
-                ),
-            ),
+            ((TABLES, 'where = f"where {statement.condition()}"', 'where = f"where {statement.condition()} and id <> 2"'),),
         ),
     ),
     MARIADB: (
@@ -199,57 +165,43 @@ MUTATIONS = {
         (
             "a view hasn't the rows that are gone",
             (READ_COMMITTED,),
-            (
-                (MARIADB, 'f"where {statement.ids()} order', 'f"where gone = 0 and {statement.ids()} order'),
-            ),
+            ((MARIADB, 'f"where {statement.ids()} order', 'f"where gone = 0 and {statement.ids()} order'),),
         ),
         (
             "of a row that was looked at again the first note counts",
             (READ_COMMITTED,),
-            (
-                (MARIADB, "for id, no, op in looked}", "for id, no, op in reversed(list(looked))}"),
-            ),
+            ((MARIADB, "for id, no, op in looked}", "for id, no, op in reversed(list(looked))}"),),
         ),
         (
             "an insert's view doesn't have its row",
             (READ_COMMITTED,),
-            (
-                (MARIADB, "None, None, None, value)], looked", "None, None, None, value)], [(id, None, None)]"),
-            ),
+            ((MARIADB, "None, None, None, value)], looked", "None, None, None, value)], [(id, None, None)]"),),
         ),
         (
             "the level isn't asked for",
             (SERIALIZABLE,),
-            (
-                (MARIADB, "; set session transaction isolation level {isolation}", ""),
-            ),
+            ((MARIADB, "; set session transaction isolation level {isolation}", ""),),
         ),
         (
             "innodb_snapshot_isolation is off where it is to be on",
             (SNAPSHOTS,),
-            (
-                (MARIADB, "{int(level == SNAPSHOTS)}", "0"),
-            ),
+            ((MARIADB, "{int(level == SNAPSHOTS)}", "0"),),
         ),
         (
             "rows are listed with the values that an update left",
             (READ_COMMITTED,),
-            (
-                (MARIADB, '"changed", "id", "old_value",', '"changed", "id", "value",'),
-            ),
+            ((MARIADB, '"changed", "id", "old_value",', '"changed", "id", "value",'),),
         ),
         (
             "the server gets another condition than the script has",
             (READ_COMMITTED,),
-            (
-                (MARIADB, "'op')}, 0, gone = 0", "'op')}, 0, id <> 2 and gone = 0"),
-            ),
+            ((MARIADB, "'op')}, 0, gone = 0", "'op')}, 0, id <> 2 and gone = 0"),),
         ),
     ),
 }
 
 
-def edited(folder, edits):
+def edited(folder: str, edits: Any) -> None:
     """Makes the edits in a copy of recorders/."""
     for name, old, new in edits:
         with open(f"{folder}/{name}", encoding="utf-8") as file:

@@ -4,7 +4,9 @@ import os
 import re
 import sys
 import tempfile
+from collections.abc import Iterable
 from concurrent.futures import ThreadPoolExecutor
+from typing import Any
 
 from harness import TOP, run
 from recorded.due_mariadb import READ_UNCOMMITTED, SNAPSHOTS
@@ -35,17 +37,17 @@ PROMISES = {
 class Recorder:
     """A recorder at a level, and the environment in which it finds its server. It needs only the standard library."""
 
-    def __init__(self, path, level, environment=None):
+    def __init__(self, path: str, level: str, environment: dict[str, str] | None = None) -> None:
         self.name, self.path, self.level, self.environment = os.path.basename(path), path, level, environment
         self.words = [sys.executable, "-S", path, "--level", level]
 
-    def __str__(self):
+    def __str__(self) -> str:
         return f"{self.name}, {self.level}"
 
-    def run(self, text, *words):
+    def run(self, text: str, *words: str) -> Any:
         return run([*self.words, *words], text.encode(), SECONDS, env=self.environment)
 
-    def plays(self, texts):
+    def plays(self, texts: Iterable[str]) -> list[Any]:
         """The results of scripts that are played one after another: the history or None, and the lines of the log."""
         words = [sys.executable, "-S", f"{TOP}/tests/recorded/playing.py", self.path, self.level]
         lines = "".join(f"{json.dumps(text)}\n" for text in texts)
@@ -54,13 +56,13 @@ class Recorder:
             raise RuntimeError(f"{self}: {ended.stderr.decode()}")
         return [json.loads(line) for line in ended.stdout.splitlines()]
 
-    def log(self, text):
+    def log(self, text: str) -> tuple[Any, list[str]]:
         """The end of a run, and the lines of its log."""
         ended = self.run(text, "--log")
         return ended, ended.stderr.decode().splitlines()
 
 
-def reports(program, texts):
+def reports(program: str, texts: Any) -> list[dict[str, str]]:
     """The output of `batch` for some histories: the lines of each by their names."""
     with tempfile.TemporaryDirectory() as room:
         names = [f"{room}/{place}" for place in range(len(texts))]
@@ -72,7 +74,7 @@ def reports(program, texts):
     return [dict(line.split(": ", 1) for line in part.splitlines()[1:]) for part in parts]
 
 
-def broken(recorder, report):
+def broken(recorder: Recorder, report: dict[str, str]) -> str | None:
     """The error in a record, if any: it is refused or unsound, or breaks what its level promises."""
     if "level" not in report:
         return f"refused: {report}"
@@ -84,11 +86,11 @@ def broken(recorder, report):
     return None
 
 
-def is_remark(line):
-    return re.match(r"line \d+: row ", line)
+def is_remark(line: str) -> bool:
+    return re.match(r"line \d+: row ", line) is not None
 
 
-def played(program, recorder, texts, at_once=AT_ONCE):
+def played(program: str, recorder: Recorder, texts: Any, at_once: int = AT_ONCE) -> Any:
     """Plays scripts, and yields for each its text, the lines of its log and its report, or None if there is none."""
     shares = [texts[first::at_once] for first in range(min(at_once, len(texts)))]
     with ThreadPoolExecutor(at_once) as pool:

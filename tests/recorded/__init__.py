@@ -1,0 +1,1 @@
+"""What tests/recorders expects of recorders, and how it runs them."""
