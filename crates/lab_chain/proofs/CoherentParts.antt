@@ -188,6 +188,7 @@ module _ (h : History) (part : List ℕ) where
       where
         broken : MeetsPl2 h → ⊥
         broken m = read_below h fault stands t m
+
         lines : (g : Grade) → JudgesReads h phenomena g → at_best Pl1 (level_of g) ≡ true → all_allow (level_of g) of_fault ≡ true
         lines g j low =
             both_true (both_true (both_true (both_true (both_true (both_true (both_true (both_true (at_third g j.7 (λ m. broken m.0))
@@ -199,6 +200,7 @@ module _ (h : History) (part : List ℕ) where
             (not_judged_allowed Pl1 Pl299 (level_of g) (found.g_single phenomena) j.4 low))
             (not_judged_allowed Pl1 Pl2 (level_of g) (found.g2_item phenomena) j.5 low))
             (not_judged_allowed Pl1 Pl299 (level_of g) (found.g2 phenomena) j.6 low)
+
         at : (g : Grade) → JudgesReads h phenomena g → Agree g
         at grade.Pl3 j = absurd (broken j.7.0)
         at grade.Pl299 j = absurd (broken j.7.0.0)
@@ -210,23 +212,23 @@ module _ (h : History) (part : List ℕ) where
     nothing_agrees : (g : Grade) → JudgesNothing phenomena g → Agree g
     nothing_agrees g j = subst Agree (sym j.7) (
       both_true (both_true (both_true (both_true (both_true (both_true (both_true (both_true refl
-      refl)
-      (not_judged_allowed level.NotJudged BelowPl1 level.Unsound (found.g0 phenomena) j.0 refl))
-      (not_judged_allowed level.NotJudged Pl1 level.Unsound (found.g1a phenomena) j.1 refl))
-      (not_judged_allowed level.NotJudged Pl1 level.Unsound (found.g1b phenomena) j.2 refl))
-      (not_judged_allowed Pl1 Pl1 level.Unsound (found.g1c phenomena) j.3 refl))
-      (not_judged_allowed Pl1 Pl299 level.Unsound (found.g_single phenomena) j.4 refl))
-      (not_judged_allowed Pl1 Pl2 level.Unsound (found.g2_item phenomena) j.5 refl))
-      (not_judged_allowed Pl1 Pl299 level.Unsound (found.g2 phenomena) j.6 refl),
+          refl)
+          (not_judged_allowed level.NotJudged BelowPl1 level.Unsound (found.g0 phenomena) j.0 refl))
+          (not_judged_allowed level.NotJudged Pl1 level.Unsound (found.g1a phenomena) j.1 refl))
+          (not_judged_allowed level.NotJudged Pl1 level.Unsound (found.g1b phenomena) j.2 refl))
+          (not_judged_allowed Pl1 Pl1 level.Unsound (found.g1c phenomena) j.3 refl))
+          (not_judged_allowed Pl1 Pl299 level.Unsound (found.g_single phenomena) j.4 refl))
+          (not_judged_allowed Pl1 Pl2 level.Unsound (found.g2_item phenomena) j.5 refl))
+          (not_judged_allowed Pl1 Pl299 level.Unsound (found.g2 phenomena) j.6 refl),
       both_true refl (both_true (both_true (both_true (both_true (both_true (both_true (both_true (both_true refl
-      refl)
-      (not_judged_unclear (found.g0 phenomena) j.0))
-      (not_judged_unclear (found.g1a phenomena) j.1))
-      (not_judged_unclear (found.g1b phenomena) j.2))
-      (not_judged_unclear (found.g1c phenomena) j.3))
-      (not_judged_unclear (found.g_single phenomena) j.4))
-      (not_judged_unclear (found.g2_item phenomena) j.5))
-      (not_judged_unclear (found.g2 phenomena) j.6)),
+          refl)
+          (not_judged_unclear (found.g0 phenomena) j.0))
+          (not_judged_unclear (found.g1a phenomena) j.1))
+          (not_judged_unclear (found.g1b phenomena) j.2))
+          (not_judged_unclear (found.g1c phenomena) j.3))
+          (not_judged_unclear (found.g_single phenomena) j.4))
+          (not_judged_unclear (found.g2_item phenomena) j.5))
+          (not_judged_unclear (found.g2 phenomena) j.6)),
     )
 
     fault_agrees : (b : Bool) → is_uncommitted_read fault ≡ b → (g : Grade) → JudgesAtRead b h phenomena g → Stands h fault → Agree g
@@ -243,27 +245,29 @@ module _ (h : History) (part : List ℕ) (report : Report) (exact : IsExactJudge
   abbrev Level_agrees : Type 0
   Level_agrees = (all_allow (level_of report.level) (report_lines part report) ≡ true) × (shows (level_of report.level) (report_lines part report) ≡ true)
 
+  abbrev Agreed : Serial → Places → Type 0
+  Agreed s p =
+      let lines : Lines = record {
+        serial = serial_line part s;
+        snapshot = snapshot_line part p;
+        g0 = finding_line part (found.g0 report.phenomena);
+        g1a = finding_line part (found.g1a report.phenomena);
+        g1b = finding_line part (found.g1b report.phenomena);
+        g1c = finding_line part (found.g1c report.phenomena);
+        g_single = finding_line part (found.g_single report.phenomena);
+        g2_item = finding_line part (found.g2_item report.phenomena);
+        g2 = finding_line part (found.g2 report.phenomena);
+      } in (all_allow (level_of report.level) lines ≡ true) × (shows (level_of report.level) lines ≡ true)
+
   report_agrees : Level_agrees
   report_agrees = at report.serial report.snapshot refl refl exact.judgement.fault exact.judgement.serial exact.judgement.found
     where
-      abbrev Agree : Serial → Places → Type 0
-      Agree s p =
-          let lines : Lines = record {
-            serial = serial_line part s;
-            snapshot = snapshot_line part p;
-            g0 = finding_line part (found.g0 report.phenomena);
-            g1a = finding_line part (found.g1a report.phenomena);
-            g1b = finding_line part (found.g1b report.phenomena);
-            g1c = finding_line part (found.g1c report.phenomena);
-            g_single = finding_line part (found.g_single report.phenomena);
-            g2_item = finding_line part (found.g2_item report.phenomena);
-            g2 = finding_line part (found.g2 report.phenomena);
-          } in (all_allow (level_of report.level) lines ≡ true) × (shows (level_of report.level) lines ≡ true)
       snapshot_allowed : (l : Level) (p : Places) → allows level.NotJudged Pl3 l (snapshot_line part p) ≡ true
       snapshot_allowed l (places.Yes spans) = refl
       snapshot_allowed l (places.NoFault f) = at_last l
       snapshot_allowed l (places.NoCycle points) = at_last l
-      at : (s : Serial) (p : Places) → report.serial ≡ s → report.snapshot ≡ p → SameFault s p → IsSerialVerdict h s → Judges h s report.phenomena report.level → Agree s p
+
+      at : (s : Serial) (p : Places) → report.serial ≡ s → report.snapshot ≡ p → SameFault s p → IsSerialVerdict h s → Judges h s report.phenomena report.level → Agreed s p
       at (serial.Yes order) p is_s is_p same verdict judged = (
         all_allowed h part (serial_line part (serial.Yes order)) (snapshot_line part p) report.phenomena report.level judged refl (snapshot_allowed (level_of report.level) p),
         all_shown h part (serial_line part (serial.Yes order)) (snapshot_line part p) report.phenomena report.level judged

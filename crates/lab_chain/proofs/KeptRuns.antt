@@ -124,7 +124,7 @@ kept_run : (requirement : Requirement) (ps : List Part) → All IsPart ps → ch
 kept_run requirement [] all met some = absurd (false≢true some)
 kept_run requirement (p ∷ ps) all met some =
     let both : (chain_meets requirement (of_part p) ≡ true) × (chain_meets requirement (summary_of ps) ≡ true) = met_both (of_part p) (summary_of ps) requirement
-        (sym (ap (chain_meets requirement) (first_and_rest p ps)) ∙ met) in
+    (sym (ap (chain_meets requirement) (first_and_rest p ps)) ∙ met) in
     let either : ((of_part p).committed || (summary_of ps).committed) ≡ true = sym (ap (λ s. s.committed) (first_and_rest p ps)) ∙ some in
     one_of p ps (kept_part requirement p (All-head IsPart p ps all) both.0) (kept_run requirement ps (All-tail IsPart p ps all) both.1) (of_part p).committed refl either
 
