@@ -4,12 +4,12 @@ use Rattle.lab_table.specs.{Row.{Row}, Table.{Table}}
 use Rattle.lab_history.specs.History.{History}
 use Rattle.lab_deps.specs.{KindSets.{is_anti}, Refusal.{is_uncommitted_read}, Soundness.{Stands, IsSound}, declared.{edge.Edge.{Edge}, fault.LocalFault.{LocalFault, TheVariants.{AbortedRead, IntermediateRead}}}}
 use Rattle.lab_judge.specs.Findings as found
-use Rattle.lab_judge.specs.{Verdicts.{IsYes}, Judgement.{IsExactJudgement, IsSerialVerdict, SameFault, FindsWalk, FindsFault, Judges, JudgesAll, JudgesReads, JudgesNothing, JudgesAtRead}, Phenomena.{count_kind, IsClosedWalk, IsG0, IsG1c, IsGSingle, IsG2Item, IsG2, NoWalk, NoG1a, NoG1b, MeetsPl2, MeetsPl299, MeetsPl3, IsGrade}, declared.{places.Places.{Places}, report.{Finding.{Finding, TheVariants.{Absent, Walk, At, NotJudged}}, Grade.{Grade}, Report.{Report}}, serial.Serial.{Serial}}}
+use Rattle.lab_judge.specs.{Verdicts.{IsYes}, Judgement.{IsExactJudgement, IsSerialVerdict, SameFault, FindsWalk, FindsFault, Judges, JudgesAll, JudgesReads, JudgesNothing, JudgesAtRead}, Phenomena.{count_kind, IsClosedWalk, IsG0, IsG1c, IsGSingle, IsG2Item, IsG2, NoWalk, NoG1a, NoG1b, MeetsPl2, MeetsPl299, MeetsPl3, IsGrade}, ReportText.{serial_text, places_text}, declared.{places.Places.{Places}, report.{Finding.{Finding, TheVariants.{Absent, Walk, At, NotJudged}}, Grade.{Grade}, Report.{Report}}, serial.Serial.{Serial}}}
 use Rattle.lab_judge.specs.declared.places.Places.TheVariants as places
 use Rattle.lab_judge.specs.declared.report.Grade.TheVariants as grade
 use Rattle.lab_judge.specs.declared.serial.Serial.TheVariants as serial
 use Rattle.lab_judge.proofs.{ExactJudgements.{yes_where}, Levels.{none_aborted, none_intermediate, read_below}}
-use Rattle.lab_chain.specs.{Chain.{Part, IsPart, is_clear, is_found, with_part, summary_of}, Coherence.{at_best, allows, all_allow, shows, is_coherent}, Levels.{level_of}, Parts.{serial_line, snapshot_line, finding_line, report_lines, judged_summary, part_summary, IsOutcome}, Summary.{nothing}}
+use Rattle.lab_chain.specs.{Chain.{Part, IsPart, is_clear, is_found, with_part, summary_of}, Coherence.{at_best, allows, all_allow, shows, is_coherent}, Levels.{level_of}, Parts.{no_reason, serial_line, snapshot_line, finding_line, report_lines, judged_summary, part_summary, IsOutcome}, Summary.{nothing}}
 use Rattle.lab_chain.specs.declared.{level.Level.{Level, TheVariants.{Pl3, Pl299, Pl2, Pl1, BelowPl1}}, line.Line.{Line, TheVariants.{Found}}, part.Outcome.{Outcome, TheVariants.{Judged, Refused, Unreadable}}, summary.{Lines.{Lines}, Summary.{Summary}}}
 use Rattle.lab_chain.specs.declared.level.Level.TheVariants as level
 use Rattle.lab_chain.proofs.{CoherentPieces.{coherent_joined}, JoinedSummaries.{nothing_before}, OneLevel.{to_between, to_first}, PartSummaries.{of_part, counts_one}}
@@ -188,6 +188,7 @@ module _ (h : History) (part : List ℕ) where
       where
         broken : MeetsPl2 h → ⊥
         broken m = read_below h fault stands t m
+
         lines : (g : Grade) → JudgesReads h phenomena g → at_best Pl1 (level_of g) ≡ true → all_allow (level_of g) of_fault ≡ true
         lines g j low =
             both_true (both_true (both_true (both_true (both_true (both_true (both_true (both_true (at_third g j.7 (λ m. broken m.0))
@@ -199,34 +200,35 @@ module _ (h : History) (part : List ℕ) where
             (not_judged_allowed Pl1 Pl299 (level_of g) (found.g_single phenomena) j.4 low))
             (not_judged_allowed Pl1 Pl2 (level_of g) (found.g2_item phenomena) j.5 low))
             (not_judged_allowed Pl1 Pl299 (level_of g) (found.g2 phenomena) j.6 low)
+
         at : (g : Grade) → JudgesReads h phenomena g → Agree g
         at grade.Pl3 j = absurd (broken j.7.0)
         at grade.Pl299 j = absurd (broken j.7.0.0)
         at grade.Pl2 j = absurd (broken j.7.0)
-        at grade.Pl1 j = (lines grade.Pl1 j refl, both_true refl (one_read_found fault (found.g1a phenomena) (found.g1b phenomena) _ stands t j.1 j.2))
+        at grade.Pl1 j = (lines grade.Pl1 j refl, both_true refl (one_read_found fault (found.g1a phenomena) (found.g1b phenomena) (finding_line part (found.g1c phenomena)) stands t j.1 j.2))
         at grade.BelowPl1 j = (lines grade.BelowPl1 j refl, both_true refl (walk_found (IsG0 h) (found.g0 phenomena) j.0 j.7))
         at grade.Unsound j = absurd j.7
 
     nothing_agrees : (g : Grade) → JudgesNothing phenomena g → Agree g
     nothing_agrees g j = subst Agree (sym j.7) (
       both_true (both_true (both_true (both_true (both_true (both_true (both_true (both_true refl
-      refl)
-      (not_judged_allowed level.NotJudged BelowPl1 level.Unsound (found.g0 phenomena) j.0 refl))
-      (not_judged_allowed level.NotJudged Pl1 level.Unsound (found.g1a phenomena) j.1 refl))
-      (not_judged_allowed level.NotJudged Pl1 level.Unsound (found.g1b phenomena) j.2 refl))
-      (not_judged_allowed Pl1 Pl1 level.Unsound (found.g1c phenomena) j.3 refl))
-      (not_judged_allowed Pl1 Pl299 level.Unsound (found.g_single phenomena) j.4 refl))
-      (not_judged_allowed Pl1 Pl2 level.Unsound (found.g2_item phenomena) j.5 refl))
-      (not_judged_allowed Pl1 Pl299 level.Unsound (found.g2 phenomena) j.6 refl),
+          refl)
+          (not_judged_allowed level.NotJudged BelowPl1 level.Unsound (found.g0 phenomena) j.0 refl))
+          (not_judged_allowed level.NotJudged Pl1 level.Unsound (found.g1a phenomena) j.1 refl))
+          (not_judged_allowed level.NotJudged Pl1 level.Unsound (found.g1b phenomena) j.2 refl))
+          (not_judged_allowed Pl1 Pl1 level.Unsound (found.g1c phenomena) j.3 refl))
+          (not_judged_allowed Pl1 Pl299 level.Unsound (found.g_single phenomena) j.4 refl))
+          (not_judged_allowed Pl1 Pl2 level.Unsound (found.g2_item phenomena) j.5 refl))
+          (not_judged_allowed Pl1 Pl299 level.Unsound (found.g2 phenomena) j.6 refl),
       both_true refl (both_true (both_true (both_true (both_true (both_true (both_true (both_true (both_true refl
-      refl)
-      (not_judged_unclear (found.g0 phenomena) j.0))
-      (not_judged_unclear (found.g1a phenomena) j.1))
-      (not_judged_unclear (found.g1b phenomena) j.2))
-      (not_judged_unclear (found.g1c phenomena) j.3))
-      (not_judged_unclear (found.g_single phenomena) j.4))
-      (not_judged_unclear (found.g2_item phenomena) j.5))
-      (not_judged_unclear (found.g2 phenomena) j.6)),
+          refl)
+          (not_judged_unclear (found.g0 phenomena) j.0))
+          (not_judged_unclear (found.g1a phenomena) j.1))
+          (not_judged_unclear (found.g1b phenomena) j.2))
+          (not_judged_unclear (found.g1c phenomena) j.3))
+          (not_judged_unclear (found.g_single phenomena) j.4))
+          (not_judged_unclear (found.g2_item phenomena) j.5))
+          (not_judged_unclear (found.g2 phenomena) j.6)),
     )
 
     fault_agrees : (b : Bool) → is_uncommitted_read fault ≡ b → (g : Grade) → JudgesAtRead b h phenomena g → Stands h fault → Agree g
@@ -243,38 +245,40 @@ module _ (h : History) (part : List ℕ) (report : Report) (exact : IsExactJudge
   abbrev Level_agrees : Type 0
   Level_agrees = (all_allow (level_of report.level) (report_lines part report) ≡ true) × (shows (level_of report.level) (report_lines part report) ≡ true)
 
+  abbrev Agreed : Serial → Places → Type 0
+  Agreed s p =
+      let lines : Lines = record {
+        serial = serial_line part s;
+        snapshot = snapshot_line part p;
+        g0 = finding_line part (found.g0 report.phenomena);
+        g1a = finding_line part (found.g1a report.phenomena);
+        g1b = finding_line part (found.g1b report.phenomena);
+        g1c = finding_line part (found.g1c report.phenomena);
+        g_single = finding_line part (found.g_single report.phenomena);
+        g2_item = finding_line part (found.g2_item report.phenomena);
+        g2 = finding_line part (found.g2 report.phenomena);
+      } in (all_allow (level_of report.level) lines ≡ true) × (shows (level_of report.level) lines ≡ true)
+
   report_agrees : Level_agrees
   report_agrees = at report.serial report.snapshot refl refl exact.judgement.fault exact.judgement.serial exact.judgement.found
     where
-      abbrev Agree : Serial → Places → Type 0
-      Agree s p =
-          let lines : Lines = record {
-            serial = serial_line part s;
-            snapshot = snapshot_line part p;
-            g0 = finding_line part (found.g0 report.phenomena);
-            g1a = finding_line part (found.g1a report.phenomena);
-            g1b = finding_line part (found.g1b report.phenomena);
-            g1c = finding_line part (found.g1c report.phenomena);
-            g_single = finding_line part (found.g_single report.phenomena);
-            g2_item = finding_line part (found.g2_item report.phenomena);
-            g2 = finding_line part (found.g2 report.phenomena);
-          } in (all_allow (level_of report.level) lines ≡ true) × (shows (level_of report.level) lines ≡ true)
       snapshot_allowed : (l : Level) (p : Places) → allows level.NotJudged Pl3 l (snapshot_line part p) ≡ true
       snapshot_allowed l (places.Yes spans) = refl
       snapshot_allowed l (places.NoFault f) = at_last l
       snapshot_allowed l (places.NoCycle points) = at_last l
-      at : (s : Serial) (p : Places) → report.serial ≡ s → report.snapshot ≡ p → SameFault s p → IsSerialVerdict h s → Judges h s report.phenomena report.level → Agree s p
+
+      at : (s : Serial) (p : Places) → report.serial ≡ s → report.snapshot ≡ p → SameFault s p → IsSerialVerdict h s → Judges h s report.phenomena report.level → Agreed s p
       at (serial.Yes order) p is_s is_p same verdict judged = (
-        all_allowed h part (serial_line part (serial.Yes order)) (snapshot_line part p) report.phenomena report.level judged refl (snapshot_allowed _ p),
+        all_allowed h part (serial_line part (serial.Yes order)) (snapshot_line part p) report.phenomena report.level judged refl (snapshot_allowed (level_of report.level) p),
         all_shown h part (serial_line part (serial.Yes order)) (snapshot_line part p) report.phenomena report.level judged
             (λ broken. absurd (broken (meets_third h ((yes_where h report exact).0 (subst IsYes (sym is_s) tt))))),
       )
       at (serial.NoCycle walk) p is_s is_p same verdict judged = (
         all_allowed h part (serial_line part (serial.NoCycle walk)) (snapshot_line part p) report.phenomena report.level judged
-            (at_third h part report.level judged.7 (λ m. no_cycle h m walk verdict.1)) (snapshot_allowed _ p),
+            (at_third h part report.level judged.7 (λ m. no_cycle h m walk verdict.1)) (snapshot_allowed (level_of report.level) p),
         all_shown h part (serial_line part (serial.NoCycle walk)) (snapshot_line part p) report.phenomena report.level judged (λ broken. refl),
       )
-      at (serial.NoFault f) (places.NoFault g) is_s is_p same verdict judged = fault_agrees h part _ _ f report.phenomena (is_uncommitted_read f) refl report.level judged verdict.0
+      at (serial.NoFault f) (places.NoFault g) is_s is_p same verdict judged = fault_agrees h part (no_reason (serial_text (serial.NoFault f))) (no_reason (places_text (places.NoFault g))) f report.phenomena (is_uncommitted_read f) refl report.level judged verdict.0
       at (serial.NoFault f) (places.Yes spans) is_s is_p same verdict judged = absurd same
       at (serial.NoFault f) (places.NoCycle points) is_s is_p same verdict judged = absurd same
 

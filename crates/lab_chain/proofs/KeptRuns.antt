@@ -1,5 +1,5 @@
 -- A run that meets a requirement has a part in which a transaction committed.
-use Rattle.std.{proofs.{Common.{◌≡◌, ℕ, suc, ◌-◌, ◌<◌, Bool, true, false, ◌||◌, not, cond, Option, Some, None, List, [], ◌∷◌, length, refl, sym, ap, ◌∙◌, arith}, lemmas.{Bool.{and_parts, false≢true, Decides.{nat_tests}}, List.Elements.{All-head, All-tail}}}, specs.{Prelude.{nat_le, nat_lt}, List.{All, Contains}, Cmp.Derive.{both_true}}}
+use Rattle.std.{proofs.{Common.{◌≡◌, ℕ, suc, ◌-◌, Bool, true, false, ◌||◌, cond, Option, Some, None, List, [], ◌∷◌, refl, sym, ap, ◌∙◌, arith}, lemmas.{Bool.{and_parts, false≢true, Decides.{nat_tests}}, List.Elements.{All-head, All-tail}}}, specs.{Prelude.{nat_le, nat_lt}, List.{All}, Cmp.Derive.{both_true}}}
 use Rattle.lab_table.specs.Table.{Table}
 use Rattle.lab_judge.specs.declared.{places.Places.{Places}, report.{Grade.{Grade}, Report.{Report}}}
 use Rattle.lab_judge.specs.declared.places.Places.TheVariants as places
@@ -7,8 +7,8 @@ use Rattle.lab_judge.specs.declared.report.Grade.TheVariants as grade
 use Rattle.lab_reports.specs.Requirements as due
 use Rattle.lab_reports.specs.declared.requirement.Requirement.{Requirement}
 use Rattle.lab_reports.specs.declared.requirement.Requirement.TheVariants as required
-use Rattle.lab_streams.{specs.Reports.{is_idle}, proofs.KeptReports.{kept_by_committed}}
-use Rattle.lab_chain.specs.{Chain.{Part, IsPart, summary_of, is_clear, chain_meets, chain_keeps}, ChainLaws.{IsJudgedAs, Commits, OneCommits}, Levels.{level_of, level_rank, levels_met, worse}, Lines.{line_joined}, Parts.{snapshot_line, judged_summary, unjudged_summary, part_summary, IsOutcome}, Summary.{seam_between, joined}}
+use Rattle.lab_streams.proofs.KeptReports.{kept_by_committed}
+use Rattle.lab_chain.specs.{Chain.{Part, IsPart, summary_of, is_clear, chain_meets, chain_keeps}, ChainLaws.{Commits, OneCommits}, Levels.{level_of, level_rank, levels_met, worse}, Lines.{line_joined}, Parts.{snapshot_line, judged_summary, unjudged_summary, part_summary, IsOutcome}, Summary.{seam_between, joined}}
 use Rattle.lab_chain.specs.declared.{level.Level.{Level, TheVariants.{Pl3, Pl299, Pl2, Pl1, NotJudged, BelowPl1, Unsound}}, line.Line.{Line, TheVariants.{Clear, Unjudged, Found}}, part.Outcome.{Outcome, TheVariants.{Judged, Refused, Unreadable}}, summary.Summary.{Summary}}
 use Rattle.lab_chain.proofs.PartSummaries.{of_part, first_and_rest}
 
@@ -56,10 +56,10 @@ module _ (a b : Summary) where
       (met_first k a.level seam (met_first k (worse a.level seam) b.level met), met_last k (worse a.level seam) b.level met)
 
   met_both : (requirement : Requirement) → chain_meets requirement (joined a b) ≡ true → (chain_meets requirement a ≡ true) × (chain_meets requirement b ≡ true)
-  met_both required.Pl1 = level_both 1
-  met_both required.Pl2 = level_both 2
-  met_both required.Pl299 = level_both 3
-  met_both required.Pl3 = level_both 4
+  met_both required.Pl1 met = level_both 1 met
+  met_both required.Pl2 met = level_both 2 met
+  met_both required.Pl299 met = level_both 3 met
+  met_both required.Pl3 met = level_both 4 met
   met_both required.Snapshot met =
       let seam : Line = (seam_between a.ends b.ends).lines.snapshot in
       let first : (is_clear a.lines.snapshot ≡ true) × (is_clear (line_joined seam b.lines.snapshot) ≡ true) = clear_both a.lines.snapshot (line_joined seam b.lines.snapshot) met in
@@ -114,16 +114,19 @@ kept_part requirement p is met some = at p.outcome refl is.0 is.1 met some
 one_more : (p : Part) (ps : List Part) → OneCommits ps → OneCommits (p ∷ ps)
 one_more p ps one = (one.0, (suc one.1.0, omega (arith, one.1.1), one.1.2), one.2)
 
+-- the first part commits, or one of the others
+one_of : (p : Part) (ps : List Part) → ((of_part p).committed ≡ true → Commits p) → ((summary_of ps).committed ≡ true → OneCommits ps) → (b : Bool) → (of_part p).committed ≡ b
+    → (b || (summary_of ps).committed) ≡ true → OneCommits (p ∷ ps)
+one_of p ps here there true is either = (p, (0, omega arith, refl), here is)
+one_of p ps here there false is either = one_more p ps (there either)
+
 kept_run : (requirement : Requirement) (ps : List Part) → All IsPart ps → chain_meets requirement (summary_of ps) ≡ true → (summary_of ps).committed ≡ true → OneCommits ps
 kept_run requirement [] all met some = absurd (false≢true some)
 kept_run requirement (p ∷ ps) all met some =
     let both : (chain_meets requirement (of_part p) ≡ true) × (chain_meets requirement (summary_of ps) ≡ true) = met_both (of_part p) (summary_of ps) requirement
     (sym (ap (chain_meets requirement) (first_and_rest p ps)) ∙ met) in
-    let one : ((of_part p).committed || (summary_of ps).committed) ≡ true = sym (ap (λ s. s.committed) (first_and_rest p ps)) ∙ some in
-    elim (of_part p).committed as (λ b. (of_part p).committed ≡ b → (b || (summary_of ps).committed) ≡ true → OneCommits (p ∷ ps)) [
-      | true ↦ λ e _. (p, (0, omega arith, refl), kept_part requirement p (All-head IsPart p ps all) both.0 e)
-      | false ↦ λ e more. one_more p ps (kept_run requirement ps (All-tail IsPart p ps all) both.1 more)
-    ] refl one
+    let either : ((of_part p).committed || (summary_of ps).committed) ≡ true = sym (ap (λ s. s.committed) (first_and_rest p ps)) ∙ some in
+    one_of p ps (kept_part requirement p (All-head IsPart p ps all) both.0) (kept_run requirement ps (All-tail IsPart p ps all) both.1) (of_part p).committed refl either
 
 pub kept_by_one : (requirement : Requirement) (ps : List Part) → All IsPart ps → chain_keeps requirement (summary_of ps) ≡ true → OneCommits ps
 kept_by_one requirement ps all kept =
