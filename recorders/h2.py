@@ -15,6 +15,8 @@ class H2(OverJdbc):
     }
     SETTING = "set session characteristics as transaction isolation level {level}"
     NOTE = "create alias {room}note for 'Bridge.note'"
+    # (Whoever waits for a transaction that rolled a statement back does so in a busy loop.)
+    INSERTS_FIRST = False
     WAITING = "org.h2.mvstore.tx.Transaction.waitForThisToEnd"
 
 

@@ -28,13 +28,16 @@ class WithoutReturning(Tables):
     ORDER       the order in which a select reads rows, if the statement alone would read them in it
     STABLE      the levels at which a read shows what an earlier statement of its transaction saw, by a snapshot or by
                 locks. At other levels, a view that was read after its statement gets a remark
-    DUPLICATE   the SQL state with which an insert of an existing key is refused; its transaction goes on
+    INSERTS_FIRST
+                whether an insert is tried before the update that brings a gone row back, so that it takes only the locks
+                that it would take alone. Its transaction has to go on after a duplicate key
+    DUPLICATE   the SQL state of a duplicate key
     looks, changes
                 how an update notes the rows that it looks at
     """
 
     COLUMNS, PRESENT = f"{COLUMNS}, gone integer default 0 not null", "gone = 0"
-    ORDER, STABLE, DUPLICATE = "", (), "23505"
+    ORDER, STABLE, INSERTS_FIRST, DUPLICATE = "", (), True, "23505"
 
     def do(self, connection, txn, statement):
         call = getattr(self, statement.kind)
@@ -97,23 +100,29 @@ class WithoutReturning(Tables):
         return f"row {rows}: what the statement saw was read after it, and may be newer"
 
     def insert(self, connection, statement, name, table):
-        """A row that is gone comes back, as a new version. The insert is tried first, since it takes the locks that it
-        would take alone."""
-        (id, value), (no, op), sql = statement.row, name, self.SQL
+        """A row that is gone comes back, as a new version."""
+        (id, value), listed = statement.row, [(statement.row[0], None, None, None, statement.row[1])]
+        if not self.INSERTS_FIRST and self.comes_back(connection, statement.row, name, table):
+            return Done(listed, self.replaced(connection, id, table))
         try:
-            self.ask(connection, f"insert into {table} (id, {sql.value}, txn, op) values ({id}, {value}, {no}, {op})")
-            return Done([(id, None, None, None, value)], [])
+            names = f"(id, {self.SQL.value}, txn, op)"
+            self.ask(connection, f"insert into {table} {names} values ({id}, {value}, {name[0]}, {name[1]})")
+            return Done(listed, [])
         except Refused as why:
-            if not str(why).startswith(self.DUPLICATE) or not self.brought_back(connection, statement.row, name, table):
+            is_there = self.INSERTS_FIRST and str(why).startswith(self.DUPLICATE)
+            if not is_there or not self.comes_back(connection, statement.row, name, table):
                 raise
-        ((was, before),) = self.ask(connection, f"select old_txn, old_op from {table} where id = {id}")
-        return Done([(id, None, None, None, value)], [(id, was, before)])
+        return Done(listed, self.replaced(connection, id, table))
 
-    def brought_back(self, connection, row, name, table):
+    def comes_back(self, connection, row, name, table):
         """Whether a row was gone, and came back."""
         (id, left), (no, op), value = row, name, self.SQL.value
         change = f"old_value = {value}, old_txn = txn, old_op = op, {value} = {left}, txn = {no}, op = {op}, gone = 0"
         return self.ask(connection, f"update {table} set {change} where id = {id} and gone = 1")[0][0]
+
+    def replaced(self, connection, id, table):
+        """The version of a row before it came back."""
+        return [(id, *old) for old in self.ask(connection, f"select old_txn, old_op from {table} where id = {id}")]
 
     def rows(self):
         found = {}
