@@ -47,7 +47,7 @@ import java.util.concurrent.atomic.AtomicInteger;
  */
 public final class Bridge {
     /** How long a thread has to be parked until its statement waits, with a known frame and without one. */
-    private static final long QUIET = 4_000_000L, QUIET_ANYWHERE = 30_000_000L;
+    private static final long QUIET = 2_000_000L, QUIET_ANYWHERE = 30_000_000L;
     /** How long the databases have to close. */
     private static final long ENDING = 5_000L;
 
@@ -249,18 +249,22 @@ public final class Bridge {
             ended = System.nanoTime();
         }
 
-        /** Whether the thread has been parked for some time, in a method with this name if it isn't empty. */
-        private synchronized boolean isParked(String frame) {
-            long now = System.nanoTime();
-            if (!busy || thread.getState() == Thread.State.RUNNABLE || !isIn(frame)) {
-                parked = 0;
-                return false;
+        /** Whether the thread is parked, in a method with this name if it isn't empty, and has been for some time. */
+        private synchronized boolean isWaiting(String frame) {
+            long quiet = frame.isEmpty() ? QUIET_ANYWHERE : QUIET;
+            while (busy && thread.getState() != Thread.State.RUNNABLE && isIn(frame)) {
+                long now = System.nanoTime();
+                // A statement that waited before something ended may be about to go on.
+                if (parked == 0 || parked < ended) {
+                    parked = now;
+                }
+                if (now - parked >= quiet) {
+                    return true;
+                }
+                sleep(1);
             }
-            // A statement that waited before something ended may be about to go on.
-            if (parked == 0 || parked < ended) {
-                parked = now;
-            }
-            return busy && now - parked >= (frame.isEmpty() ? QUIET_ANYWHERE : QUIET);
+            parked = 0;
+            return false;
         }
 
         private boolean isIn(String frame) {
@@ -277,7 +281,7 @@ public final class Bridge {
     }
 
     private static boolean waits(Session session, String frame) {
-        return session != null && session.isParked(frame);
+        return session != null && session.isWaiting(frame);
     }
 
     private static long openOnes(String[] request) {

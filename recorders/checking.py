@@ -7,13 +7,13 @@ from __future__ import annotations
 
 from dataclasses import dataclass, field
 from difflib import SequenceMatcher
-from functools import cache
-from typing import Any, Iterable, NamedTuple
+from heapq import heappop, heappush
+from typing import Any, Iterable, Iterator, NamedTuple
 
 from script import Script
 from statement import Command
 
-WAYS = 200  # the most assignments that are followed
+MOST = 5_000  # assignments that are followed, until the first one at hand is taken
 SKIPPED = 2  # the most transactions of a session that are left out, one after another
 
 
@@ -43,10 +43,16 @@ class Recorded(NamedTuple):
 
 
 class Way(NamedTuple):
-    """An assignment of the transactions so far: the next block of each session, and the differences."""
+    """An assignment of the transactions so far. In their order, the one with the fewest differences comes first, and among
+    those the one that has got furthest."""
 
-    places: tuple[int, ...]
+    cost: int  # the number of differences
+    behind: int  # the number of transactions so far, negated; one more is the end of the sessions
+    places: tuple[int, ...]  # the next block of each session
     differences: tuple[str, ...]
+
+    def after(self, places: tuple[int, ...], more: tuple[str, ...]) -> Way:
+        return Way(self.cost + len(more), self.behind - 1, places, self.differences + more)
 
 
 def blocks_of(script: Script) -> dict[int, list[Block]]:
@@ -117,42 +123,52 @@ def wrong_outcome(txn: Recorded, block: Block, lines: frozenset[int]) -> tuple[s
 
 def faults(script: Script, history: dict[str, Any], refused: Iterable[int] = ()) -> list[str]:
     """The differences between a history and a play of a script, in which the database refused these lines."""
-    lines, by_session = frozenset(refused), blocks_of(script)
-    sessions = sorted(by_session)
-
-    @cache
-    def skipped(place: int, begin: int, end: int) -> tuple[str, ...]:
-        blocks = by_session[sessions[place]][begin:end]
-        return tuple(text for block in blocks for text in without(block, lines))
-
-    ways = [Way((0,) * len(sessions), ())]
-    for txn in recorded_of(history):
-        ways = best(after for way in ways for after in steps(way, txn, by_session, sessions, lines, skipped))
-    ended = (way.differences + tail(way, by_session, sessions, skipped) for way in ways)
-    return list(min(ended, key=len))
+    by_session = blocks_of(script)
+    sessions = [by_session[session] for session in sorted(by_session)]
+    return list(Assigning(sessions, recorded_of(history), frozenset(refused)).fewest())
 
 
-def steps(way: Way, txn: Recorded, by_session: Any, sessions: list[int], lines: frozenset[int], skipped: Any) -> Iterable[Way]:
-    """The assignments of one more transaction: to one of the next blocks of a session, or to none."""
-    texts = txn.statements or ("no statement",)
-    yield Way(way.places, way.differences + tuple(f"extra: T{txn.no} op {at}: {text}" for at, text in enumerate(texts, 1)))
-    for place, session in enumerate(sessions):
-        begin = way.places[place]
-        for at in range(begin, min(begin + 1 + SKIPPED, len(by_session[session]))):
-            more = skipped(place, begin, at) + differences(txn, by_session[session][at], lines)
-            yield Way((*way.places[:place], at + 1, *way.places[place + 1 :]), way.differences + more)
+class Assigning:
+    """The blocks of each session, and the transactions that are assigned to them."""
 
+    def __init__(self, sessions: list[list[Block]], txns: list[Recorded], lines: frozenset[int]) -> None:
+        self.sessions, self.txns, self.lines = sessions, txns, lines
+        self.known: dict[tuple[int, int, int], tuple[str, ...]] = {}
 
-def best(ways: Iterable[Way]) -> list[Way]:
-    """The assignments with the fewest differences, one for each state of the sessions."""
-    found: dict[tuple[int, ...], Way] = {}
-    for way in ways:
-        if way.places not in found or len(way.differences) < len(found[way.places].differences):
-            found[way.places] = way
-    return sorted(found.values(), key=lambda way: len(way.differences))[:WAYS]
+    def fewest(self) -> tuple[str, ...]:
+        """The differences of the best assignment. After MOST ways, it follows the one at hand to its end."""
+        waiting, met = [Way(0, 0, (0,) * len(self.sessions), ())], set()
+        while True:
+            way = heappop(waiting)
+            if -way.behind > len(self.txns):
+                return way.differences
+            if way[1:3] not in met:
+                met.add(way[1:3])
+                if len(met) > MOST:
+                    waiting = []
+                for after in self.steps(way):
+                    heappush(waiting, after)
 
+    def steps(self, way: Way) -> Iterator[Way]:
+        """The assignments of one more transaction: to one of the next blocks of a session, or to none."""
+        at = -way.behind
+        if at == len(self.txns):
+            left = (self.skipped(place, begin, len(self.sessions[place])) for place, begin in enumerate(way.places))
+            yield way.after(way.places, tuple(text for texts in left for text in texts))
+            return
+        txn = self.txns[at]
+        texts = enumerate(txn.statements or ("no statement",), 1)
+        yield way.after(way.places, tuple(f"extra: T{txn.no} op {place}: {text}" for place, text in texts))
+        for place, begin in enumerate(way.places):
+            for end in range(begin, min(begin + 1 + SKIPPED, len(self.sessions[place]))):
+                places = (*way.places[:place], end + 1, *way.places[place + 1 :])
+                yield way.after(places, self.skipped(place, begin, end) + self.different(at, place, end))
 
-def tail(way: Way, by_session: Any, sessions: list[int], skipped: Any) -> tuple[str, ...]:
-    """The differences if the other blocks are left out."""
-    left = (skipped(place, way.places[place], len(by_session[session])) for place, session in enumerate(sessions))
-    return tuple(text for texts in left for text in texts)
+    def skipped(self, place: int, begin: int, end: int) -> tuple[str, ...]:
+        return tuple(text for block in self.sessions[place][begin:end] for text in without(block, self.lines))
+
+    def different(self, at: int, place: int, end: int) -> tuple[str, ...]:
+        key = at, place, end
+        if key not in self.known:
+            self.known[key] = differences(self.txns[at], self.sessions[place][end], self.lines)
+        return self.known[key]

@@ -13,7 +13,7 @@ class Derby(OverJdbc):
         "serializable": "PL-3",
     }
     # (By itself, it looks for deadlocks after 20 seconds.)
-    PROPERTIES = {"derby.locks.deadlockTimeout": "0", "derby.locks.waitTimeout": "60"}
+    PROPERTIES = {"derby.locks.deadlockTimeout": "1", "derby.locks.waitTimeout": "60"}
     NOTE = (
         "create function {room}note (matches int, id int, txn int, op int) returns int"
         " parameter style java no sql language java external name 'Bridge.note'"
