@@ -1,10 +1,10 @@
 /*
  * Another recorder over JDBC, written apart from recorders/: tests/jdbc compares the reports of both.
  *
- * usage: java -cp CLASSES:JARS Rec DATABASE LEVEL SCRIPTS HISTORIES
+ * usage: java -cp CLASSES:JARS Rec PRODUCT SCRIPTS HISTORIES
  *
- * Plays each script SCRIPTS/NAME.txt on a new database in memory, one after another, and writes HISTORIES/NAME.json. LEVEL
- * has `_` in place of blanks.
+ * Plays each script SCRIPTS/NAME.txt at each level of the databases whose names begin with PRODUCT, one after another, in
+ * memory, and writes HISTORIES/DATABASE.LEVEL.NAME.json, where the level has `_` in place of blanks.
  */
 import java.io.*;
 import java.nio.file.*;
@@ -343,7 +343,14 @@ public class Rec {
         for (Session s : sessions.values()) { s.c.rollback(); s.c.close(); }
         end = tables(admin);
         String h = history(initial, txns, end);
-        try (java.sql.Statement s = admin.createStatement()) { if (!db.name.equals("derby")) s.execute("SHUTDOWN"); } catch (SQLException e) { }
+        try (java.sql.Statement s = admin.createStatement()) {
+            if (db.name.equals("derby")) { // (A new database takes it a second.)
+                for (String table : TABLES) s.execute("drop table " + table);
+                s.execute("drop function note");
+                admin.commit();
+                admin.close();
+            } else s.execute("SHUTDOWN");
+        }
         for (Session s : sessions.values()) s.thread.interrupt();
         return h;
     }
@@ -352,21 +359,18 @@ public class Rec {
         System.setProperty("hsqldb.method_class_names", "Rec.*");
         System.setProperty("derby.locks.deadlockTimeout", "1");
         System.setProperty("derby.locks.waitTimeout", "20");
-        System.setProperty("derby.stream.error.file", "derby.log");
-        Db db = DBS.stream().filter(d -> d.name.equals(a[0])).findFirst().orElseThrow();
-        Level level = db.levels.stream().filter(l -> l.name.equals(a[1])).findFirst().orElseThrow();
-        Path in = Path.of(a[2]), out = Path.of(a[3]);
+        System.setProperty("derby.stream.error.file", a[2] + "/derby.log");
+        Path in = Path.of(a[1]), out = Path.of(a[2]);
         List<Path> files;
         try (var st = Files.list(in)) { files = st.filter(p -> p.toString().endsWith(".txt")).sorted().toList(); }
+        // (HSQLDB prints its own notes on standard output.)
         PrintStream none = new PrintStream(OutputStream.nullOutputStream());
-        PrintStream said = System.out;
         System.setOut(none);
         int n = 0;
-        for (Path f : files) {
+        for (Db db : DBS) for (Level level : db.name.startsWith(a[0]) ? db.levels : List.<Level>of()) for (Path f : files) {
             String name = f.getFileName().toString().replace(".txt", "");
-            Rec r = new Rec(db, level, "b" + n++, none);
-            Files.writeString(out.resolve(name + ".json"), r.play(Files.readString(f)));
-            said.println(name + ": " + r.waited + " waited, " + r.refused + " refused");
+            Rec r = new Rec(db, level, db.name.equals("derby") ? "b" : "b" + n++, none);
+            Files.writeString(out.resolve(db.name + "." + level.name + "." + name + ".json"), r.play(Files.readString(f)));
         }
     }
 }

@@ -1,10 +1,10 @@
 """Plays scripts with a recorder, some at the same time in one process, so that they share its JVM.
 
-usage: playing_at_once.py RECORDER THREADS OPTION..
+usage: playing_at_once.py RECORDER THREADS
 
-In an option, {n} is replaced by the number of the thread, so that each has a database of its own. Each line of standard
-input is a level and a script as JSON. Each line of standard output, in the same order, is the history, or null, and the
-lines of the log; without a history, the last line says why.
+Each line of standard input is a list of options and a script, as JSON. In an option, {n} is replaced by the number of the
+thread, so that each has a database of its own. Each line of standard output, in the same order, is the history, or null, and
+the lines of the log; without a history, the last line says why.
 """
 from __future__ import annotations
 
@@ -16,7 +16,7 @@ from concurrent.futures import ThreadPoolExecutor
 from typing import Any
 
 sys.dont_write_bytecode = True
-PATH, THREADS, *OPTIONS = sys.argv[1:]
+PATH, THREADS = sys.argv[1:]
 sys.path.insert(0, os.path.dirname(PATH))
 import command_line  # noqa: E402
 import recording  # noqa: E402
@@ -31,15 +31,14 @@ def number() -> None:
     LOCAL.number = next(NUMBERS)
 
 
-def words(level: str) -> Any:
-    given = [option.replace("{n}", str(LOCAL.number)) for option in OPTIONS]
-    return RECORDER.parse_args([*given, "--level", level, "--log"])
+def words(options: list[str]) -> Any:
+    return RECORDER.parse_args([*(option.replace("{n}", str(LOCAL.number)) for option in options), "--log"])
 
 
 def played(line: str) -> str:
-    level, text = json.loads(line)
+    options, text = json.loads(line)
     log: list[str] = []
-    return json.dumps([recorded(words(level), script.read(text.encode()), log), log])
+    return json.dumps([recorded(words(options), script.read(text.encode()), log), log])
 
 
 def recorded(given: Any, read: script.Script, log: list[str]) -> str | None:
