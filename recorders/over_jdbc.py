@@ -55,6 +55,9 @@ class OverJdbc(WithoutReturning):
 
     def __init__(self, words, script):
         jars = tuple(words.jar or self.installed(words.url))
+        for path in jars:
+            if not os.path.exists(path):
+                raise Unreachable(f"argument --jar: {path}: No such file or directory")
         self.bridge, self.places, self.is_made = bridge.running(jars, self.PROPERTIES), itertools.count(1), False
         self.schema = f"hermitage_lab_{os.getpid()}_{time.time_ns()}"
         self.ROOM = f"{self.schema}."

@@ -200,20 +200,20 @@ public class Rec {
 
     static final class Session {
         final Connection c; final Thread thread; final SynchronousQueue<Runnable> todo = new SynchronousQueue<>();
-        volatile boolean busy, closing; Txn txn; boolean failed; int waited, refused; final Deque<Line> kept = new ArrayDeque<>();
+        volatile boolean busy, started; Txn txn; boolean failed; int waited, refused; final Deque<Line> kept = new ArrayDeque<>();
         volatile long still; // since when its thread has been seen parked: forgotten whenever any session's statement ends
         boolean counted;
         final Collection<Session> all;
         Session(Connection c, Collection<Session> all) {
             this.c = c; this.all = all;
-            thread = new Thread(() -> { try { for (;;) { Runnable r = todo.take(); r.run(); busy = false; for (Session o : all) o.still = 0; } } catch (InterruptedException e) { } });
+            thread = new Thread(() -> { try { for (;;) { Runnable r = todo.take(); started = true; r.run(); busy = false; for (Session o : all) o.still = 0; } } catch (InterruptedException e) { } });
             thread.setDaemon(true);
             thread.start();
         }
-        void give(Runnable r) throws InterruptedException { busy = true; counted = false; still = 0; todo.put(r); }
+        void give(Runnable r) throws InterruptedException { busy = true; started = false; counted = false; still = 0; todo.put(r); }
         /** Whether its statement waits: its thread has been parked for 30 ms, and not run. An embedded database runs in it. */
         boolean waits() {
-            if (!busy) return false;
+            if (!busy || !started) return false;
             Thread.State st = thread.getState();
             if (st == Thread.State.RUNNABLE) { still = 0; return false; }
             if (still == 0) still = System.nanoTime();
@@ -335,7 +335,7 @@ public class Rec {
             more = false;
             for (var e : sessions.entrySet()) {
                 Session s = e.getValue();
-                if (!s.busy && s.txn != null) { log.println("   rolled back T" + e.getKey()); step(s, new Line(e.getKey(), "abort", 0)); settle(); more = true; break; }
+                if (!s.busy && s.kept.isEmpty() && s.txn != null) { log.println("   rolled back T" + e.getKey()); step(s, new Line(e.getKey(), "abort", 0)); settle(); more = true; break; }
             }
             drain();
             for (Session s : sessions.values()) if (s.busy || !s.kept.isEmpty()) more = true;

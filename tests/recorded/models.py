@@ -58,12 +58,12 @@ LOCKING = {
     SERIALIZABLE: level("PL-3", NONE),
 }
 MODELS = (
-    Model("hsqldb-locks", "HSQLDB (LOCKS)", "jdbc:hsqldb:mem:db{n};hsqldb.tx=locks", LOCKING),
-    Model("hsqldb-mvlocks", "HSQLDB (MVLOCKS)", "jdbc:hsqldb:mem:db{n};hsqldb.tx=mvlocks", LOCKING),
+    Model("hsqldb-locks", "HSQLDB (LOCKS)", "jdbc:hsqldb:mem:locks{n};hsqldb.tx=locks", LOCKING),
+    Model("hsqldb-mvlocks", "HSQLDB (MVLOCKS)", "jdbc:hsqldb:mem:mvlocks{n};hsqldb.tx=mvlocks", LOCKING),
     Model(
         "hsqldb-mvcc",
         "HSQLDB (MVCC)",
-        "jdbc:hsqldb:mem:db{n};hsqldb.tx=mvcc",
+        "jdbc:hsqldb:mem:mvcc{n};hsqldb.tx=mvcc",
         {READ_COMMITTED: level("PL-2", WEAK), REPEATABLE_READ: level("SI", SKEW), SERIALIZABLE: level("SI", SKEW)},
     ),
     Model(
