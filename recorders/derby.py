@@ -22,5 +22,9 @@ class Derby(OverJdbc):
     # (It has no `cascade`.)
     DROPPING = "drop table {table}", "drop function {room}note", "drop schema {schema} restrict"
 
+    def version(self):
+        """(Debian's build has no number, which is printed as `(???)`.)"""
+        return super().version().partition(" ")[0]
+
 
 DIALECT = Derby
