@@ -11,7 +11,7 @@ import script
 from recording import Unreachable, Untold, record
 
 HERE = os.path.dirname(os.path.abspath(__file__))
-DATABASES = "postgres", "mariadb", "sqlite", "toy"
+DATABASES = "postgres", "mariadb", "sqlite", "jdbc", "toy"
 REFUSED, FAILED = 2, 3
 PATIENCE = 30
 
@@ -23,15 +23,17 @@ class Parser(argparse.ArgumentParser):
 
 
 def words_of(name, about, epilog, make):
-    """The argument parser of a recorder; `make(arguments, script)` creates its database."""
+    """The argument parser of a recorder; `make(arguments, script)` creates its database. If its levels depend on the other
+    arguments, `make.LEVELS` is empty, and `make.levels(arguments)` has them."""
     as_written = argparse.RawDescriptionHelpFormatter
     parser = Parser(prog=name, description=about, epilog=epilog, formatter_class=as_written, allow_abbrev=False)
     parser.set_defaults(make=make)
     levels = list(make.LEVELS)
-    level = "the level of each transaction: " + ", ".join(levels)
-    parser.add_argument(
-        "--level", metavar="LEVEL", required=len(levels) > 1, default=levels[0], choices=levels, help=level
-    )
+    if levels:
+        about, only = f"the level of each transaction: {', '.join(levels)}", levels[0]
+        parser.add_argument("--level", metavar="LEVEL", required=len(levels) > 1, default=only, choices=levels, help=about)
+    else:
+        parser.add_argument("--level", metavar="LEVEL", help="the level of each transaction, one of the database's")
     parser.add_argument("--log", action="store_true", help="print the result of each line of the script on standard error")
     patience = "how long to wait if all sessions wait for a session outside the script (%(default)s)"
     parser.add_argument("--patience", metavar="SECONDS", type=float, default=PATIENCE, help=patience)
@@ -44,6 +46,25 @@ def parser_of(path):
     module = module_from_spec(spec_from_loader(loader.name, loader))
     loader.exec_module(module)
     return module.parser()
+
+
+def levels_of(parser, words):
+    """The promise of each level of the database that these arguments name; words are as given."""
+    make = parser.get_default("make")
+    if make.LEVELS:
+        return make.LEVELS
+    with ending(parser, make.ERRORS):
+        return make.levels(parser.parse_args(words))
+
+
+def asked(parser, words=None):
+    """The arguments of a recorder, with one of its levels."""
+    found = parser.parse_args(words)
+    if not found.make.LEVELS:
+        levels = list(levels_of(parser, words))
+        if found.level not in levels:
+            parser.error(f"argument --level: invalid choice: {found.level!r} (choose from {', '.join(map(repr, levels))})")
+    return found
 
 
 def recorder_of(parser, database):
@@ -86,7 +107,7 @@ def recorded(words, text, say=warn):
 
 def run(parser):
     """Records a run of the script on standard input; `ending` has the exit statuses."""
-    words = parser.parse_args()
+    words = asked(parser)
     with ending(parser, words.make.ERRORS):
         sys.stdout.write(recorded(words, sys.stdin.buffer.read(script.READ_BYTES)) + "\n")
         sys.stdout.flush()

@@ -10,6 +10,19 @@ COMPARED = {
 
 
 @dataclass(frozen=True)
+class Sql:
+    """How a dialect of SQL writes the column of the values, a remainder, and constants."""
+
+    value: str = "value"
+    remainder: str = "{} % {}"
+    true: str = "true"
+    false: str = "false"
+
+
+STANDARD = Sql()
+
+
+@dataclass(frozen=True)
 class Statement:
     """A statement on one table; `where` is its condition as a tree, or None."""
 
@@ -29,14 +42,14 @@ class Statement:
             return f"insert into {self.table} (id, value) values ({self.row[0]}, {self.row[1]})"
         return f"delete from {self.table}{where}"
 
-    def result(self):
-        """The new value of an update, as an expression in both a script and SQL."""
+    def result(self, sql=STANDARD):
+        """The new value of an update, as an expression in SQL; in the standard's, also in a script."""
         sign, number = self.change
-        return f"value {sign} {number}" if sign else str(number)
+        return f"{sql.value} {sign} {number}" if sign else str(number)
 
-    def condition(self):
+    def condition(self, sql=STANDARD):
         """Its condition in SQL."""
-        return in_sql(self.where) if self.where else "true"
+        return in_sql(self.where, sql) if self.where else sql.true
 
     def matches(self, id, value):
         """Whether it matches a row; an insert matches the row with its id."""
@@ -58,10 +71,14 @@ class Statement:
         found = self.where and of_ids(self.where)
         return {id for id in ids if holds(found, {"id": id})} if found else set(ids)
 
-    def ids(self):
+    def is_by_ids(self):
+        """Whether its condition restricts the ids of the rows that it may match."""
+        return bool(self.row or self.where and of_ids(self.where))
+
+    def ids(self, sql=STANDARD):
         """A condition in SQL on ids only, which holds for every row that it matches."""
         found = self.where and of_ids(self.where)
-        return in_sql(found) if found else "true"
+        return in_sql(found, sql) if found else sql.true
 
 
 @dataclass(frozen=True)
@@ -99,14 +116,18 @@ def printed_atom(kind, column, *parts):
     return f"{column} % {parts[0]} = {parts[1]}" if kind == "%" else f"{column} {kind} {parts[0]}"
 
 
-def in_sql(tree):
+def in_sql(tree, sql=STANDARD):
     """A condition in SQL, which has no empty lists."""
     kind, *parts = tree
     if kind == "not":
-        return f"(not {in_sql(parts[0])})"
+        return f"(not {in_sql(parts[0], sql)})"
     if kind in ("and", "or"):
-        return f"({in_sql(parts[0])} {kind} {in_sql(parts[1])})"
-    return "false" if kind == "in" and not parts[1] else f"({printed_atom(*tree)})"
+        return f"({in_sql(parts[0], sql)} {kind} {in_sql(parts[1], sql)})"
+    column, *numbers = parts
+    name = sql.value if column == "value" else column
+    if kind == "%":
+        return f"({sql.remainder.format(name, numbers[0])} = {numbers[1]})"
+    return sql.false if kind == "in" and not numbers[0] else f"({printed_atom(kind, name, *numbers)})"
 
 
 def holds(tree, row):

@@ -8,6 +8,7 @@ statement didn't return are found depends on the dialect (docs/RECORDING.md, "Re
 """
 from database import Database
 from recording import Refused, Unreachable
+from statement import STANDARD
 
 NOTHING = "cast(null as integer)"
 COLUMNS = (
@@ -15,19 +16,19 @@ COLUMNS = (
     " txn integer, op integer, old_value integer, old_txn integer, old_op integer"
 )
 
-CLEARED = "txn = null, op = null, old_value = null, old_txn = null, old_op = null"
+CLEARED = "txn = null, op = null, old_value = null, old_txn = null, old_op = null where txn is not null"
 
 
 def version(no, op):
     return (no, op) if no else None
 
 
-def change_of(statement, name):
+def change_of(statement, name, sql=STANDARD):
     """The `set` of an update, or of a delete that marks rows as gone. The old values come first, for databases that
     assign from left to right."""
     no, op = name
-    left = statement.result() if statement.change else "value"
-    return f"old_value = value, old_txn = txn, old_op = op, value = {left}, txn = {no}, op = {op}"
+    value, left = sql.value, statement.result(sql) if statement.change else sql.value
+    return f"old_value = {value}, old_txn = txn, old_op = op, {value} = {left}, txn = {no}, op = {op}"
 
 
 def write_of(statement, table, name):
@@ -54,11 +55,14 @@ class Tables(Database):
     PLACE                           the type of an ascending generated key
     DRAWING                         the SQL that draws a commit number
     VERSION                         the SQL expression for the server's version
+    SQL                             how it writes names and operators
     """
 
     ROOM, PLACE, VERSION, COLUMNS = "", "integer primary key", "version()", COLUMNS
     DRAWING = "insert into {room}commit1 (txn) values ({no}) returning place"
     PRESENT = "true"  # the condition of rows that aren't gone
+    CLEARED = CLEARED  # the `set` and the `where` of the update that removes the names of versions
+    SQL = STANDARD
 
     def __init__(self, words, script):
         super().__init__(words, script)
@@ -82,7 +86,11 @@ class Tables(Database):
         for name in self.script.tables:
             self.look(f"create table {self.table(name)} ({self.COLUMNS})")
         for (name, id), value in self.script.setup.items():
-            self.look(f"insert into {self.table(name)} (id, value) values ({id}, {value})")
+            self.look(f"insert into {self.table(name)} (id, {self.SQL.value}) values ({id}, {value})")
+        self.make_notes()
+
+    def make_notes(self):
+        """Creates the tables of the notes of deleted rows and of the commit numbers."""
         # The digit avoids clashes with a script's tables.
         numbers = "id integer, txn integer, op integer"
         self.look(f"create table {self.ROOM}gone1 (place {self.PLACE}, name varchar(16), {numbers})")
@@ -103,7 +111,10 @@ class Tables(Database):
     def clear(self):
         for name in self.script.tables:
             self.look(f"delete from {self.table(name)} where not ({self.PRESENT})")
-            self.look(f"update {self.table(name)} set {CLEARED} where txn is not null")
+            self.look(f"update {self.table(name)} set {self.CLEARED}")
+        self.clear_notes()
+
+    def clear_notes(self):
         for name in ("gone1", "commit1"):
             self.look(f"delete from {self.ROOM}{name}")
 

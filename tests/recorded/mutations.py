@@ -5,6 +5,7 @@ An edit is a file, a text that occurs in it once, and the replacement.
 from typing import Any
 
 POSTGRES, MARIADB, RECORDING, TABLES = "postgres", "mariadb", "recording.py", "tables.py"
+WITHOUT_RETURNING = "without_returning.py"
 READ_COMMITTED, REPEATABLE_READ, SERIALIZABLE = "read committed", "repeatable read", "serializable"
 SNAPSHOTS = "innodb_snapshot_isolation"
 ALL = READ_COMMITTED, REPEATABLE_READ, SERIALIZABLE
@@ -42,7 +43,9 @@ SHARED = (
     (
         "the column op keeps the number of the transaction's first operation",
         ALL,
-        ((TABLES, "value = {left}, txn = {no}, op = {op}", "value = {left}, txn = {no}, op = 1"),),
+        (
+            (TABLES, "{value} = {left}, txn = {no}, op = {op}", "{value} = {left}, txn = {no}, op = 1"),
+        ),
     ),
     (
         "an update that leaves the value as it is isn't noted as a write",
@@ -66,7 +69,9 @@ SHARED = (
     (
         "the server gets another result than the script has",
         ALL,
-        ((TABLES, "value = {left}, txn", "value = 1 + {left}, txn"),),
+        (
+            (TABLES, "{value} = {left}, txn", "{value} = 1 + {left}, txn"),
+        ),
     ),
 )
 MUTATIONS = {
@@ -146,7 +151,7 @@ MUTATIONS = {
                 (
                     MARIADB,
                     "looked, changed = self.noting(connection, done)",
-                    "looked = self.select(connection, statement, name, table)[1]\n"
+                    "looked = self.select(connection, statement, name, table).looked\n"
                     "        changed = list(self.noting(connection, done))[1]",
                 ),
             ),
@@ -165,17 +170,23 @@ MUTATIONS = {
         (
             "a view hasn't the rows that are gone",
             (READ_COMMITTED,),
-            ((MARIADB, 'f"where {statement.ids()} order', 'f"where gone = 0 and {statement.ids()} order'),),
+            (
+                (WITHOUT_RETURNING, 'f"where {statement.ids(sql)}{', 'f"where gone = 0 and {statement.ids(sql)}{'),
+            ),
         ),
         (
             "of a row that was looked at again the first note counts",
             (READ_COMMITTED,),
-            ((MARIADB, "for id, no, op in looked}", "for id, no, op in reversed(list(looked))}"),),
+            (
+                (WITHOUT_RETURNING, "in done.looked}", "in reversed(list(done.looked))}"),
+            ),
         ),
         (
             "an insert's view doesn't have its row",
             (READ_COMMITTED,),
-            ((MARIADB, "None, None, None, value)], looked", "None, None, None, value)], [(id, None, None)]"),),
+            (
+                (MARIADB, "None, None, None, value)], looked)", "None, None, None, value)], [(id, None, None)])"),
+            ),
         ),
         (
             "the level isn't asked for",
