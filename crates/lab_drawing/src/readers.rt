@@ -342,6 +342,14 @@ fn is_in_run(
     }
 }
 
+/// The same, with the dependencies of the history.
+fn is_in_history(alloc: Global, history: &History, walk: &[Edge]) -> Result<bool, NoMemory>
+    ensures { IfOk result (λ is_in. is_in ≡ is_in_run history.now walk.now) }
+{
+    let ties = Dependence::of(alloc, history)?;
+    is_in_run(alloc, history, &ties, walk)
+}
+
 /// Whether a cycle is a read-only anomaly.
 pub fn is_read_only_anomaly(
     alloc: Global,
@@ -350,9 +358,10 @@ pub fn is_read_only_anomaly(
 ) -> Result<bool, NoMemory>
     ensures { IfOk result (λ is_one. is_one ≡ is_read_only_anomaly history.now walk.now) }
 {
-    if !may_be(history, walk) {
-        return Ok(false);
+    let may = may_be(history, walk);
+    if may {
+        is_in_history(alloc, history, walk)
+    } else {
+        Ok(false)
     }
-    let ties = Dependence::of(alloc, history)?;
-    is_in_run(alloc, history, &ties, walk)
 }
