@@ -5,7 +5,7 @@ use Rattle.lab_history.specs.{History.{History}, Version.{ops_of, new_state}, de
 use Rattle.lab_deps.specs.declared.edge.Edge.{Edge}
 use Rattle.lab_drawing.specs.Anomalies.{Wrote, CanBePlaced, CanBeOrderedWithout, IsReadOnlyAnomaly}
 use Rattle.lab_drawing.specs.Cycles.{walk_phenomenon}
-use Rattle.lab_drawing.specs.Readers.{wrote_nothing, is_read_only, some_read_only, is_g2, may_be, count_of, leads, can_order, stands_in_the_way, some_stand_in_the_way, is_read_only_anomaly}
+use Rattle.lab_drawing.specs.Readers.{wrote_nothing, is_read_only, some_read_only, is_g2, may_be, count_of, leads, can_order, stands_in_the_way, some_stand_in_the_way, is_in_run, is_read_only_anomaly}
 use Rattle.lab_drawing.specs.declared.readers.Nodes.{Nodes, TheVariants.{Points, Without}}
 use Rattle.lab_drawing.proofs.{Orderables.{orders, places}, PairForms.{any_so}}
 
@@ -62,7 +62,7 @@ module _ (h : History) where
 
   pub read_only_anomaly_so : (walk : List Edge) → is_read_only_anomaly h walk ≡ true → IsReadOnlyAnomaly h walk
   read_only_anomaly_so walk is =
-      let parts = both_true (may_be h walk) (cond (can_order h Points) (some_stand_in_the_way h walk) false) is in
+      let parts = both_true (may_be h walk) (is_in_run h walk) is in
       let may = and_parts (is_g2 (walk_phenomenon walk)) (some_read_only h walk) parts.0 in
       let more = both_true (can_order h Points) (some_stand_in_the_way h walk) parts.1 in (
         may.0,
@@ -72,7 +72,7 @@ module _ (h : History) where
 
   pub so_read_only_anomaly : (walk : List Edge) → IsReadOnlyAnomaly h walk → is_read_only_anomaly h walk ≡ true
   so_read_only_anomaly walk (two, placed, some) =
-      so_both (may_be h walk) (cond (can_order h Points) (some_stand_in_the_way h walk) false)
+      so_both (may_be h walk) (is_in_run h walk)
       (and_from (is_g2 (walk_phenomenon walk)) (some_read_only h walk) two
       (list_any-from_Any (λ (e : Edge). is_read_only h e.from) walk (any_so InTheWay (λ e. is_read_only h e.from ≡ true) walk (λ e way. so_read_only e.from way.0) some)))
       (so_both (can_order h Points) (some_stand_in_the_way h walk) (orders (leads h Points) (count_of h Points) placed)

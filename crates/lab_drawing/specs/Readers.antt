@@ -104,10 +104,14 @@ stands_in_the_way h n = cond (is_read_only h n) (can_order h (Without n)) false
 abbrev pub some_stand_in_the_way : History → List Edge → Bool
 some_stand_in_the_way h walk = list_any (λ e. stands_in_the_way h e.from) walk
 
+-- whether the history is a snapshot run, and some transaction of a cycle stands in the way of an order
+abbrev pub is_in_run : History → List Edge → Bool
+is_in_run h walk = cond (can_order h Points) (some_stand_in_the_way h walk) false
+
 -- whether a cycle may be a read-only anomaly
 abbrev pub may_be : History → List Edge → Bool
 may_be h walk = is_g2 (walk_phenomenon walk) && some_read_only h walk
 
 -- whether a cycle is a read-only anomaly: it has a transaction that wrote nothing, the history is a snapshot run, and the others can be ordered; each cycle of a snapshot run has two anti-dependencies at least
 abbrev pub is_read_only_anomaly : History → List Edge → Bool
-is_read_only_anomaly h walk = cond (may_be h walk) (cond (can_order h Points) (some_stand_in_the_way h walk) false) false
+is_read_only_anomaly h walk = cond (may_be h walk) (is_in_run h walk) false

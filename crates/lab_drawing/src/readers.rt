@@ -5,7 +5,7 @@ ghost use Rattle.std.specs.List.{All, list_any};
 ghost use Rattle.lab_history.specs.Limits.{max_transactions};
 ghost use Rattle.lab_order.specs.Arrows.{nodes_of};
 ghost use Rattle.lab_drawing.specs.Dependence.{committed};
-ghost use Rattle.lab_drawing.specs.Readers.{is_nothing, wrote_nothing, is_read_only, some_read_only, is_g2, may_be, comes_before, is_before, is_led, count_of, leads, Grows, IsGraphOf, is_order, can_order, stands_in_the_way, some_stand_in_the_way, is_read_only_anomaly};
+ghost use Rattle.lab_drawing.specs.Readers.{is_nothing, wrote_nothing, is_read_only, some_read_only, is_g2, may_be, comes_before, is_before, is_led, count_of, leads, Grows, IsGraphOf, is_order, can_order, stands_in_the_way, some_stand_in_the_way, is_in_run, is_read_only_anomaly};
 
 use crate::cycles::walk_phenomenon;
 use crate::dependence::Dependence;
@@ -231,7 +231,8 @@ fn graph_without(
     let count = nodes.count(ties);
     let mut graph = Graph::new(alloc, count)?;
     for to in 0..count {
-        add_arrows_from(alloc, &mut graph, &nodes, ties, all.before(to), to)?;
+        let others = all.before(to);
+        add_arrows_from(alloc, &mut graph, &nodes, ties, others, to)?;
     }
     Ok(graph)
 }
@@ -314,11 +315,39 @@ fn some_stand_in_the_way(
     ensures { IfOk result (λ some. some ≡ some_stand_in_the_way history.now walk.now) }
 {
     for edge in walk {
-        if stands_in_the_way(alloc, history, ties, all, edge.from)? {
+        let stands = stands_in_the_way(alloc, history, ties, all, edge.from)?;
+        if stands {
             return Ok(true);
         }
     }
     Ok(false)
+}
+
+/// Whether the history is a snapshot run, and some transaction of a cycle stands in the way of an order.
+fn is_in_run(
+    alloc: Global,
+    history: &History,
+    ties: &Dependence<'_>,
+    walk: &[Edge],
+) -> Result<bool, NoMemory>
+    requires { ties.now ≡ history.now }
+    ensures { IfOk result (λ is_in. is_in ≡ is_in_run history.now walk.now) }
+{
+    let can = can_order(alloc, &Nodes::Points, ties)?;
+    if can {
+        let all = graph_of(alloc, &Nodes::All, ties)?;
+        some_stand_in_the_way(alloc, history, ties, &all, walk)
+    } else {
+        Ok(false)
+    }
+}
+
+/// The same, with the dependencies of the history.
+fn is_in_history(alloc: Global, history: &History, walk: &[Edge]) -> Result<bool, NoMemory>
+    ensures { IfOk result (λ is_in. is_in ≡ is_in_run history.now walk.now) }
+{
+    let ties = Dependence::of(alloc, history)?;
+    is_in_run(alloc, history, &ties, walk)
 }
 
 /// Whether a cycle is a read-only anomaly.
@@ -329,13 +358,10 @@ pub fn is_read_only_anomaly(
 ) -> Result<bool, NoMemory>
     ensures { IfOk result (λ is_one. is_one ≡ is_read_only_anomaly history.now walk.now) }
 {
-    if !may_be(history, walk) {
-        return Ok(false);
+    let may = may_be(history, walk);
+    if may {
+        is_in_history(alloc, history, walk)
+    } else {
+        Ok(false)
     }
-    let ties = Dependence::of(alloc, history)?;
-    if !can_order(alloc, &Nodes::Points, &ties)? {
-        return Ok(false);
-    }
-    let all = graph_of(alloc, &Nodes::All, &ties)?;
-    some_stand_in_the_way(alloc, history, &ties, &all, walk)
 }
