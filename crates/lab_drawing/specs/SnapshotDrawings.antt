@@ -20,15 +20,11 @@ snapshot_title h (places.Yes spans) walk = codes "Snapshot isolation kept"
 snapshot_title h (places.NoFault fault) walk = serial_title h (serial.NoFault fault)
 snapshot_title h (places.NoCycle points) walk = broken_title h walk
 
--- whether a history is a snapshot run, and why not
-abbrev pub snapshot_said : Places → List ℕ
-snapshot_said (places.Yes spans) = codes "yes"
-snapshot_said (places.NoFault fault) = codes "no " ++ fault_text fault
-snapshot_said (places.NoCycle points) = codes "no" ++ circle_text points
-
 -- its line of the report; a yes is without its timestamps
 abbrev pub snapshot_line : Places → List ℕ
-snapshot_line snapshot = line_text (codes "snapshot") (snapshot_said snapshot)
+snapshot_line (places.Yes spans) = line_text (codes "snapshot") (codes "yes")
+snapshot_line (places.NoFault fault) = line_text (codes "snapshot") (codes "no " ++ fault_text fault)
+snapshot_line (places.NoCycle points) = line_text (codes "snapshot") (codes "no" ++ circle_text points)
 
 -- what is drawn of it, with this line: nothing for a yes
 abbrev pub of_snapshot : History → List ℕ → Places → List Edge → Sketch
