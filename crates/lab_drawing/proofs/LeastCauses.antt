@@ -3,8 +3,7 @@ use Rattle.std.proofs.{Common.{◌≡◌, ℕ, ◌+◌, ◌<◌, true, false, Op
 use Rattle.std.specs.{Prelude.{◌↔◌, Contains, IfOk, IfSome}, Ordering.{is_eq, is_lt, ordering_reverse}, declared.cmp.Ordering.{Ordering, TheVariants.{Less, Equal, Greater}}}
 use Rattle.lab_history.specs.History.{History}
 use Rattle.lab_deps.{specs.{Edges.{IsEdge}, EdgeOrder.{edge_cmp}, KindSets.{among}, declared.edge.{Edge.{Edge}}}, proofs.EdgeOrders.{edges_total, same_edge}}
-use Rattle.lab_judge.specs.declared.places.Places.{Places}
-use Rattle.lab_judge.specs.declared.places.Places.TheVariants as places
+use Rattle.lab_judge.specs.declared.places.{Places.{Places}, Places.TheVariants as places}
 use Rattle.lab_drawing.specs.{SnapshotWalks.{IsLeastFor, AreLeastFor, IsSnapshotWalk, causes_round, edges_of}, declared.causes.Cause.{Cause}}
 
 -- the least of listed dependencies is the least of those that there are

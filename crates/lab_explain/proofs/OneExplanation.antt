@@ -3,8 +3,7 @@ use Rattle.std.proofs.Common.{◌≡◌, ℕ, List, ◌++◌, Option, Some, None
 use Rattle.lab_history.specs.History.{History}
 use Rattle.lab_judge.{proofs.OneJudgement.{one_judgement}, specs.declared.report.Report.{Report}}
 use Rattle.lab_streams.specs.{Reports.{ending_due}, declared.ending.Ending.{Ending}}
-use Rattle.lab_reports.specs.declared.{requirement.Requirement.{Requirement}, violation.Violation.{Violation}}
-use Rattle.lab_reports.specs.declared.violation.Violation.TheVariants as violation
+use Rattle.lab_reports.specs.declared.{requirement.Requirement.{Requirement}, violation.{Violation.{Violation}, Violation.TheVariants as violation}}
 use Rattle.lab_drawing.proofs.LeastCauses.{one_snapshot_walk}
 use Rattle.lab_explain.specs.{Answer.{ExplainsReport, Explains}, Promise.{shown_of, promise_line}, SnapshotPart.{snapshot_text}}
 

@@ -3,8 +3,7 @@ use Rattle.std.proofs.Common.{◌≡◌, List, Option, Some, None, sym, ap, ◌�
 use Rattle.lab_history.specs.History.{History}
 use Rattle.lab_deps.specs.declared.edge.Edge.{Edge}
 use Rattle.lab_judge.specs.declared.report.Report.{Report}
-use Rattle.lab_reports.specs.declared.{requirement.Requirement.{Requirement}, violation.Violation.{Violation}}
-use Rattle.lab_reports.specs.declared.violation.Violation.TheVariants as violation
+use Rattle.lab_reports.specs.declared.{requirement.Requirement.{Requirement}, violation.{Violation.{Violation}, Violation.TheVariants as violation}}
 use Rattle.lab_drawing.proofs.LeastCauses.{one_snapshot_walk}
 use Rattle.lab_explain.specs.{Focus.{Focus, IsShownWalk, IsFocusOf}, Promise.{shown_of}}
 

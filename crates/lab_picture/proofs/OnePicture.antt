@@ -3,8 +3,7 @@ use Rattle.std.proofs.Common.{◌≡◌, ℕ, List, Option, Some, None, sym, ap,
 use Rattle.lab_history.specs.History.{History}
 use Rattle.lab_judge.{proofs.OneJudgement.{one_judgement}, specs.declared.report.Report.{Report}}
 use Rattle.lab_streams.specs.declared.ending.Ending.{Ending}
-use Rattle.lab_reports.specs.declared.{phenomenon.Phenomenon.{Phenomenon}, violation.Violation.{Violation}}
-use Rattle.lab_reports.specs.declared.violation.Violation.TheVariants as violation
+use Rattle.lab_reports.specs.declared.{phenomenon.Phenomenon.{Phenomenon}, violation.{Violation.{Violation}, Violation.TheVariants as violation}}
 use Rattle.lab_drawing.{specs.{declared.drawing.Arrow.{Arrow}, Sketch.{drawing_of}, SnapshotDrawings.{snapshot_drawing}}, proofs.LeastCauses.{one_snapshot_walk}}
 use Rattle.lab_picture.{specs.{Drawn.{IsPictureWith, PicturesReport}, Forward.{AreForward, arrows_in, near_pairs, yes_columns, with_forward}, Picture.{IsPictureOf, Pictures}, Svg.{svg_of}}, proofs.LeastOfPairs.{one_list}}
 
