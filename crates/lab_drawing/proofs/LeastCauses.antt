@@ -4,7 +4,7 @@ use Rattle.std.specs.{Prelude.{◌↔◌, Contains, IfOk, IfSome}, Ordering.{is_
 use Rattle.lab_history.specs.History.{History}
 use Rattle.lab_deps.{specs.{Edges.{IsEdge}, EdgeOrder.{edge_cmp}, KindSets.{among}, declared.edge.{Edge.{Edge}}}, proofs.EdgeOrders.{edges_total, same_edge}}
 use Rattle.lab_judge.specs.declared.places.{Places.{Places}, Places.TheVariants as places}
-use Rattle.lab_drawing.specs.{SnapshotWalks.{IsLeastFor, AreLeastFor, IsSnapshotWalk, causes_round, edges_of}, declared.causes.Cause.{Cause}}
+use Rattle.lab_drawing.specs.{SnapshotWalks.{IsLeastFor, AreLeastFor, IsSnapshotWalk, causes_round, edges_of}, declared.snapshot_walk.Cause.{Cause}}
 
 -- the least of listed dependencies is the least of those that there are
 pub least_of_listed : {F : Type 0} (h : History) (es : List Edge) (c : Cause) (r : Result (Option Edge) F) → ((e : Edge) → Contains es e ↔ IsEdge h e)
