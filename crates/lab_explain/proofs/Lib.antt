@@ -7,4 +7,3 @@ mod LastCommits
 mod ToldWalks
 mod TrueFaults
 mod OneExplanation
-pub mod OneFocus
