@@ -20,7 +20,7 @@ use crate::names::all_names;
 use crate::playing::{run_compare, run_play};
 use crate::streams::Streams;
 use crate::told::told;
-use crate::wanting::{required, wanted};
+use crate::wanting::wanted;
 use clap::ArgMatches;
 use lab_case_commands::{case, matrix, matrix_at};
 use lab_command_line::{Names, command};
@@ -30,7 +30,7 @@ use lab_hints::{Choices, note_words, shown_text};
 use lab_matrix::CaseName;
 use lab_page::page;
 use lab_picture::picture;
-use lab_reports::Violation;
+use lab_reports::{Phenomenon, Violation};
 use lab_shrink_commands::{Progress, shrink};
 use lab_streams::{Ending, RunFault, status};
 use std::alloc::{AllocError, Global};
@@ -82,6 +82,11 @@ pub fn ended(ending: Result<Ending, RunFault>) -> Result<u8, RunFault> {
     Ok(status(Ok(ending?)))
 }
 
+/// The phenomenon that is asked for, if there is one.
+fn asked(matches: &ArgMatches<'_>) -> Option<Phenomenon> {
+    matches.get_str("phenomenon").and_then(Phenomenon::named)
+}
+
 /// The violation that is asked for, if there is one.
 fn violation_asked(matches: &ArgMatches<'_>) -> Option<Violation> {
     matches.get_str("phenomenon").and_then(Violation::named)
@@ -112,18 +117,6 @@ fn run_matrix<W: Write>(
     ended(matrix_at(alloc, writer, &levels))
 }
 
-/// Runs `explain`, and answers the exit status.
-fn run_explain<R: Read, W: Write, N: Write>(
-    alloc: Global,
-    reader: &mut R,
-    writer: &mut W,
-    notes: &mut N,
-    matches: &ArgMatches<'_>,
-) -> Result<u8, RunFault> {
-    let asked = violation_asked(matches);
-    ended(explain(alloc, reader, writer, notes, asked, required(matches)))
-}
-
 /// Runs `page`, and answers the exit status.
 fn run_page<R: Read, W: Write, N: Write>(
     alloc: Global,
@@ -144,8 +137,7 @@ fn run_page<R: Read, W: Write, N: Write>(
         reader,
         writer,
         notes,
-        violation_asked(matches),
-        required(matches),
+        asked(matches),
         shown.as_bytes(),
     ))
 }
@@ -207,8 +199,8 @@ fn run_subcommand<T: Files + Threads + Wait + Sync, R: Read, W: Write, N: Write>
         "judge" => ended(judge(alloc, reader, writer, notes, wanted(more))),
         "case" => run_case(alloc, writer, more),
         "matrix" => run_matrix(alloc, writer, more),
-        "picture" => ended(picture(alloc, reader, writer, notes, violation_asked(more))),
-        "explain" => run_explain(alloc, reader, writer, notes, more),
+        "picture" => ended(picture(alloc, reader, writer, notes, asked(more))),
+        "explain" => ended(explain(alloc, reader, writer, notes, asked(more))),
         "page" => run_page(alloc, reader, writer, notes, more),
         _ => Ok(ARGUMENTS_REFUSED),
     }
@@ -259,7 +251,7 @@ fn refused(
     if status == ARGUMENTS_REFUSED {
         let choices = Choices {
             engines: &names.engines,
-            phenomena: &names.violations,
+            phenomena: &names.phenomena,
             requirements: &names.requirements,
             tellings: &names.tellings,
         };
