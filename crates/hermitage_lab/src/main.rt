@@ -240,6 +240,25 @@ fn report_shown(
     }
 }
 
+/// The names that hints know for the options of the given subcommand.
+fn choices_of<'a>(given: &[String], names: &'a Names) -> Choices<'a> {
+    let subcommand = given.get(1).map_or("", |word| word.as_str());
+    Choices {
+        engines: names.engines.as_slice(),
+        phenomena: if subcommand == "shrink" {
+            names.violations.as_slice()
+        } else {
+            names.phenomena.as_slice()
+        },
+        requirements: if matches!(subcommand, "explain" | "page") {
+            &[]
+        } else {
+            names.requirements.as_slice()
+        },
+        tellings: names.tellings.as_slice(),
+    }
+}
+
 /// What arguments that name no run come to: what there is to report, and what to type instead.
 fn refused(
     rt: &HostRuntime,
@@ -249,13 +268,7 @@ fn refused(
 ) -> Result<u8, RunFault> {
     let status = report_shown(rt, error, given, names)?;
     if status == ARGUMENTS_REFUSED {
-        let choices = Choices {
-            engines: &names.engines,
-            phenomena: &names.phenomena,
-            requirements: &names.requirements,
-            tellings: &names.tellings,
-        };
-        note_words(rt.alloc(), given, choices, &mut rt.stderr());
+        note_words(rt.alloc(), given, choices_of(given, names), &mut rt.stderr());
     }
     Ok(status)
 }

@@ -1,10 +1,10 @@
 -- The least dependencies for the steps of a cycle of starts and commits: what is asked for one after another, and that they are one list.
-use Rattle.std.proofs.{Common.{◌≡◌, ℕ, ◌+◌, ◌<◌, true, false, Option, Some, None, Result, Ok, Err, List, [], ◌∷◌, ◌++◌, length, take, get_or, refl, sym, ap, ◌∙◌, subst}, lemmas.{Bool.{false≢true}, List.{take_more}}}
+use Rattle.std.proofs.{Common.{◌≡◌, ℕ, ◌+◌, ◌<◌, Bool, true, false, Option, Some, None, Result, Ok, Err, List, [], ◌∷◌, ◌++◌, length, take, get_or, refl, sym, ap, ◌∙◌, subst}, lemmas.{Bool.{false≢true}, List.{take_more}}}
 use Rattle.std.specs.{Prelude.{◌↔◌, Contains, IfOk, IfSome}, Ordering.{is_eq, is_lt, ordering_reverse}, declared.cmp.Ordering.{Ordering, TheVariants.{Less, Equal, Greater}}}
 use Rattle.lab_history.specs.History.{History}
 use Rattle.lab_deps.{specs.{Edges.{IsEdge}, EdgeOrder.{edge_cmp}, KindSets.{among}, declared.edge.{Edge.{Edge}}}, proofs.EdgeOrders.{edges_total, same_edge}}
 use Rattle.lab_judge.specs.declared.places.{Places.{Places}, Places.TheVariants as places}
-use Rattle.lab_drawing.specs.{SnapshotWalks.{IsLeastFor, AreLeastFor, IsSnapshotWalk, causes_round, edges_of}, declared.snapshot_walk.Cause.{Cause}}
+use Rattle.lab_drawing.specs.{SnapshotWalks.{IsLeastFor, AreLeastFor, IsSnapshotWalk, causes_round, edges_of}, declared.causes.Cause.{Cause}}
 
 -- the least of listed dependencies is the least of those that there are
 pub least_of_listed : {F : Type 0} (h : History) (es : List Edge) (c : Cause) (r : Result (Option Edge) F) → ((e : Edge) → Contains es e ↔ IsEdge h e)

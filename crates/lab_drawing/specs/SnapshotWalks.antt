@@ -16,7 +16,7 @@ use Rattle.lab_judge.specs.declared.places.Point.TheVariants.{Start, Commit}
 use Rattle.lab_judge.specs.declared.places.Places.{Places}
 use Rattle.lab_judge.specs.declared.places.Places.TheVariants as places
 use Rattle.lab_drawing.specs.Making.{listed}
-use Rattle.lab_drawing.specs.declared.snapshot_walk.Cause.{Cause}
+use Rattle.lab_drawing.specs.declared.causes.Cause.{Cause}
 
 -- what asks for the start of one transaction before the commit of another; nothing has to ask for it where the two are one
 abbrev pub missed : ℕ → ℕ → List Cause

@@ -26,9 +26,12 @@ pub struct Dependence<'a> {
 impl<'a> Model for Dependence<'a> {
     ghost use Rattle.std.specs.Prelude.{◌≡◌};
     ghost use Rattle.lab_history.specs.History as spec;
+    ghost use Rattle.lab_history.specs.contracts.parts.Parts as stored;
     ghost use Rattle.lab_drawing.specs.Dependence.{committed, AreKnown};
 
     ghost Value = { spec.History };
+
+    ghost coded = { stored.the_row.coded };
 
     ghost view = { λ d. d.history.now };
 

@@ -1,5 +1,5 @@
 use Rattle.lab_drawing.proofs.LeastCauses.{one_more}
-use Rattle.lab_drawing.proofs.snapshot_walk.least_for_all.Goals as goal
+use Rattle.lab_drawing.proofs.causes.least_for_all.Goals as goal
 
 pub loop-cause-preserved : goal.loop-cause-preserved
 loop-cause-preserved c =

@@ -1,5 +1,5 @@
 use Rattle.lab_drawing.proofs.LeastCauses.{least_of_listed}
-use Rattle.lab_drawing.proofs.snapshot_walk.least_for.Goals as goal
+use Rattle.lab_drawing.proofs.causes.least_for.Goals as goal
 
 pub returns : goal.returns
 returns c =
