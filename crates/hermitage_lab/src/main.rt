@@ -268,7 +268,12 @@ fn refused(
 ) -> Result<u8, RunFault> {
     let status = report_shown(rt, error, given, names)?;
     if status == ARGUMENTS_REFUSED {
-        note_words(rt.alloc(), given, choices_of(given, names), &mut rt.stderr());
+        note_words(
+            rt.alloc(),
+            given,
+            choices_of(given, names),
+            &mut rt.stderr(),
+        );
     }
     Ok(status)
 }

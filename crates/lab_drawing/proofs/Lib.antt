@@ -22,4 +22,3 @@ mod KnownOrders
 mod ReaderForms
 mod NicknameForms
 pub mod SaidNames
-pub mod LeastCauses

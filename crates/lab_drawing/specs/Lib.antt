@@ -19,5 +19,3 @@ pub mod Sketch
 pub mod ArrowLaws
 pub mod Text
 pub mod Rows
-pub mod SnapshotWalks
-pub mod SnapshotDrawings
