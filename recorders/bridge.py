@@ -161,7 +161,8 @@ class Connection:
             except (OSError, ValueError):
                 answer = []
         if not answer:
-            raise Unreachable(f"java has ended: {self.bridge.last_said()}" if self.bridge.has_ended() else "the connection is lost")
+            has_ended = self.bridge.has_ended()
+            raise Unreachable(f"java has ended: {self.bridge.last_said()}" if has_ended else "the connection is lost")
         *rows, end = answer
         if end.startswith("!"):
             raise (Unreachable if end[1:].startswith(LOST) else Refused)(end[1:])

@@ -82,11 +82,17 @@ def end(*_):
 
 @contextmanager
 def uninterrupted():
-    """Ignores interrupts, so that cleaning up isn't interrupted."""
-    before = {name: signal.signal(name, signal.SIG_IGN) for name in (signal.SIGINT, signal.SIGTERM)}
-    yield
-    for name, how in before.items():
-        signal.signal(name, how)
+    """Puts interrupts off, so that cleaning up isn't interrupted."""
+    interrupts = []
+    names = signal.SIGINT, signal.SIGTERM
+    before = {name: signal.signal(name, lambda *_: interrupts.append(True)) for name in names}
+    try:
+        yield
+    finally:
+        for name, how in before.items():
+            signal.signal(name, how)
+    if interrupts:
+        raise KeyboardInterrupt
 
 
 def warn(what):

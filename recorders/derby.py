@@ -22,7 +22,7 @@ class Derby(OverJdbc):
     # (It has no `cascade`.)
     DROPPING = "drop table {table}", "drop function {room}note", "drop schema {schema} restrict"
 
-    def version(self):
+    def version(self) -> str:
         """(Debian's build has no number, which is printed as `(???)`.)"""
         return super().version().partition(" ")[0]
 

@@ -1,5 +1,8 @@
 """The dialect of HSQLDB, whose levels depend on its transaction model: `hsqldb.tx=` in the URL, or else locks."""
+from __future__ import annotations
+
 import re
+from argparse import Namespace
 
 from over_jdbc import OverJdbc
 from recording import Unreachable
@@ -11,7 +14,7 @@ BY_LOCKS = {"read committed": "PL-2", "repeatable read": "PL-3", "serializable":
 BY_SNAPSHOTS = {"read committed": "PL-2", "repeatable read": "SI", "serializable": "SI"}
 
 
-def model_of(url):
+def model_of(url: str) -> str:
     named = re.search(r";hsqldb\.tx=(\w+)", url, re.I)
     return named[1].upper() if named else LOCKS
 
@@ -26,14 +29,14 @@ class Hsqldb(OverJdbc):
     WAITING = "org.hsqldb.lib.CountUpDownLatch.await"
 
     @classmethod
-    def levels(cls, words):
+    def levels(cls, words: Namespace) -> dict[str, str]:
         return BY_SNAPSHOTS if model_of(words.url) == MVCC else BY_LOCKS
 
     @property
-    def NAME(self):
+    def NAME(self) -> str:
         return f"HSQLDB ({model_of(self.words.url)})"
 
-    def make_tables(self):
+    def make_tables(self) -> None:
         ((model,),) = self.look("values transaction_control()")
         if model != model_of(self.words.url):
             raise Unreachable(f"the database has the transaction model {model}: say ;hsqldb.tx={model.lower()} in its URL")

@@ -6,10 +6,17 @@ that it replaces in the row's own columns; they are found again by the statement
 and didn't change are known if the database lets the client define a function that notes them within the statement: one
 that Java code has (`over_jdbc.py`), or MySQL's user variables (`mariadb`). Otherwise they are read after the statement.
 """
-from dataclasses import dataclass
+from __future__ import annotations
 
-from recording import Refused, Unreachable, operation_of
+from dataclasses import dataclass
+from typing import Any
+
+from recording import Operation, Refused, Transaction, Unreachable, operation_of
+from statement import Statement
 from tables import COLUMNS, Tables, change_of, version
+
+Row = list[Any]  # of a result: numbers, texts and None
+Name = tuple[int, int]  # of a version
 
 
 @dataclass
@@ -17,8 +24,8 @@ class Done:
     """What a statement did: entries of `listed` for operation_of, and the id and the version of each row that it looked
     at."""
 
-    listed: list
-    looked: list
+    listed: list[Any]
+    looked: list[Any]
     remark: str = ""
 
 
@@ -39,7 +46,7 @@ class WithoutReturning(Tables):
     COLUMNS, PRESENT = f"{COLUMNS}, gone integer default 0 not null", "gone = 0"
     ORDER, STABLE, INSERTS_FIRST, DUPLICATE = "", (), True, "23505"
 
-    def do(self, connection, txn, statement):
+    def do(self, connection: Any, txn: Transaction, statement: Statement) -> Operation:
         call = getattr(self, statement.kind)
         done = call(connection, statement, txn.next_version(), self.table(statement.table))
         seen = {(statement.table, id): version(no, op) for id, no, op in done.looked}
@@ -47,7 +54,7 @@ class WithoutReturning(Tables):
         op.remark = done.remark
         return op
 
-    def select(self, connection, statement, _, table):
+    def select(self, connection: Any, statement: Statement, _: Name, table: str) -> Done:
         """Reads the rows that the statement alone would read, so that it takes the same locks."""
         sql = self.SQL
         matches = f"case when gone = 0 and ({statement.condition(sql)}) then 1 else 0 end"
@@ -55,10 +62,10 @@ class WithoutReturning(Tables):
         lines = self.ask(connection, f"select id, {sql.value}, txn, op, {matches} from {table} {which}")
         return Done([[*line[:4], None] for line in lines if line[4]], [(id, no, op) for id, _, no, op, _ in lines])
 
-    def delete(self, connection, statement, name, table):
+    def delete(self, connection: Any, statement: Statement, name: Name, table: str) -> Done:
         return self.update(connection, statement, name, table)
 
-    def update(self, connection, statement, name, table):
+    def update(self, connection: Any, statement: Statement, name: Name, table: str) -> Done:
         """An update, or a delete, which marks its rows as gone."""
         sql, gone = self.SQL, ", gone = 1" if statement.kind == "delete" else ""
         looks = self.looks(f"gone = 0 and ({statement.condition(sql)})")
@@ -76,16 +83,16 @@ class WithoutReturning(Tables):
             raise Unreachable(f"the statement changed {count} rows, and {len(listed)} have its version")
         return Done(listed, others, remark)
 
-    def looks(self, condition):
+    def looks(self, condition: str) -> str:
         """The condition of an update, in which the rows that it looks at are noted, if the database can do that."""
         return condition
 
-    def changes(self, connection, question):
+    def changes(self, connection: Any, question: str) -> tuple[int, list[Row] | None]:
         """Runs an update; returns how many rows it changed, and the noted rows, each with its id, its version and whether
         it matched. They are None if the database can't note them."""
         return self.ask(connection, question)[0][0], None
 
-    def read_again(self, connection, name, table, which):
+    def read_again(self, connection: Any, name: Name, table: str, which: str) -> tuple[list[Any], list[Row]]:
         """The rows that a statement changed, as entries of `listed`; and the versions of the other rows."""
         names = f"id, txn, op, old_value, old_txn, old_op, {self.SQL.value}, gone"
         lines = self.ask(connection, f"select {names} from {table} where {which}")
@@ -93,13 +100,13 @@ class WithoutReturning(Tables):
         others = [line[:3] for line in lines if tuple(line[1:3]) != name]
         return [(id, *old, None if gone else value) for id, _, _, *old, value, gone in own], others
 
-    def remark_on(self, others):
+    def remark_on(self, others: list[Row]) -> str:
         if not others or self.words.level in self.STABLE:
             return ""
         rows = ", ".join(str(id) for id, _, _ in others)
         return f"row {rows}: what the statement saw was read after it, and may be newer"
 
-    def insert(self, connection, statement, name, table):
+    def insert(self, connection: Any, statement: Statement, name: Name, table: str) -> Done:
         """A row that is gone comes back, as a new version."""
         (id, value), listed = statement.row, [(statement.row[0], None, None, None, statement.row[1])]
         if not self.INSERTS_FIRST and self.comes_back(connection, statement.row, name, table):
@@ -114,23 +121,23 @@ class WithoutReturning(Tables):
                 raise
         return Done(listed, self.replaced(connection, id, table))
 
-    def comes_back(self, connection, row, name, table):
+    def comes_back(self, connection: Any, row: tuple[int, int], name: Name, table: str) -> bool:
         """Whether a row was gone, and came back."""
         (id, left), (no, op), value = row, name, self.SQL.value
         change = f"old_value = {value}, old_txn = txn, old_op = op, {value} = {left}, txn = {no}, op = {op}, gone = 0"
-        return self.ask(connection, f"update {table} set {change} where id = {id} and gone = 1")[0][0]
+        return bool(self.ask(connection, f"update {table} set {change} where id = {id} and gone = 1")[0][0])
 
-    def replaced(self, connection, id, table):
+    def replaced(self, connection: Any, id: int, table: str) -> list[Any]:
         """The version of a row before it came back."""
         return [(id, *old) for old in self.ask(connection, f"select old_txn, old_op from {table} where id = {id}")]
 
-    def rows(self):
-        found = {}
+    def rows(self) -> dict[tuple[str, int], int]:
+        found: dict[tuple[str, int], int] = {}
         for name in self.script.tables:
             question = f"select id, {self.SQL.value} from {self.table(name)} where {self.PRESENT}"
             found.update({(name, id): value for id, value in self.look(question)})
         return found
 
 
-def among(ids):
+def among(ids: list[int]) -> str:
     return f"id in ({', '.join(map(str, ids))})"
