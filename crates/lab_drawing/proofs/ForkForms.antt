@@ -1,5 +1,5 @@
 -- Tests for long forks and phantoms find them.
-use Rattle.std.{proofs.{Common.{◌≡◌, ◌⊎◌, inl, inr, ℕ, Bool, true, false, ◌&&◌, ◌||◌, not, List, [], ◌∷◌, length, get_or, refl, sym, ap, ◌∙◌, arith}, lemmas.{Bool.{false≢true, true≢false, and_parts, and_from, or_cases, or_left, or_right, not-true, not_from_false}, List.Folds.{Any-from_list_any, list_any-from_Any}}}, specs.List.{list_any, Any}}
+use Rattle.std.{proofs.{Common.{◌≡◌, ◌⊎◌, inl, inr, ℕ, Bool, true, false, ◌||◌, not, List, [], ◌∷◌, length, get_or, refl, sym, ap, ◌∙◌, arith}, lemmas.{Bool.{false≢true, true≢false, and_parts, and_from, or_cases, or_left, or_right, not-true, not_from_false}, List.Folds.{Any-from_list_any, list_any-from_Any}}}, specs.List.{Any}}
 use Rattle.lab_table.specs.Row.{Row}
 use Rattle.lab_history.specs.History.{History}
 use Rattle.lab_deps.specs.declared.edge.{Edge.{Edge}, Kind.{Kind, TheVariants.{Write, ItemRead, PredicateRead, ItemAnti, PredicateAnti}}}

@@ -1,10 +1,10 @@
 -- The dependencies of a sound history are those that the tests of its operations find.
-use Rattle.std.{proofs.{Common.{◌≡◌, ◌≢◌, ◌⊎◌, inl, inr, ℕ, zero, suc, ◌==◌, Bool, true, false, ◌&&◌, ◌||◌, not, cond, Some, List, [], ◌∷◌, refl, sym, ap, ◌∙◌, subst}, lemmas.{Bool.{false≢true, true≢false, and_parts, and_from, or_cases, or_left, or_right, not-true, not_from_false, eqb-true, eq-eqb}, Option.{none-some, same_Some}}}, specs.{Prelude.{◌↔◌, Contains, slice_get}, List.{list_any}}}
+use Rattle.std.{proofs.{Common.{◌≡◌, ◌≢◌, ◌⊎◌, inl, inr, ℕ, zero, suc, ◌==◌, Bool, true, false, ◌&&◌, ◌||◌, not, cond, Some, List, [], ◌∷◌, refl, sym, ap, ◌∙◌}, lemmas.{Bool.{false≢true, true≢false, and_parts, and_from, or_cases, or_left, or_right, not-true, not_from_false, eqb-true, eq-eqb}, Option.{none-some, same_Some}}}, specs.{Prelude.{◌↔◌, Contains, slice_get}}}
 use Rattle.lab_table.{specs.Row.{Row}, proofs.Members.{member_at}}
 use Rattle.lab_history.specs.{History.{History}, Version.{IsCommitted, ops_of, outcome_of, installers, place_in}, declared.operation.Op.{Op}}
 use Rattle.lab_deps.specs.{Edges.{Depends, IsEdge}, KindBits.{edge_of}, KindSets.{among, is_flow, is_anti}, KindsBetween.{KindsBetween}, Soundness.{IsSound, Stands, has_committed}, declared.{edge.{Edge.{Edge}, Kind.{Kind, TheVariants.{Write, ItemRead, PredicateRead, ItemAnti, PredicateAnti}}}, fault.LocalFault.TheVariants.{InstallOrder}, kinds.{Kinds.{Kinds}, TheConstants.Kinds.{FLOW, ANTI}}}}
 use Rattle.lab_deps.proofs.{Found.{committed as is_committed}, NamedKinds.{flow_has, antis_has}}
-use Rattle.lab_drawing.specs.{ArrowLaws.{MakesAt}, Dependence.{depends_at, is_tied, are_two, flows, passes}, Forks.{follows, depends}, Making.{anti_first, makes}}
+use Rattle.lab_drawing.specs.{Dependence.{depends_at, is_tied, are_two, flows, passes}, Forks.{follows, depends}, Making.{anti_first, makes}}
 use Rattle.lab_drawing.proofs.{InstalledRows.{one_found}, MadeDependencies.{dependencies_made}, SameTests.{same_test}, Orderables.{some_passes}, RowEntries.{any_row, row_any}}
 use Rattle.lab_drawing.proofs.MadeArrows as made
 use Rattle.std.proofs.lemmas.List.Folds.{Any-from_list_any}

@@ -1,5 +1,5 @@
 -- What the order of a graph says of whether its nodes can be ordered.
-use Rattle.std.proofs.{Common.{◌≡◌, ◌⊎◌, inl, inr, ℕ, ◌<◌, Bool, true, false, ◌&&◌, List, [], ◌∷◌, sym, ◌∙◌, subst}, lemmas.{Bool.{and_parts, and_from, ltb-true, lt-ltb}, List.Elements.{Contains-append_cases}}}
+use Rattle.std.proofs.{Common.{◌≡◌, inl, inr, ℕ, ◌<◌, Bool, true, false, ◌&&◌, List, [], ◌∷◌, sym, ◌∙◌, subst}, lemmas.{Bool.{and_parts, and_from, ltb-true, lt-ltb}, List.Elements.{Contains-append_cases}}}
 use Rattle.std.specs.Prelude.{Contains, nat_lt}
 use Rattle.lab_table.proofs.Members.{no_member, only_member}
 use Rattle.lab_order.specs.{Arrows.{Arrows, has_arrow, IsArrow}, Order.{position, IsOrder, IsCircle, IsOrdered}, Trails.{IsTrailBy}, declared.ordering.Ordered.{Ordered, TheVariants.{Order, Circle}}}

@@ -1,5 +1,5 @@
 -- A nickname's test finds the form that the nickname is for.
-use Rattle.std.{proofs.{Common.{◌≡◌, ℕ, true, List, arith, refl}, lemmas.List.Elements.{All-contains}}, specs.Prelude.{Contains, filter}}
+use Rattle.std.{proofs.{Common.{◌≡◌, true, List, arith, refl}, lemmas.List.Elements.{All-contains}}, specs.Prelude.{Contains}}
 use Rattle.std.proofs.lemmas.List.Elements.{filter_passes}
 use Rattle.lab_history.specs.History.{History}
 use Rattle.lab_deps.specs.declared.edge.Edge.{Edge}

@@ -1,6 +1,6 @@
 -- Nodes can be ordered exactly if they have places along which every arrow points forward, and never if they have a ring.
-use Rattle.std.proofs.{Common.{◌≡◌, ◌⊎◌, inl, inr, ℕ, zero, suc, ◌+◌, ◌<◌, ◌≤◌, ◌==◌, Bool, true, false, ◌||◌, cond, List, [], ◌∷◌, length, refl, sym, ap, ◌∙◌, subst, arith}, lemmas.{Bool.{false≢true, true≢false, eqb-true, eq-eqb, or_cases, or_left, or_right}, List.{Elements.{Contains-append_cases}, Folds.{Any-from_list_any, list_any-from_Any}}}}
-use Rattle.std.specs.{Prelude.{Contains, filter, slice_index_or}, List.{list_any}}
+use Rattle.std.proofs.{Common.{◌≡◌, ◌⊎◌, inl, inr, ℕ, zero, suc, ◌+◌, ◌<◌, ◌≤◌, ◌==◌, Bool, true, false, cond, List, [], ◌∷◌, length, refl, sym, ap, ◌∙◌, subst, arith}, lemmas.{Bool.{false≢true, true≢false, eqb-true, eq-eqb}, List.{Elements.{Contains-append_cases}, Folds.{Any-from_list_any, list_any-from_Any}}}}
+use Rattle.std.specs.{Prelude.{Contains, filter}, List.{list_any}}
 use Rattle.lab_order.specs.Trails.{IsTrailBy, IsRing}
 use Rattle.lab_table.proofs.Members.{no_member, first_member, later_member, only_member}
 use Rattle.lab_drawing.specs.Orderable.{below, are_none, is_led_to, led_to, left_after, is_orderable, HasPlaces}

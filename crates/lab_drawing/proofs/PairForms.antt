@@ -1,5 +1,5 @@
 -- Tests for anomalies of two transactions find them.
-use Rattle.std.{proofs.{Common.{◌≡◌, ◌≢◌, ◌⊎◌, inl, inr, ℕ, ◌<◌, Bool, true, false, ◌&&◌, ◌||◌, Option, Some, None, List, refl, sym, ap, ◌∙◌, subst}, lemmas.{Bool.{false≢true, and_parts, and_from, or_cases, or_left, or_right, ltb-true, lt-ltb}, List.Folds.{Any-from_list_any, list_any-from_Any}}}, specs.{Prelude.{nat_lt, filter, Contains}, List.{list_any, Any}}}
+use Rattle.std.{proofs.{Common.{◌≡◌, ◌⊎◌, inl, inr, ℕ, Bool, true, false, Option, Some, None, List, refl, ap, ◌∙◌}, lemmas.{Bool.{false≢true, and_parts, and_from, or_cases, or_left, or_right, ltb-true, lt-ltb}, List.Folds.{Any-from_list_any, list_any-from_Any}}}, specs.{Prelude.{nat_lt, filter, Contains}, List.{list_any, Any}}}
 use Rattle.lab_table.specs.Row.{Row}
 use Rattle.lab_history.specs.{History.{History}, Version.{ops_of, installers, place_in}}
 use Rattle.lab_deps.specs.declared.edge.{Edge.{Edge}, Kind.TheVariants.{ItemAnti}}
@@ -7,7 +7,7 @@ use Rattle.lab_drawing.specs.Making.{makes}
 use Rattle.lab_drawing.specs.Pairs.{overwrites, loses_at, loses, rereads, misses, is_pair, is_neighbour, has_pair}
 use Rattle.lab_drawing.specs.Reads.{read_older, read_newer, older_rows, newer_rows}
 use Rattle.lab_drawing.specs.Written.{rows_by}
-use Rattle.lab_drawing.specs.Anomalies.{Wrote, ReadBefore, ReadAfter, IsLostUpdate, IsReadSkew, IsFuzzyRead, Misses, IsWriteSkew, HasPair}
+use Rattle.lab_drawing.specs.Anomalies.{Wrote, IsLostUpdate, IsReadSkew, IsFuzzyRead, Misses, IsWriteSkew, HasPair}
 use Rattle.lab_drawing.specs.declared.pairs.Pair.{Pair}
 use Rattle.lab_drawing.specs.declared.pairs.Pair.TheVariants as pair
 use Rattle.lab_drawing.proofs.{Orderables.{passed, kept, some_passes}, WrittenRows.{member_wrote, wrote_member, two_so, so_two}, ReadForms.{op_any, any_op, before_so, after_so, so_before, so_after, before_wrote, after_wrote}}

@@ -1,5 +1,5 @@
 -- Tests of what transactions read find it.
-use Rattle.std.{proofs.{Common.{◌≡◌, ℕ, zero, suc, ◌<◌, ◌≤◌, Bool, true, false, ◌&&◌, Option, Some, None, List, refl, sym, ap, ◌∙◌, subst}, lemmas.{Bool.{false≢true, and_parts, and_from, ltb-true, lt-ltb, leb-true, le-leb}, Option.{none-some, slice_get-get_or}, List.Folds.{Any-from_list_any}}}, specs.{Prelude.{nat_lt, nat_le}, List.{list_any}}}
+use Rattle.std.{proofs.{Common.{◌≡◌, ℕ, zero, suc, ◌<◌, ◌≤◌, Bool, true, Option, Some, None, refl, ap, ◌∙◌}, lemmas.{Bool.{false≢true, and_parts, and_from, ltb-true, lt-ltb, leb-true, le-leb}, Option.{none-some, slice_get-get_or}, List.Folds.{Any-from_list_any}}}, specs.{List.{list_any}}}
 use Rattle.lab_table.{specs.Row.{Row}, proofs.Members.{member_at}}
 use Rattle.lab_history.specs.{History.{History}, Version.{ops_of, IsOp, installers, place_in}, declared.operation.Op.{Op}}
 use Rattle.lab_drawing.specs.Reads.{reads, place_seen, is_below, is_above, is_older_read, is_newer_read, has_older, has_newer, older_at, newer_at, read_older, read_newer}

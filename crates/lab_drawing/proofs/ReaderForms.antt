@@ -1,12 +1,12 @@
 -- The test for read-only anomalies finds them.
-use Rattle.std.{proofs.{Common.{◌≡◌, ℕ, zero, suc, ◌==◌, Bool, true, false, cond, Option, Some, None, List, [], ◌∷◌, length, refl, sym, ap, ◌∙◌, arith}, lemmas.{Bool.{false≢true, true≢false, eqb-true, and_parts, and_from}, Option.{none-some, slice_get-get_or}, List.{Elements.{All-contains}, Folds.{Any-from_list_any, list_any-from_Any}, Sums.{AllPass-from_list_all, list_all-from_AllPass}}}}, specs.{Prelude.{is_some, slice_index_or}, List.{list_any, list_all, Any}, FinMap.{find, entries, get-entries}}}
+use Rattle.std.{proofs.{Common.{◌≡◌, ℕ, zero, suc, ◌==◌, Bool, true, false, cond, Some, None, List, [], ◌∷◌, length, refl, sym, ap, ◌∙◌, arith}, lemmas.{Bool.{false≢true, true≢false, eqb-true, and_parts, and_from}, Option.{none-some, slice_get-get_or}, List.{Elements.{All-contains}, Folds.{Any-from_list_any, list_any-from_Any}, Sums.{AllPass-from_list_all, list_all-from_AllPass}}}}, specs.{Prelude.{is_some, slice_index_or}, FinMap.{find, entries, get-entries}}}
 use Rattle.lab_table.{specs.{Row.{Row, row_cmp}, Table.{State}}, proofs.{Maps.{row_eq_self}, Members.{member_at}}}
 use Rattle.lab_history.specs.{History.{History}, Version.{ops_of, new_state}, declared.operation.Op.{Op}}
 use Rattle.lab_deps.specs.declared.edge.Edge.{Edge}
-use Rattle.lab_drawing.specs.Anomalies.{Wrote, CanBePlaced, CanBeOrderedWithout, IsReadOnlyAnomaly}
+use Rattle.lab_drawing.specs.Anomalies.{Wrote, CanBeOrderedWithout, IsReadOnlyAnomaly}
 use Rattle.lab_drawing.specs.Cycles.{walk_phenomenon}
 use Rattle.lab_drawing.specs.Readers.{wrote_nothing, is_read_only, some_read_only, is_g2, may_be, count_of, leads, can_order, stands_in_the_way, some_stand_in_the_way, is_in_run, is_read_only_anomaly}
-use Rattle.lab_drawing.specs.declared.readers.Nodes.{Nodes, TheVariants.{Points, Without}}
+use Rattle.lab_drawing.specs.declared.readers.Nodes.{TheVariants.{Points, Without}}
 use Rattle.lab_drawing.proofs.{Orderables.{orders, places}, PairForms.{any_so}}
 
 -- both tests of one behind another

@@ -1,5 +1,5 @@
 -- Tests of the rows that have installers.
-use Rattle.std.{proofs.{Common.{◌≡◌, ℕ, suc, Bool, true, false, ◌||◌, cond, Option, Some, None, List, [], ◌∷◌, refl, sym, ap, ◌∙◌, subst}, lemmas.{Bool.{or_left, or_right}, Option.{none-some}, List.Folds.{Any-from_list_any}}}, specs.{Prelude.{unwrap_or}, List.{list_any}}}
+use Rattle.std.{proofs.{Common.{◌≡◌, ℕ, Bool, true, false, cond, Some, None, List, [], ◌∷◌, refl, sym, ap, ◌∙◌}, lemmas.{Bool.{or_left, or_right}, Option.{none-some}, List.Folds.{Any-from_list_any}}}, specs.{Prelude.{unwrap_or}, List.{list_any}}}
 use Rattle.std.specs.FinMap.{find, get, entries, get-entries}
 use Rattle.lab_table.{specs.Row.{Row, row_cmp, row_eq}, proofs.Maps.{same_row}}
 use Rattle.lab_history.specs.{History.{History}, Version.{installers, place_in}}

@@ -1,7 +1,7 @@
 -- The rows that a transaction wrote are those that one of its operations wrote.
-use Rattle.std.{proofs.{Common.{◌≡◌, ◌≢◌, ◌⊎◌, inl, inr, ℕ, zero, suc, ◌+◌, ◌≤◌, ◌==◌, Bool, true, false, not, cond, Option, Some, None, List, [], ◌∷◌, ◌++◌, map, refl, sym, ap, ◌∙◌, subst, arith}, lemmas.{Bool.{false≢true, eqb-true, eq-eqb, not-true, not_from_false}, Option.{none-some}, List.{Elements.{Contains-append_cases, Contains-append_left, Contains-append_right}, Folds.{Any-from_list_any}}}}, specs.{Prelude.{Contains, filter, is_some, slice_get}, List.{list_any}, FinMap.{find, entries, get-entries}}}
-use Rattle.lab_table.{specs.{Row.{Row, row_cmp, row_eq, row_test}, Table.{State}}, proofs.{Maps.{same_row, row_eq_self, tested_same, tested_apart, tests_itself}, Members.{no_member, first_member, later_member, only_member}}}
-use Rattle.lab_history.{specs.{History.{History}, Version.{ops_of, op_at, new_state, last_write, is_at, WritesAt, IsLastWrite}, declared.operation.Op.{Op}}, proofs.Greatest.{none_is_written, last_is_greatest}}
+use Rattle.std.{proofs.{Common.{◌≡◌, ◌≢◌, inl, inr, ℕ, zero, suc, ◌+◌, true, false, not, cond, Option, Some, None, List, [], ◌∷◌, map, refl, sym, ap, ◌∙◌, subst, arith}, lemmas.{Bool.{false≢true, eq-eqb, not-true, not_from_false}, Option.{none-some}, List.{Elements.{Contains-append_cases, Contains-append_left, Contains-append_right}, Folds.{Any-from_list_any}}}}, specs.{Prelude.{Contains, is_some, slice_get}, FinMap.{find, entries, get-entries}}}
+use Rattle.lab_table.{specs.{Row.{Row, row_cmp, row_eq, row_test}, Table.{State}}, proofs.{Maps.{same_row, row_eq_self, tested_apart, tests_itself}, Members.{no_member, first_member, later_member, only_member}}}
+use Rattle.lab_history.{specs.{History.{History}, Version.{ops_of, last_write, is_at, WritesAt}, declared.operation.Op.{Op}}, proofs.Greatest.{none_is_written, last_is_greatest}}
 use Rattle.lab_drawing.specs.Anomalies.{Wrote}
 use Rattle.lab_drawing.specs.Written.{is_last, last_rows, rows_along, rows_by, is_beside, has_two}
 use Rattle.lab_drawing.proofs.Orderables.{passed, kept, some_passes}

@@ -2,7 +2,7 @@
 -- dependencies.
 --
 -- Origin: Adya, Liskov and O'Neil, "Generalized Isolation Level Definitions" (2000), section 4.
-use Rattle.std.specs.Prelude.{◌≡◌, ◌↔◌, ℕ, ◌==◌, Bool, false, not, ◌&&◌, ◌||◌, Option, List, map, filter, Contains, IfSome}
+use Rattle.std.specs.Prelude.{◌↔◌, ℕ, ◌==◌, Bool, false, not, ◌&&◌, ◌||◌, Option, List, map, filter, Contains, IfSome}
 use Rattle.std.specs.List.{list_any}
 use Rattle.std.specs.FinMap as finite
 use Rattle.lab_table.specs.Row.{Row}

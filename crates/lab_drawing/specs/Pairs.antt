@@ -2,7 +2,7 @@
 --
 -- Origin: Berenson and others, "A Critique of ANSI SQL Isolation Levels" (1995), section 2 (P2, fuzzy read) and
 -- section 4.1 (P4, lost update) and 4.2 (A5A, read skew; A5B, write skew), over versions as in `Reads`.
-use Rattle.std.specs.Prelude.{ℕ, nat_lt, Bool, true, false, not, ◌&&◌, ◌||◌, cond, Option, Some, None, is_none, is_some, List, [], ◌∷◌, filter}
+use Rattle.std.specs.Prelude.{ℕ, nat_lt, Bool, false, not, ◌&&◌, ◌||◌, cond, Option, Some, None, is_none, is_some, List, [], ◌∷◌, filter}
 use Rattle.std.specs.List.{list_any}
 use Rattle.lab_table.specs.Row.{Row}
 use Rattle.lab_table.specs.Statement.{inserted}

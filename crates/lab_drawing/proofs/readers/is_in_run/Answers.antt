@@ -2,8 +2,8 @@ use Rattle.std.{proofs.Common.{◌≡◌, true, false, cond, sym, ap, ◌∙◌,
 use Rattle.lab_drawing.specs.{Readers.{can_order, some_stand_in_the_way}, declared.readers.Nodes.TheVariants.{Points}}
 use Rattle.lab_drawing.proofs.readers.is_in_run.Goals as goal
 
-pub returns-then-can : goal.returns-then-can
-returns-then-can c =
+pub returns-in_ok-all : goal.returns-in_ok-all
+returns-in_ok-all c =
     let h = c.args.history.now in
     let walk = c.args.walk.now in
     let is : can_order h Points ≡ true = ap (λ t. can_order t Points) (sym c.requires) ∙ sym c.in_ok-can.ensures ∙ c.if-can.true in
