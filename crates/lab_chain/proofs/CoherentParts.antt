@@ -1,15 +1,15 @@
 -- A part's summary is coherent, and so is that of a run.
-use Rattle.std.{proofs.{Common.{◌≡◌, ◌≢◌, ℕ, ◌≤◌, Bool, true, false, not, ◌||◌, Option, Some, None, List, [], ◌∷◌, refl, sym, ap, ◌∙◌, subst, arith, inl, inr}, lemmas.{Bool.{cases_lt, false≢true}, List.Elements.{All-head, All-tail}}}, specs.{Prelude.{◌^◌, fold}, List.{All}, Cmp.Derive.{both_true}}}
-use Rattle.lab_table.specs.{Row.{Row}, Table.{Table}}
+use Rattle.std.{proofs.{Common.{◌≡◌, ◌≢◌, ℕ, Bool, true, false, not, ◌||◌, Option, Some, None, List, [], ◌∷◌, refl, sym, ap, ◌∙◌, subst, arith, inl, inr}, lemmas.{Bool.{cases_lt, false≢true}, List.Elements.{All-head, All-tail}}}, specs.{Prelude.{fold}, List.{All}, Cmp.Derive.{both_true}}}
+use Rattle.lab_table.specs.{Row.{Row}}
 use Rattle.lab_history.specs.History.{History}
 use Rattle.lab_deps.specs.{KindSets.{is_anti}, Refusal.{is_uncommitted_read}, Soundness.{Stands, IsSound}, declared.{edge.Edge.{Edge}, fault.LocalFault.{LocalFault, TheVariants.{AbortedRead, IntermediateRead}}}}
 use Rattle.lab_judge.specs.Findings as found
-use Rattle.lab_judge.specs.{Verdicts.{IsYes}, Judgement.{IsExactJudgement, IsSerialVerdict, SameFault, FindsWalk, FindsFault, Judges, JudgesAll, JudgesReads, JudgesNothing, JudgesAtRead}, Phenomena.{count_kind, IsClosedWalk, IsG0, IsG1c, IsGSingle, IsG2Item, IsG2, NoWalk, NoG1a, NoG1b, MeetsPl2, MeetsPl299, MeetsPl3, IsGrade}, ReportText.{serial_text, places_text}, declared.{places.Places.{Places}, report.{Finding.{Finding, TheVariants.{Absent, Walk, At, NotJudged}}, Grade.{Grade}, Report.{Report}}, serial.Serial.{Serial}}}
+use Rattle.lab_judge.specs.{Verdicts.{IsYes}, Judgement.{IsExactJudgement, IsSerialVerdict, SameFault, FindsWalk, FindsFault, Judges, JudgesAll, JudgesReads, JudgesNothing, JudgesAtRead}, Phenomena.{count_kind, IsClosedWalk, IsG0, IsG1c, IsGSingle, IsG2Item, IsG2, NoWalk, MeetsPl2, MeetsPl299, MeetsPl3, IsGrade}, ReportText.{serial_text, places_text}, declared.{places.Places.{Places}, report.{Finding.{Finding, TheVariants.{Absent, Walk, At, NotJudged}}, Grade.{Grade}, Report.{Report}}, serial.Serial.{Serial}}}
 use Rattle.lab_judge.specs.declared.places.Places.TheVariants as places
 use Rattle.lab_judge.specs.declared.report.Grade.TheVariants as grade
 use Rattle.lab_judge.specs.declared.serial.Serial.TheVariants as serial
 use Rattle.lab_judge.proofs.{ExactJudgements.{yes_where}, Levels.{none_aborted, none_intermediate, read_below}}
-use Rattle.lab_chain.specs.{Chain.{Part, IsPart, is_clear, is_found, with_part, summary_of}, Coherence.{at_best, allows, all_allow, shows, is_coherent}, Levels.{level_of}, Parts.{no_reason, serial_line, snapshot_line, finding_line, report_lines, judged_summary, part_summary, IsOutcome}, Summary.{nothing}}
+use Rattle.lab_chain.specs.{Chain.{Part, IsPart, is_clear, is_found, with_part, summary_of}, Coherence.{at_best, allows, all_allow, shows, is_coherent}, Levels.{level_of}, Parts.{no_reason, serial_line, snapshot_line, finding_line, report_lines, part_summary, IsOutcome}, Summary.{nothing}}
 use Rattle.lab_chain.specs.declared.{level.Level.{Level, TheVariants.{Pl3, Pl299, Pl2, Pl1, BelowPl1}}, line.Line.{Line, TheVariants.{Found}}, part.Outcome.{Outcome, TheVariants.{Judged, Refused, Unreadable}}, summary.{Lines.{Lines}, Summary.{Summary}}}
 use Rattle.lab_chain.specs.declared.level.Level.TheVariants as level
 use Rattle.lab_chain.proofs.{CoherentPieces.{coherent_joined}, JoinedSummaries.{nothing_before}, OneLevel.{to_between, to_first}, PartSummaries.{of_part, counts_one}}

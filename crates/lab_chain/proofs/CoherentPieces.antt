@@ -1,5 +1,5 @@
 -- Coherent pieces of a run, joined, make a coherent one.
-use Rattle.std.{proofs.{Common.{◌≡◌, ℕ, ◌+◌, ◌-◌, ◌≤◌, min, Bool, true, false, ◌&&◌, ◌||◌, not, cond, Option, Some, None, List, [], refl, sym, ap, ◌∙◌, subst, arith}, Math.Bool.{or-true}, lemmas.Bool.{and_parts, false≢true, Decides.{nat_tests}}}, specs.{Prelude.{◌^◌, nat_le, nat_lt}, Cmp.Derive.{both_true}}}
+use Rattle.std.{proofs.{Common.{◌≡◌, ℕ, ◌+◌, Bool, true, false, ◌&&◌, ◌||◌, not, cond, Option, Some, None, List, [], refl, sym, ap, ◌∙◌, subst, arith}, Math.Bool.{or-true}, lemmas.Bool.{and_parts, false≢true, Decides.{nat_tests}}}, specs.{Prelude.{nat_le, nat_lt}, Cmp.Derive.{both_true}}}
 use Rattle.lab_table.specs.{Row.{Row}, Table.{Table}}
 use Rattle.lab_chain.specs.{Chain.{is_clear, is_found}, Coherence.{at_best, allows, all_allow, none_clear, shows, is_known, has_ends, is_coherent}, Levels.{level_rank, worse}, Lines.{line_joined}, Summary.{lines_joined, seam_at, seam_between, ends_joined, parted_at, counted, joined}}
 use Rattle.lab_chain.specs.declared.{level.Level.{Level, TheVariants.{Pl3, Pl299, Pl2, Pl1, NotJudged, BelowPl1, Unsound}}, line.Line.{Line, TheVariants.{Clear, Unjudged, Found}}, seam.Seam.{Seam}, summary.{Ends.{Ends}, Lines.{Lines}, Summary.{Summary}}}

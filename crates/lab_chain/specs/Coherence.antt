@@ -1,7 +1,7 @@
 -- When the level, the lines and the ends of a summary agree: each run has such a summary.
 --
 -- These are necessary conditions: a coherent summary needn't be that of a run.
-use Rattle.std.specs.Prelude.{ℕ, nat_le, Bool, true, false, ◌&&◌, ◌||◌, not, Option, Some, None, List}
+use Rattle.std.specs.Prelude.{ℕ, nat_le, Bool, true, false, ◌&&◌, ◌||◌, not, Option, Some, None}
 use Rattle.std.specs.List.{list_all}
 use Rattle.lab_table.specs.Table.{Table}
 use Rattle.lab_chain.specs.Chain.{is_clear, is_found}

@@ -1,5 +1,5 @@
 -- The summary of a run in parts, and how the summaries of two consecutive pieces are joined at the seam between them.
-use Rattle.std.specs.Prelude.{ℕ, ◌+◌, ◌-◌, ◌^◌, min, ◌++◌, Bool, false, ◌||◌, Option, Some, None, List, [], codes}
+use Rattle.std.specs.Prelude.{ℕ, ◌+◌, ◌-◌, ◌^◌, min, ◌++◌, false, ◌||◌, Option, Some, None, List, [], codes}
 use Rattle.lab_table.specs.Row.{Row}
 use Rattle.lab_table.specs.Table.{Table}
 use Rattle.lab_printing.specs.Printed.{printed_row_name}

@@ -77,15 +77,20 @@ fn put_read_bar(out: &mut Vec<u8>, lines: &Lines) -> Result<(), NoMemory>
     }
 }
 
+/// Appends a word and the name of a part.
+fn put_led(out: &mut Vec<u8>, word: &[u8], part: &[u8]) -> Result<(), NoMemory>
+    ensures { OnOk result (out.new.items ≡ out.old.items ++ (word.now ++ spec.shown_name part.now)) }
+{
+    out.extend_from_slice(word)?;
+    put_name(out, part)
+}
+
 /// Appends the name of the part that wasn't judged.
 fn put_unjudged(out: &mut Vec<u8>, line: &Line) -> Result<(), NoMemory>
     ensures { OnOk result (out.new.items ≡ out.old.items ++ spec.unjudged_text line.now) }
 {
     match line {
-        Line::Unjudged { part } => {
-            out.extend_from_slice(b": ")?;
-            put_name(out, part.as_slice())
-        }
+        Line::Unjudged { part } => put_led(out, b": ", part.as_slice()),
         Line::Clear | Line::Found { .. } => Ok(()),
     }
 }
@@ -144,10 +149,7 @@ fn put_verdict(out: &mut Vec<u8>, line: &Line) -> Result<(), NoMemory>
 {
     match line {
         Line::Clear => out.extend_from_slice(b"yes"),
-        Line::Unjudged { part } => {
-            out.extend_from_slice(b"not judged ")?;
-            put_name(out, part.as_slice())
-        }
+        Line::Unjudged { part } => put_led(out, b"not judged ", part.as_slice()),
         Line::Found { part, reason } => {
             out.extend_from_slice(b"no ")?;
             put_because(out, part.as_slice(), reason.as_slice())

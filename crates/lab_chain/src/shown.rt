@@ -34,7 +34,8 @@ fn put_cut(out: &mut Vec<u8>, dots: &[u8], text: &[u8]) -> Result<(), NoMemory>
     ensures { OnOk result (out.new.items ≡ out.old.items ++ spec.cut_text dots.now text.now) }
 {
     if MAX_SHOWN < text.len() {
-        put_shown(out, &text[..MAX_SHOWN])?;
+        let front = &text[..MAX_SHOWN];
+        put_shown(out, front)?;
         out.extend_from_slice(dots)
     } else {
         put_shown(out, text)
