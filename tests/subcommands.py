@@ -11,6 +11,8 @@ VALUES = {
     "--require": "PL-1, PL-2, PL-2.99, PL-3, SI",
     "--phenomenon": "G0, G1a, G1b, G1c, G-single, G2-item, G2",
 }
+# What a subcommand takes besides.
+MORE_VALUES = {("shrink", "--phenomenon"): ", SI"}
 
 
 def page(name: str) -> str:
