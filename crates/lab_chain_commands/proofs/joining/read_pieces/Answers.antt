@@ -1,6 +1,9 @@
-use Rattle.std.{proofs.Common.{◌≡◌, subst, sym, rules}, specs.Prelude.{max}}
-use Rattle.lab_chain_commands.{specs.JoinAnswers.{piece_status}, proofs.PiecesRead.{AreRead, next_read}}
+use Rattle.std.{proofs.{Common.{◌≡◌, [], refl, subst, sym, rules}, lemmas.List.Elements.{All-nil}}, specs.Prelude.{max}}
+use Rattle.lab_chain_commands.{specs.JoinAnswers.{IsNamed, piece_status}, proofs.PiecesRead.{AreRead, next_read}}
 use Rattle.lab_chain_commands.proofs.joining.read_pieces.Goals as goal
+
+pub loop-name-init : goal.loop-name-init
+loop-name-init g c = ([], refl, All-nil IsNamed, c.nothing-summary.ensures, c.new-refusals.ensures.items, refl)
 
 pub loop-name-preserved : goal.loop-name-preserved
 loop-name-preserved g c =
