@@ -41,22 +41,38 @@ PLAYS: tuple[tuple[str, list[Txn], list[int], list[str]], ...] = (
     ("a refused statement, after which its transaction goes on", [WHOLE[0], ("committed", [TWO]), WHOLE[2]], [6], []),
     ("a refused commit", [WHOLE[0], ("aborted", [SECOND, TWO]), WHOLE[2]], [9], []),
     ("a dropped line", [WHOLE[0], ("committed", [SECOND]), WHOLE[2]], [], ["missing: line 7: T2 select"]),
-    ("the end of a session is dropped", [WHOLE[0], ("aborted", [SECOND])], [],
-     ["missing: line 7: T2 select", "missing: line 9: T2 commit", "missing: line 11: T2 delete"]),
+    (
+        "the end of a session is dropped",
+        [WHOLE[0], ("aborted", [SECOND])],
+        [],
+        ["missing: line 7: T2 select", "missing: line 9: T2 commit", "missing: line 11: T2 delete"],
+    ),
     ("a line that is given twice", [("committed", [ALL, FIRST, FIRST]), *WHOLE[1:]], [], [f"extra: T1 op 3: {FIRST}"]),
-    ("another statement", [("committed", [ALL, SECOND]), *WHOLE[1:]], [],
-     ["missing: line 5: T1 update", f"extra: T1 op 2: {SECOND}"]),
+    (
+        "another statement",
+        [("committed", [ALL, SECOND]), *WHOLE[1:]],
+        [],
+        ["missing: line 5: T1 update", f"extra: T1 op 2: {SECOND}"],
+    ),
     ("an abort that has committed", [*WHOLE[:2], ("committed", [GONE])], [], ["differs: T3 has committed"]),
     ("a transaction too many", [*WHOLE, ("committed", [ALL])], [], ["extra: T4 op 1"]),
-    ("statements after a refused one, in an aborted transaction", [WHOLE[0], ("aborted", [SECOND, TWO]), WHOLE[2]], [6],
-     ["extra: T2 op 1"]),
+    (
+        "statements after a refused one, in an aborted transaction",
+        [WHOLE[0], ("aborted", [SECOND, TWO]), WHOLE[2]],
+        [6],
+        ["extra: T2 op 1"],
+    ),
 )
 
 
 def history(txns: list[Txn]) -> dict[str, Any]:
     """What recorders/check reads of a history."""
     ops = [[{"statement": text} for text in texts] for _, texts in txns]
-    return {"transactions": [{"no": no, "outcome": outcome, "ops": its} for no, ((outcome, _), its) in enumerate(zip(txns, ops), 1)]}
+    return {
+        "transactions": [
+            {"no": no, "outcome": outcome, "ops": its} for no, ((outcome, _), its) in enumerate(zip(txns, ops), 1)
+        ]
+    }
 
 
 def try_check(tally: Tally) -> None:
@@ -72,9 +88,11 @@ def try_check(tally: Tally) -> None:
             ended = run([CHECK, f"{room}/script.txt", f"{room}/history.json", *more])
             lines = ended.stdout.decode().splitlines()
             is_due = len(lines) == len(due) and all(any(line.startswith(it) for line in lines) for it in due)
-            tally.note(is_due and ended.returncode == bool(due), f"check: {what}: {ended.returncode}, {lines}, {ended.stderr!r}")
+            tally.note(
+                is_due and ended.returncode == bool(due), f"check: {what}: {ended.returncode}, {lines}, {ended.stderr!r}"
+            )
         for files, status in ((["script.txt", "bad.json"], 2), (["none.txt", "bad.json"], 3), (["log.txt", "bad.json"], 2)):
-            ended = run([CHECK, *(f"{room}/{name}" for name in files)])
+            ended = run([CHECK, *[f"{room}/{name}" for name in files]])
             is_due = ended.returncode == status and ended.stderr.count(b"\n") == 1 and not ended.stdout
             tally.note(is_due, f"check: {files}: {ended.returncode}, {ended.stderr!r}")
 
@@ -85,7 +103,10 @@ def try_made(tally: Tally) -> None:
     for name in KINDS:
         for text in scripts(40, 1, (name,)):
             tally.note(script.read(text.encode()).commands, f"made: {name}: no script: {text}")
-    shares = {name: {what: len(re.findall(pattern, text, re.M)) for what, pattern in PATTERNS.items()} for name, text in texts.items()}
+    shares = {
+        name: {what: len(re.findall(pattern, text, re.M)) for what, pattern in PATTERNS.items()}
+        for name, text in texts.items()
+    }
     for name, what in (("values", "by value"), ("born", "inserts"), ("born", "deletes"), ("refused", "out of range")):
         most = max(shares, key=lambda other: shares[other][what])
         tally.note(most == name, f"made: {most} has more {what} than {name}: {shares}")
@@ -95,10 +116,14 @@ def try_made(tally: Tally) -> None:
         run([MADE, "3", "--seed", "8", "--into", room])
         names = sorted(os.listdir(room))
         with open(f"{room}/9.txt", "rb") as file:
-            tally.note(once == again and names == ["10.txt", "8.txt", "9.txt"] and file.read() in once, f"made: {names}, {once!r}")
+            tally.note(
+                once == again and names == ["10.txt", "8.txt", "9.txt"] and file.read() in once, f"made: {names}, {once!r}"
+            )
     for words in ["0"], ["1", "--kinds", "chaos"], ["1", "--seed", "x"]:
         ended = run([MADE, *words])
-        tally.note(ended.returncode == 2 and ended.stderr.count(b"\n") == 1, f"made {words}: {ended.returncode}, {ended.stderr!r}")
+        tally.note(
+            ended.returncode == 2 and ended.stderr.count(b"\n") == 1, f"made {words}: {ended.returncode}, {ended.stderr!r}"
+        )
 
 
 PATTERNS = {

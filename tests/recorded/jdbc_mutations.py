@@ -20,9 +20,14 @@ MUTATIONS = (
         "hsqldb-locks",
         SERIALIZABLE,
         "waits",
-        ((RECORDING, "        for place, command in enumerate(self.pending):",
-          "        self.pending = [it for it in self.pending if it.session not in self.waiting]\n"
-          "        for place, command in enumerate(self.pending):"),),
+        (
+            (
+                RECORDING,
+                "        for place, command in enumerate(self.pending):",
+                "        self.pending = [it for it in self.pending if it.session not in self.waiting]\n"
+                "        for place, command in enumerate(self.pending):",
+            ),
+        ),
         "missing: line ",
     ),
     (
@@ -30,8 +35,10 @@ MUTATIONS = (
         "hsqldb-mvcc",
         READ_COMMITTED,
         "mixed",
-        ((RECORDING, "**txn.own, **seen}", "**seen}"), (WITHOUT, "for id, no, op in done.looked}",
-                                                        "for id, no, op in done.looked if no != txn.no}")),
+        (
+            (RECORDING, "**txn.own, **seen}", "**seen}"),
+            (WITHOUT, "for id, no, op in done.looked}", "for id, no, op in done.looked if no != txn.no}"),
+        ),
         "F4 OwnWriteMissed",
     ),
     (
@@ -53,6 +60,14 @@ MUTATIONS = (
 )
 # The commit number is drawn after the commit: a script's lines run one after another, so only a load shows it.
 DRAWN_LATE = (
-    (DATABASE, "        place = self.database.place(self.connection, txn) if txn.own and not txn.is_refused else None\n", ""),
-    (DATABASE, "            raise\n        return place", "            raise\n        return self.database.place(self.connection, txn)"),
+    (
+        DATABASE,
+        "        place = self.database.place(self.connection, txn) if txn.own and not txn.is_refused else None\n",
+        "",
+    ),
+    (
+        DATABASE,
+        "            raise\n        return place",
+        "            raise\n        return self.database.place(self.connection, txn)",
+    ),
 )

@@ -52,11 +52,7 @@ def level(kept: str, seen: set[str], promised: str = "") -> Level:
     return Level(promised or kept, kept, frozenset(seen))
 
 
-LOCKING = {
-    READ_COMMITTED: level("PL-2", WEAK),
-    REPEATABLE_READ: level("PL-3", NONE),
-    SERIALIZABLE: level("PL-3", NONE),
-}
+LOCKING = {READ_COMMITTED: level("PL-2", WEAK), REPEATABLE_READ: level("PL-3", NONE), SERIALIZABLE: level("PL-3", NONE)}
 MODELS = (
     Model("hsqldb-locks", "HSQLDB (LOCKS)", "jdbc:hsqldb:mem:locks{n};hsqldb.tx=locks", LOCKING),
     Model("hsqldb-mvlocks", "HSQLDB (MVLOCKS)", "jdbc:hsqldb:mem:mvlocks{n};hsqldb.tx=mvlocks", LOCKING),
@@ -99,4 +95,6 @@ def missing() -> list[str]:
 
 
 def jars() -> str:
-    return os.pathsep.join(sorted(glob.glob(f"{JARS}/hsqldb.jar") + glob.glob(f"{JARS}/h2.jar") + glob.glob(f"{JARS}/derby.jar")))
+    return os.pathsep.join(
+        sorted(glob.glob(f"{JARS}/hsqldb.jar") + glob.glob(f"{JARS}/h2.jar") + glob.glob(f"{JARS}/derby.jar"))
+    )

@@ -43,9 +43,7 @@ SHARED = (
     (
         "the column op keeps the number of the transaction's first operation",
         ALL,
-        (
-            (TABLES, "{value} = {left}, txn = {no}, op = {op}", "{value} = {left}, txn = {no}, op = 1"),
-        ),
+        ((TABLES, "{value} = {left}, txn = {no}, op = {op}", "{value} = {left}, txn = {no}, op = 1"),),
     ),
     (
         "an update that leaves the value as it is isn't noted as a write",
@@ -69,9 +67,7 @@ SHARED = (
     (
         "the server gets another result than the script has",
         ALL,
-        (
-            (TABLES, "{value} = {left}, txn", "{value} = 1 + {left}, txn"),
-        ),
+        ((TABLES, "{value} = {left}, txn", "{value} = 1 + {left}, txn"),),
     ),
 )
 MUTATIONS = {
@@ -170,23 +166,17 @@ MUTATIONS = {
         (
             "a view hasn't the rows that are gone",
             (READ_COMMITTED,),
-            (
-                (WITHOUT_RETURNING, 'f"where {statement.ids(sql)}{', 'f"where gone = 0 and {statement.ids(sql)}{'),
-            ),
+            ((WITHOUT_RETURNING, 'f"where {statement.ids(sql)}{', 'f"where gone = 0 and {statement.ids(sql)}{'),),
         ),
         (
             "of a row that was looked at again the first note counts",
             (READ_COMMITTED,),
-            (
-                (WITHOUT_RETURNING, "in done.looked}", "in reversed(list(done.looked))}"),
-            ),
+            ((WITHOUT_RETURNING, "in done.looked}", "in reversed(list(done.looked))}"),),
         ),
         (
             "an insert's view doesn't have its row",
             (READ_COMMITTED,),
-            (
-                (MARIADB, "None, None, None, value)], looked)", "None, None, None, value)], [(id, None, None)])"),
-            ),
+            ((MARIADB, "None, None, None, value)], looked)", "None, None, None, value)], [(id, None, None)])"),),
         ),
         (
             "the level isn't asked for",

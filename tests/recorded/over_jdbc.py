@@ -70,8 +70,11 @@ class Second:
             ended = run(words, seconds=SECONDS)
             if ended.returncode:
                 raise RuntimeError(f"Rec {product}: status {ended.returncode}: {ended.stderr.decode()[-1000:]}")
-            return {key_of(name): text_of(f"{room}/histories/{name}") for name in sorted(os.listdir(f"{room}/histories"))
-                    if name.endswith(".json")}
+            return {
+                key_of(name): text_of(f"{room}/histories/{name}")
+                for name in sorted(os.listdir(f"{room}/histories"))
+                if name.endswith(".json")
+            }
 
 
 def key_of(name: str) -> tuple[str, str, str]:
@@ -92,8 +95,11 @@ class Cases:
             words = [sys.executable, "-S", f"{TOP}/recorders/cases", "jdbc", "--url", model.one_url(), "--markdown"]
             self.ended = run([*words, "--keep", room, "--program", program], seconds=SECONDS)
             self.table = self.ended.stdout.decode()
-            self.histories = {(folder.replace("_", " "), name.removesuffix(".json")): text_of(f"{room}/{folder}/{name}")
-                              for folder in os.listdir(room) for name in os.listdir(f"{room}/{folder}")}
+            self.histories = {
+                (folder.replace("_", " "), name.removesuffix(".json")): text_of(f"{room}/{folder}/{name}")
+                for folder in os.listdir(room)
+                for name in os.listdir(f"{room}/{folder}")
+            }
 
     def cells(self) -> list[list[str]]:
         """The lines of the table, without its title and its head."""
@@ -125,4 +131,3 @@ def wait_for_end(child: int) -> bool:
             return True
         time.sleep(0.05)
     return False
-

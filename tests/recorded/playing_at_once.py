@@ -46,7 +46,8 @@ def recorded(given: Any, read: script.Script, log: list[str]) -> str | None:
     database = given.make(given, read)
     try:
         database.make_tables()
-        return recording.record(read, database, given.log, given.patience, log.append)
+        history: str = recording.record(read, database, given.log, given.patience, log.append)
+        return history
     except (recording.Untold, recording.Unreachable) as why:
         log.append(str(why))
         return None
