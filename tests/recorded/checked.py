@@ -112,7 +112,7 @@ def try_made(tally: Tally) -> None:
         tally.note(most == name, f"made: {most} has more {what} than {name}: {shares}")
     tally.note(shares["waits"]["ends"] < shares["mixed"]["ends"], f"made: waits has as many ends as mixed: {shares}")
     with tempfile.TemporaryDirectory() as room:
-        once, again = (run([MADE, "3", "--seed", "8", *more]).stdout for more in ([], ["--kinds", ",".join(KINDS)]))
+        once, again = (run([MADE, "3", "--seed", "8", *words]).stdout for words in NO_KINDS_AND_ALL)
         run([MADE, "3", "--seed", "8", "--into", room])
         names = sorted(os.listdir(room))
         with open(f"{room}/9.txt", "rb") as file:
@@ -126,6 +126,7 @@ def try_made(tally: Tally) -> None:
         )
 
 
+NO_KINDS_AND_ALL: tuple[list[str], list[str]] = [], ["--kinds", ",".join(KINDS)]
 PATTERNS = {
     "by value": r"^(?:update|delete) .*where .*value",
     "inserts": r"^insert",
