@@ -15,6 +15,11 @@ VALUES = {
 MORE_VALUES = {("shrink", "--phenomenon"): ", SI"}
 
 
+def values_due(word: str, option: str) -> str:
+    """The values of a subcommand's option."""
+    return VALUES[option] + MORE_VALUES.get((word, option), "")
+
+
 def page(name: str) -> str:
     """The text of a page."""
     with open(f"{TOP}/docs/{name}.md", encoding="utf-8") as file:
