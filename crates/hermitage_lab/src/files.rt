@@ -159,12 +159,26 @@ pub fn run_files<T: Files + Threads + Sync, R: Read, W: Write, N: Write>(
         let names = given_names(alloc, matches)?;
         return run_named(rt, alloc, streams, matches, task, &names);
     };
-    let Some(bytes) = read_list(rt, alloc, streams.reader, streams.notes, list)? else {
+    let Streams {
+        reader,
+        writer,
+        notes,
+        progress,
+        is_watched,
+    } = streams;
+    let Some(bytes) = read_list(rt, alloc, reader, notes, list)? else {
         return Ok(status(Err(RunFault::Unread)));
     };
-    let Some(text) = text_of(&bytes, streams.notes) else {
+    let Some(text) = text_of(&bytes, notes) else {
         return Ok(ARGUMENTS_REFUSED);
     };
     let names = listed_names(alloc, text, matches.get_flag("null"))?;
+    let streams = Streams {
+        reader,
+        writer,
+        notes,
+        progress,
+        is_watched,
+    };
     run_named(rt, alloc, streams, matches, task, &names)
 }
