@@ -85,9 +85,8 @@ def reason(why: OSError | ValueError) -> bytes:
     """Why a file can't be read, as the program prints it."""
     if isinstance(why, ValueError):
         return b"it can't be opened: file name contained an unexpected NUL byte"
-    if isinstance(why, IsADirectoryError):
-        return b"a read failed"
-    return f"it can't be opened: {why.strerror} (os error {why.errno})".encode()
+    what = "a read failed" if isinstance(why, IsADirectoryError) else "it can't be opened"
+    return f"{what}: {why.strerror} (os error {why.errno})".encode()
 
 
 def length(name: bytes) -> int:
