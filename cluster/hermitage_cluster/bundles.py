@@ -18,6 +18,10 @@ HEAD, MEMBER, TOLD = (
     re.compile(pattern, re.M) for pattern in (rb"^== (\d+)$", rb'"(file|first)":"(\d+)"', rb"^(\d+): (.*)$")
 )
 
+# What a requirement lacks, and the characters that a terminal obeys.
+SHORTFALL = re.compile(rb"(?:PL-[0-9.]+|SI) asked,")
+CONTROLS = re.compile("[\\x00-\\x1f\\x7f-\\x9f\\u200b-\\u200f\\u2028-\\u202e\\u2060-\\u206f\\ufeff]")
+
 
 # What workers get for a file: its text, its path, or None if it can't be read.
 File = bytes | str | None
@@ -28,6 +32,11 @@ def shown(name: bytes) -> bytes:
     """A name as the program prints it on standard error."""
     printable = re.sub(rb"[^ -~]", b"?", name)
     return printable if len(printable) <= SHOWN else printable[:SHOWN] + b".."
+
+
+def shown_in_requirement(name: bytes) -> bytes:
+    """A name as the program prints it before what a requirement lacks: `?` for each character that a terminal would obey."""
+    return CONTROLS.sub("?", name.decode(errors="replace")).encode()
 
 
 def quoted(name: bytes) -> bytes:
@@ -64,7 +73,15 @@ class Bundle:
 
     def line(self, place: int, text: bytes) -> bytes:
         """A line of standard error about a file."""
-        return b"%s: %s" % (shown(self.names[place]), self.reasons.get(place, text))
+        name = self.names[place]
+        if SHORTFALL.match(text):
+            return b"%s: %s" % (shown_in_requirement(name), text)
+        if place in self.reasons:
+            text = self.reasons[place]
+        elif text.startswith(b"it can't be opened"):
+            # Workers have the file by another name.
+            text += rule(name).encode()
+        return b"%s: %s" % (shown(name), text)
 
 
 def by_text(name: bytes) -> File:
@@ -78,15 +95,26 @@ def by_text(name: bytes) -> File:
 
 def by_path(name: bytes) -> File:
     """The path of a file, which may exist only on the workers."""
+    if b"\0" in name:
+        raise ValueError("a NUL in a name")
     return os.fsdecode(os.path.abspath(name)) if name else None
 
 
-def reason(why: OSError | ValueError) -> bytes:
+def reason(name: bytes, why: OSError | ValueError) -> bytes:
     """Why a file can't be read, as the program prints it."""
-    if isinstance(why, ValueError):
-        return b"it can't be opened: file name contained an unexpected NUL byte"
-    what = "a read failed" if isinstance(why, IsADirectoryError) else "it can't be opened"
-    return f"{what}: {why.strerror} (os error {why.errno})".encode()
+    if not isinstance(why, OSError):
+        return f"it can't be opened: file name contained an unexpected NUL byte{rule(name)}".encode()
+    said = f"{why.strerror} (os error {why.errno})"
+    if isinstance(why, IsADirectoryError):
+        return f"a read failed: {said}".encode()
+    return f"it can't be opened: {said}{rule(name)}".encode()
+
+
+def rule(name: bytes) -> str:
+    """What else is said of a name that names no file."""
+    if name.endswith(b"\r"):
+        return "; the name ends with a carriage return, as in a list whose lines end with CRLF"
+    return "; '-' is a file of this name, and not standard input" if name == b"-" else ""
 
 
 def length(name: bytes) -> int:
@@ -122,7 +150,7 @@ def looked_at(names: list[bytes], look: Look) -> tuple[Bundle, list[File]]:
         try:
             files.append(look(name))
         except (OSError, ValueError) as why:
-            reasons[len(files)] = reason(why)
+            reasons[len(files)] = reason(name, why)
             files.append(None)
     return Bundle(names, reasons), files
 
