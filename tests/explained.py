@@ -35,6 +35,19 @@ LEVELS = {
     "PL-2.99": "Level PL-2.99 (repeatable read). PL-3 (serializable) forbids G2.",
     "PL-3": "Level PL-3 (serializable).",
 }
+KINDS = "ww", "wr", "wr-p", "rw", "rw-p"  # in the order of the report
+POINTS = (
+    "Each of these starts and commits comes before the next, and the last before the first, so no order keeps all of "
+    "these dependencies with each start before its commit."
+)
+PROMISES = {
+    "PL-1": "PL-1", "PL-2": "PL-2 (read committed)", "PL-2.99": "PL-2.99 (repeatable read)", "PL-3": "PL-3 (serializable)",
+    "SI": "Snapshot isolation",
+}
+FORBIDDEN = {
+    "PL-1": ("G0",), "PL-2": ("G0", "G1a", "G1b", "G1c"), "PL-2.99": ("G0", "G1a", "G1b", "G1c", "G2-item"),
+    "PL-3": ("G0", "G1a", "G1b", "G1c", "G2-item", "G2"),
+}
 LAST = "What each line says, and what a no doesn't: docs/REPORT.md."
 TOLD = 10  # transactions whose timestamps are given
 
@@ -97,6 +110,11 @@ def row_of(name):
     return ("test", int(name)) if " " not in name else (name.split()[0], int(name.split()[1]))
 
 
+def name_of(row):
+    """The printed name of a row."""
+    return str(row[1]) if row[0] == "test" else f"{row[0]} {row[1]}"
+
+
 class Explained:
     """The explanation of a history whose report is known."""
 
@@ -146,7 +164,7 @@ class Explained:
         writer = self.last_write(row, no)
         return f", and {self.operation(no, writer)} left it{state(self.written(row, no, writer))}, {which}"
 
-    def step(self, first, kind, name, second):
+    def step(self, first, kind, name, second, order=None):
         """The sentence of a dependency."""
         row = row_of(name)
         if kind.startswith("rw"):
@@ -167,7 +185,8 @@ class Explained:
                 reader = self.first_reader(row, second, fits, kind == "wr")
                 lead, saw = (", and", "") if kind == "wr" else (", which changed whether it matches", "; that one")
                 then = f"{lead} {self.operation(second, reader)}{saw} saw it{self.seen(row, second, reader)}"
-        return wrapped(f"T{first} comes before T{second}: {did}{then}. [{kind}({name})]", "  ")
+        order = order or f"T{first} comes before T{second}"
+        return wrapped(f"{order}: {did}{then}. [{kind}({name})]", "  ")
 
     def steps(self, walk):
         found = dependencies(walk)
@@ -175,9 +194,45 @@ class Explained:
 
     def nicknames(self, walk):
         """The nicknames of a cycle, in the order in which they are printed."""
-        cycle = [Edge(int(first), kind, row_of(row), int(second)) for first, kind, row, second in dependencies(walk)]
+        return self.names([Edge(int(first), kind, row_of(row), int(second)) for first, kind, row, second in dependencies(walk)])
+
+    def names(self, cycle):
         found = names_of(History(self.given), cycle)
         return [name for name in NAMES if name in found]
+
+    def snapshot_cycle(self, verdict):
+        """The dependencies of a snapshot verdict's cycle: for each step between two transactions the least by kind and
+        row, an anti-dependency from a start to a commit, and another one from a commit to a start."""
+        points, edges, cycle = verdict.split()[1:], History(self.given).edges, []
+        for one, other in zip(points, points[1:]):
+            first, second = int(one[1:]), int(other[1:])
+            if first == second:
+                continue
+            fit = [it for it in edges if (it.first, it.second) == (first, second) and it.kind.startswith("rw") == (one[0] == "s")]
+            cycle.append(min(fit, key=lambda it: (KINDS.index(it.kind), it.row)))
+        return cycle
+
+    def point_step(self, edge):
+        """The sentence of a dependency of that cycle."""
+        ends = ("start", "commit") if edge.kind.startswith("rw") else ("commit", "start")
+        order = f"The {ends[0]} of T{edge.first} comes before the {ends[1]} of T{edge.second}"
+        return self.step(edge.first, edge.kind, name_of(edge.row), edge.second, order)
+
+    def snapshot_title(self, verdict):
+        """The title of a snapshot verdict."""
+        if verdict.startswith("yes"):
+            return "Snapshot isolation kept"
+        cycle = self.snapshot_cycle(verdict)
+        words, name = ", ".join(self.names(cycle)), most_particular([(it.first, it.kind, it.row, it.second) for it in cycle])
+        words = TITLES[name] or words
+        return f"Snapshot isolation broken: {name} ({words})" if words else f"Snapshot isolation broken: {name}"
+
+    def snapshot(self, verdict):
+        """The sentences for a snapshot verdict that is explained alone."""
+        title = wrapped(f"{self.snapshot_title(verdict)}.")
+        if verdict.startswith("yes"):
+            return [title]
+        return [wrapped(f"{self.snapshot_title(verdict)}. {POINTS}"), *map(self.point_step, self.snapshot_cycle(verdict))]
 
     def name(self, phenomenon, walk):
         """A phenomenon with its textbook name, or with the nicknames of the cycle by which it is present, if any."""
@@ -232,13 +287,34 @@ def told_beside(found, walk):
     return present[0] if present and found[present[0]] != f"present {walk}" else None
 
 
-def explanation(history, report, phenomenon=None):
-    """The output of `explain` for a sound history with this report, or for one of its phenomena."""
+def evidence_of(required, snapshot, found):
+    """What breaks what is required: `SI`, or the first forbidden phenomenon that is present; None if nothing does."""
+    if required == "SI":
+        return None if snapshot.startswith("yes") else "SI"
+    return next((name for name in FORBIDDEN[required] if found[name].startswith("present")), None)
+
+
+def promise(required, serial, evidence):
+    """Whether a sound history keeps what is required, as a headline."""
+    words = "not shown: no transaction committed" if serial == "yes" else "broken" if evidence else "kept"
+    return f"{PROMISES[required]} {words}"
+
+
+def explanation(history, report, phenomenon=None, required=None):
+    """The output of `explain` for a sound history with this report: of all, of one of its phenomena or of `SI`, or of what
+    is required."""
     explained = Explained(history)
     serial, snapshot, *found, level = (line.split(": ", 1)[1] for line in report.decode().splitlines())
     found = dict(zip(TITLES, found))
+    heading = []
+    if required:
+        phenomenon = evidence_of(required, snapshot, found)
+        if phenomenon != "SI":
+            heading = wrapped(f"{promise(required, serial, phenomenon)}.")
+    if phenomenon == "SI":
+        return "\n".join([*capped(90, explained.snapshot(snapshot)), LAST, ""]).encode()
     if phenomenon:
-        return "\n".join([*capped(90, explained.alone(phenomenon, found[phenomenon])), LAST, ""]).encode()
+        return "\n".join([*heading, *capped(90, explained.alone(phenomenon, found[phenomenon])), LAST, ""]).encode()
     answer, _, walk = serial.partition(" ")
     told = told_beside(found, walk)
     if answer == "yes":
@@ -251,4 +327,4 @@ def explanation(history, report, phenomenon=None):
             lines += capped(23, explained.alone(name, said))
         else:
             lines += explained.beside(name, said, walk)
-    return "\n".join([*lines, LEVELS[level], LAST, ""]).encode()
+    return "\n".join([*heading, *lines, LEVELS[level], LAST, ""]).encode()

@@ -7,7 +7,7 @@ import itertools
 import json
 import re
 
-from explained import ROUND
+from explained import PROMISES, ROUND
 from harness import TOP
 
 MOST_STEPS, MOST_TXNS, MOST_OPS, MOST_ENTRIES, MOST_VERSIONS, MOST_ROWS = 20, 25, 8, 8, 7, 40
@@ -20,10 +20,16 @@ LEVELS = {
 }
 YES = ("The committed transactions could have run one after another: there is an order in which every recorded row comes "
        "out.")
+PLACED = ("Each transaction saw what had committed before its start, and its own writes; no row was written by two that "
+          "overlap.")
+CIRCLE = ("No starts and commits fit: what was seen and written asks for each of those below before the next, and for the "
+          "last before the first.")
+ALLOWED = "What is required allows this."
 FAULT = ("The record contradicts itself at one place: either the recorder wrote what didn't happen, or the database did "
          "what no statement does.")
 OPERATION = re.compile(r"statement (\d+) of T(\d+) \(")
 DEPENDENCY = re.compile(r"T(\d+) ([a-z-]+)\(([^)]*)\)(?= T(\d+))")
+POINTS = re.compile(r"The (?:start|commit) of T(\d+) comes before the (?:start|commit) of T(\d+): .* \[([a-z-]+)\(([^)]*)\)\]")
 
 
 class Cut(Exception):
@@ -126,18 +132,21 @@ class History:
 
 
 class Page:
-    """The page of a history, of its report, what `explain` writes of it and of the serial verdict, and its picture."""
+    """The page of a history, of its report, what `explain` writes of it and of the serial verdict, and its picture. If
+    something is required, `asked` is what breaks it, or None."""
 
-    def __init__(self, data, report, explained, whole, picture, asked=None, title=""):
+    def __init__(self, data, report, explained, whole, picture, asked=None, title="", required=None):
         self.history, self.report, self.picture = History(data), report, picture
-        self.asked, self.title, self.meanings = asked, title, meanings()
+        self.asked, self.required, self.title, self.meanings = asked, required, title, meanings()
         self.said = dict(line.split(": ", 1) for line in report.splitlines())
         if " lines more" in explained or " lines more" in whole:
             raise Cut
         self.sentences = explained.replace("\n    ", " ").splitlines()
         self.whole = whole.replace("\n    ", " ").splitlines()
-        self.told = self.said[asked] if asked else self.said["serializable"]
+        self.told = self.said["snapshot" if asked == "SI" else asked or "serializable"]
         self.walk = [(int(a), kind, row_named(row), int(b)) for a, kind, row, b in DEPENDENCY.findall(self.told)]
+        if asked == "SI":
+            self.walk = [(int(a), kind, row_named(row), int(b)) for a, b, kind, row in POINTS.findall("\n".join(self.sentences))]
         self.questions = list(self.asked_of())
         self.rows = list(dict.fromkeys([*self.fault_row(), *(row for _, _, _, row, _ in self.questions)]))
         self.shown = self.transactions()
@@ -202,15 +211,33 @@ class Page:
         texts += [f"{more} more"] if more else []
         return " &rarr; ".join(it if isinstance(it, str) else f"<b>{it[1]}</b>" if it[0] in asked else it[1] for it in texts)
 
+    def drawn_title(self):
+        return re.search(r"<title>(.*?)</title>", self.picture)[1]
+
+    def promise(self):
+        """Whether what is required is kept, and what breaks it."""
+        if self.said["serializable"] == "yes":
+            words = "not shown: no transaction committed"
+        elif self.asked:
+            words = f"broken: {self.drawn_title().removesuffix(': present')}"
+        else:
+            words = "not shown: the record isn't sound" if self.said["level"] == "unsound" else "kept"
+        return f"{PROMISES[self.required]} {words}"
+
     def headline(self):
-        return "Serializable" if not self.asked and self.told.startswith("yes") else \
-            re.search(r"<title>(.*?)</title>", self.picture)[1]
+        if self.required and self.asked != "SI":
+            return self.promise()
+        return "Serializable" if not self.asked and self.told.startswith("yes") else self.drawn_title()
 
     def lede(self):
-        if self.asked:
+        if self.asked == "SI" and (self.walk or self.told.startswith("yes")):
+            return CIRCLE if self.walk else PLACED
+        if self.asked and self.asked != "SI":
             return self.meanings[self.asked][0]
         if self.told.startswith("yes"):
             return YES
+        if self.walk and self.required:
+            return f"{self.drawn_title()}. {ALLOWED}"
         if self.walk:
             return self.meanings[re.search(r": (G[\w-]+)", self.headline())[1]][0]
         found = {"F2": "G1a", "F3": "G1b"}.get(self.told.split()[1])
@@ -245,11 +272,20 @@ class Page:
         return (f'\n<p class="chain">{self.op(no, number)} and {self.op(other, last)}; row {name(row)}, version by version: '
                 f"{self.versions(row, places)}</p>")
 
+    def heading(self):
+        if self.asked == "SI":
+            return "What is found" if self.told.startswith("yes") else "Why no snapshots fit" if self.walk else "What is wrong"
+        if self.asked:
+            return "What is found"
+        if self.told.startswith("yes"):
+            return "An order that gives every row"
+        if self.walk:
+            return "What is allowed" if self.required else "Why no order fits"
+        return "What is wrong"
+
     def why(self):
-        heading = "What is found" if self.asked else "An order that gives every row" if self.told.startswith("yes") else \
-            "Why no order fits" if self.walk else "What is wrong"
         steps = self.steps()
-        if not self.walk and self.asked:
+        if not self.walk and self.asked and self.asked != "SI":
             steps = []
         items = "".join(f'<li id="s{s}">{led(text)}{self.below(s) if self.walk else ""}</li>\n'
                         for s, text in enumerate(steps[:MOST_STEPS], 1))
@@ -258,7 +294,7 @@ class Page:
             more = len(self.walk) - MOST_STEPS
             behind = f'<p>{more} more steps aren\'t shown; <a href="#report">the report</a> names them.</p>\n' if more > 0 else ""
             behind += block_of("dependency kinds")
-        return (f'<section aria-labelledby="why">\n<h2 id="why">{heading}</h2>\n<div class="why">\n<div>\n'
+        return (f'<section aria-labelledby="why">\n<h2 id="why">{self.heading()}</h2>\n<div class="why">\n<div>\n'
                 f'<p id="s0" class="order" tabindex="0">{escaped(self.sentences[0])}</p>\n<ol class="steps">\n{items}</ol>\n'
                 f"{behind}</div>\n{self.figure()}</div>\n</section>\n")
 
@@ -347,8 +383,12 @@ class Page:
         return self.table("rows", len(self.rows) + len(shown), count, f"<tbody>\n{lines}</tbody>\n")
 
     def check(self):
-        order, cycle, fault = (block_of(f"check: {how}") for how in ("an order", "a cycle", "a fault or a read"))
-        how = cycle if self.walk else order if self.told.startswith("yes") else fault if self.questions or not self.asked else ""
+        order, cycle, circle, fault = (block_of(f"check: {how}") for how in (
+            "an order", "a cycle", "a cycle of starts and commits", "a fault or a read"))
+        if self.asked == "SI":
+            how = circle if self.walk else "" if self.told.startswith("yes") else fault
+        else:
+            how = cycle if self.walk else order if self.told.startswith("yes") else fault if self.questions or not self.asked else ""
         return block_of("check").replace("{how}\n", how)
 
     def evidence(self):

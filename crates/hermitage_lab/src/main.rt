@@ -20,7 +20,7 @@ use crate::names::all_names;
 use crate::playing::{run_compare, run_play};
 use crate::streams::Streams;
 use crate::told::told;
-use crate::wanting::wanted;
+use crate::wanting::{required, wanted};
 use clap::ArgMatches;
 use lab_case_commands::{case, matrix, matrix_at};
 use lab_command_line::{Names, command};
@@ -30,7 +30,7 @@ use lab_hints::{Choices, note_words, shown_text};
 use lab_matrix::CaseName;
 use lab_page::page;
 use lab_picture::picture;
-use lab_reports::{Phenomenon, Violation};
+use lab_reports::Violation;
 use lab_shrink_commands::{Progress, shrink};
 use lab_streams::{Ending, RunFault, status};
 use std::alloc::{AllocError, Global};
@@ -82,11 +82,6 @@ pub fn ended(ending: Result<Ending, RunFault>) -> Result<u8, RunFault> {
     Ok(status(Ok(ending?)))
 }
 
-/// The phenomenon that is asked for, if there is one.
-fn asked(matches: &ArgMatches<'_>) -> Option<Phenomenon> {
-    matches.get_str("phenomenon").and_then(Phenomenon::named)
-}
-
 /// The violation that is asked for, if there is one.
 fn violation_asked(matches: &ArgMatches<'_>) -> Option<Violation> {
     matches.get_str("phenomenon").and_then(Violation::named)
@@ -117,6 +112,18 @@ fn run_matrix<W: Write>(
     ended(matrix_at(alloc, writer, &levels))
 }
 
+/// Runs `explain`, and answers the exit status.
+fn run_explain<R: Read, W: Write, N: Write>(
+    alloc: Global,
+    reader: &mut R,
+    writer: &mut W,
+    notes: &mut N,
+    matches: &ArgMatches<'_>,
+) -> Result<u8, RunFault> {
+    let asked = violation_asked(matches);
+    ended(explain(alloc, reader, writer, notes, asked, required(matches)))
+}
+
 /// Runs `page`, and answers the exit status.
 fn run_page<R: Read, W: Write, N: Write>(
     alloc: Global,
@@ -137,7 +144,8 @@ fn run_page<R: Read, W: Write, N: Write>(
         reader,
         writer,
         notes,
-        asked(matches),
+        violation_asked(matches),
+        required(matches),
         shown.as_bytes(),
     ))
 }
@@ -199,8 +207,8 @@ fn run_subcommand<T: Files + Threads + Wait + Sync, R: Read, W: Write, N: Write>
         "judge" => ended(judge(alloc, reader, writer, notes, wanted(more))),
         "case" => run_case(alloc, writer, more),
         "matrix" => run_matrix(alloc, writer, more),
-        "picture" => ended(picture(alloc, reader, writer, notes, asked(more))),
-        "explain" => ended(explain(alloc, reader, writer, notes, asked(more))),
+        "picture" => ended(picture(alloc, reader, writer, notes, violation_asked(more))),
+        "explain" => run_explain(alloc, reader, writer, notes, more),
         "page" => run_page(alloc, reader, writer, notes, more),
         _ => Ok(ARGUMENTS_REFUSED),
     }
@@ -240,25 +248,6 @@ fn report_shown(
     }
 }
 
-/// The names that hints know for the options of the given subcommand.
-fn choices_of<'a>(given: &[String], names: &'a Names) -> Choices<'a> {
-    let subcommand = given.get(1).map_or("", |word| word.as_str());
-    Choices {
-        engines: names.engines.as_slice(),
-        phenomena: if subcommand == "shrink" {
-            names.violations.as_slice()
-        } else {
-            names.phenomena.as_slice()
-        },
-        requirements: if matches!(subcommand, "explain" | "page") {
-            &[]
-        } else {
-            names.requirements.as_slice()
-        },
-        tellings: names.tellings.as_slice(),
-    }
-}
-
 /// What arguments that name no run come to: what there is to report, and what to type instead.
 fn refused(
     rt: &HostRuntime,
@@ -268,12 +257,13 @@ fn refused(
 ) -> Result<u8, RunFault> {
     let status = report_shown(rt, error, given, names)?;
     if status == ARGUMENTS_REFUSED {
-        note_words(
-            rt.alloc(),
-            given,
-            choices_of(given, names),
-            &mut rt.stderr(),
-        );
+        let choices = Choices {
+            engines: &names.engines,
+            phenomena: &names.violations,
+            requirements: &names.requirements,
+            tellings: &names.tellings,
+        };
+        note_words(rt.alloc(), given, choices, &mut rt.stderr());
     }
     Ok(status)
 }

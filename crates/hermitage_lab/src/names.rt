@@ -3,7 +3,7 @@
 use lab_command_line::Names;
 use lab_levels::{LEVELS, level_name};
 use lab_matrix::CaseName;
-use lab_reports::{Phenomenon, Requirement, Violation};
+use lab_reports::{Requirement, Violation};
 
 /// What a run may be written as in place of its log and report.
 static TELLINGS: [&str; 4] = ["explain", "picture", "page", "history"];
@@ -14,7 +14,6 @@ pub fn all_names() -> Names {
         cases: CaseName::ALL.map(|case| case.name()),
         engines: LEVELS.map(|level| level_name(level)),
         tellings: TELLINGS,
-        phenomena: Phenomenon::ALL.map(|phenomenon| phenomenon.name()),
         violations: Violation::ALL.map(|violation| violation.name()),
         requirements: Requirement::ALL.map(|requirement| requirement.name()),
     }

@@ -55,9 +55,9 @@ pub fn tell<W: Write, N: Write>(
     }
     let mut file = kept.file.as_slice();
     let second = match telling {
-        Telling::Explain => explain(alloc, &mut file, writer, notes, None)?,
+        Telling::Explain => explain(alloc, &mut file, writer, notes, None, None)?,
         Telling::Picture => picture(alloc, &mut file, writer, notes, None)?,
-        Telling::Page => page(alloc, &mut file, writer, notes, None, b"")?,
+        Telling::Page => page(alloc, &mut file, writer, notes, None, None, b"")?,
     };
     note_text(&kept.notes, notes);
     Ok(ended_both(first, second))

@@ -4,6 +4,11 @@ use clap::ArgMatches;
 use lab_reports::Requirement;
 use lab_streams::{Format, Wanted};
 
+/// What is required of a report, if anything is.
+pub fn required(matches: &ArgMatches<'_>) -> Option<Requirement> {
+    matches.get_str("require").and_then(Requirement::named)
+}
+
 /// How a report is to be written, and what is required of it.
 pub fn wanted(matches: &ArgMatches<'_>) -> Wanted {
     Wanted {
@@ -12,6 +17,6 @@ pub fn wanted(matches: &ArgMatches<'_>) -> Wanted {
         } else {
             Format::Lines
         },
-        requirement: matches.get_str("require").and_then(Requirement::named),
+        requirement: required(matches),
     }
 }

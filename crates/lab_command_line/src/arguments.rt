@@ -35,6 +35,17 @@ pub fn requirement<'a>(alloc: Global, names: &'a Names) -> Arg<'a> {
     )
 }
 
+/// The option that requires a level of a report that is shown.
+pub fn shown_requirement<'a>(alloc: Global, names: &'a Names) -> Result<Arg<'a>, AllocError> {
+    choice(
+        alloc,
+        "require",
+        help::REQUIRE_SHOWN,
+        names.requirements.as_slice(),
+    )
+    .conflicts_with("phenomenon")
+}
+
 /// A command with one more argument, where there was memory for both.
 pub fn with_arg<'a>(
     command: Result<Command<'a>, AllocError>,
@@ -67,11 +78,6 @@ pub fn engines<'a>(alloc: Global, help: &'a str, names: &'a Names) -> Arg<'a> {
         .help(help)
         .action(ArgAction::Append)
         .value_parser(names.engines.as_slice())
-}
-
-/// The option that names a phenomenon.
-pub fn phenomenon<'a>(alloc: Global, help: &'a str, names: &'a Names) -> Arg<'a> {
-    choice(alloc, "phenomenon", help, names.phenomena.as_slice())
 }
 
 /// The option that names a phenomenon, or `SI`.

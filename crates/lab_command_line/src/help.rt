@@ -91,6 +91,9 @@ pub const COMPARED: &str =
 pub const REQUIRE: &str =
     "Asks for a level, or for a snapshot run, and ends with 1 where a report doesn't meet it, or nothing committed";
 
+pub const REQUIRE_SHOWN: &str =
+    "Begins with whether a level, or a snapshot run, is kept, shows what breaks it, and ends as `judge --require`";
+
 pub const JSON: &str = "Writes the report as one line of JSON";
 
 pub const JUDGE: &str = "Judges a history file";
@@ -200,7 +203,8 @@ input is no history file, writes one line that names its first fault.
 
     hermitage_lab picture < examples/g2_item_write_skew.json > picture.svg";
 
-pub const PHENOMENON: &str = "Draws what is found of a phenomenon in place of the serial verdict";
+pub const PHENOMENON: &str =
+    "Draws what is found of a phenomenon, or with SI the snapshot verdict, in place of the serial verdict";
 
 pub const EXPLAIN: &str = "Says in sentences what a judgement of a history file says";
 
@@ -216,7 +220,8 @@ file, writes one line that names its first fault.
 
     hermitage_lab explain < examples/g2_item_write_skew.json";
 
-pub const EXPLAINED: &str = "Explains what is found of a phenomenon in place of the whole report";
+pub const EXPLAINED: &str =
+    "Explains what is found of a phenomenon, or with SI the snapshot verdict, in place of the whole report";
 
 pub const PAGE: &str = "Shows a judgement of a history file as one HTML page";
 
@@ -230,7 +235,8 @@ history itself up to 64 KiB. Where the input is no history file, writes one line
 
     hermitage_lab page < examples/g2_item_write_skew.json > page.html";
 
-pub const PAGED: &str = "Shows what is found of a phenomenon in place of the serial verdict";
+pub const PAGED: &str =
+    "Shows what is found of a phenomenon, or with SI the snapshot verdict, in place of the serial verdict";
 
 pub const TITLE: &str =
     "What the page is to say of the history, as its database and the level asked for; at most 1,000 bytes";

@@ -6,7 +6,6 @@ pub struct Names {
     pub cases: [&'static str; 10],
     pub engines: [&'static str; 4],
     pub tellings: [&'static str; 4],
-    pub phenomena: [&'static str; 7],
     pub violations: [&'static str; 8],
     pub requirements: [&'static str; 5],
 }

@@ -5,7 +5,7 @@ ghost use Rattle.lab_command_line.specs.Subcommands.{HasSubcommands, IsNamed, su
 ghost use Rattle.clap.specs.Words.{subcommand_names};
 
 use crate::arguments::{
-    choice, engines, files, flag, json_of_run, null, parts, phenomenon, requirement, rows,
+    choice, engines, files, flag, json_of_run, null, parts, requirement, rows, shown_requirement,
     violation, with_arg,
 };
 use crate::help;
@@ -138,15 +138,16 @@ fn picture_command<'a>(alloc: Global, names: &'a Names) -> Result<Command<'a>, A
     ensures { IfOk result (IsNamed (codes "picture")) }
 {
     let command = plain_command(alloc, "picture", help::PICTURE, help::PICTURE_WHOLE);
-    command.arg(phenomenon(alloc, help::PHENOMENON, names))
+    command.arg(violation(alloc, help::PHENOMENON, names))
 }
 
 /// The subcommand `explain`.
 fn explain_command<'a>(alloc: Global, names: &'a Names) -> Result<Command<'a>, AllocError>
     ensures { IfOk result (IsNamed (codes "explain")) }
 {
-    let command = plain_command(alloc, "explain", help::EXPLAIN, help::EXPLAIN_WHOLE);
-    command.arg(phenomenon(alloc, help::EXPLAINED, names))
+    let command = Ok(plain_command(alloc, "explain", help::EXPLAIN, help::EXPLAIN_WHOLE));
+    let command = with_arg(command, Ok(violation(alloc, help::EXPLAINED, names)));
+    with_arg(command, shown_requirement(alloc, names))
 }
 
 /// The subcommand `shrink`.
@@ -163,7 +164,8 @@ fn page_command<'a>(alloc: Global, names: &'a Names) -> Result<Command<'a>, Allo
     ensures { IfOk result (IsNamed (codes "page")) }
 {
     let command = Ok(plain_command(alloc, "page", help::PAGE, help::PAGE_WHOLE));
-    let command = with_arg(command, Ok(phenomenon(alloc, help::PAGED, names)));
+    let command = with_arg(command, Ok(violation(alloc, help::PAGED, names)));
+    let command = with_arg(command, shown_requirement(alloc, names));
     let title = Arg::new(alloc, "title")
         .long("title")
         .help(help::TITLE)

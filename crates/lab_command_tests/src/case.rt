@@ -9,7 +9,7 @@ use lab_engine::Level;
 use lab_explain::explain;
 use lab_matrix::CaseName;
 use lab_picture::picture;
-use lab_reports::{Phenomenon, Violation};
+use lab_reports::{Requirement, Violation};
 use lab_shrink_commands::{Progress as Left, shrink};
 use lab_streams::{Format, RunFault, Wanted, status};
 use std::alloc::Global;
@@ -41,10 +41,11 @@ pub enum Subcommand {
         wanted: Wanted,
     },
     Picture {
-        asked: Option<Phenomenon>,
+        asked: Option<Violation>,
     },
     Explain {
-        asked: Option<Phenomenon>,
+        asked: Option<Violation>,
+        required: Option<Requirement>,
     },
     Shrink {
         asked: Option<Violation>,
@@ -145,7 +146,9 @@ pub fn given<T: Files + Threads + Wait + Sync, R: Read, W: Write, N: Write>(
         Subcommand::Judge => judge(alloc, reader, writer, notes, PLAIN),
         Subcommand::JudgeFor { wanted } => judge(alloc, reader, writer, notes, wanted),
         Subcommand::Picture { asked } => picture(alloc, reader, writer, notes, asked),
-        Subcommand::Explain { asked } => explain(alloc, reader, writer, notes, asked),
+        Subcommand::Explain { asked, required } => {
+            explain(alloc, reader, writer, notes, asked, required)
+        }
         Subcommand::Shrink { asked } => {
             let mut shown = Sink::new(alloc, 9_000, 0);
             let left = Left {

@@ -36,7 +36,8 @@ pub const NO_PICTURE: Case = Case {
 
 pub const EXPLANATION: Case = Case {
     subcommand: Subcommand::Explain {
-        asked: Some(Phenomenon::G1b),
+        asked: Some(Violation::Phenomenon(Phenomenon::G1b)),
+        required: None,
     },
     input: INTERMEDIATE,
     text: b"G1b (intermediate read): present: statement 1 of T2 (select * from test) saw row 1 as 101 (the\n    version of statement 1 of T1), not the last one of its transaction.\nWhat each line says, and what a no doesn't: docs/REPORT.md.\n",
@@ -44,7 +45,10 @@ pub const EXPLANATION: Case = Case {
 };
 
 pub const NO_EXPLANATION: Case = Case {
-    subcommand: Subcommand::Explain { asked: None },
+    subcommand: Subcommand::Explain {
+        asked: None,
+        required: None,
+    },
     input: CUT,
     text: CUT_FAULT,
     status: 2,

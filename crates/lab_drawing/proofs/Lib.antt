@@ -22,3 +22,4 @@ mod KnownOrders
 mod ReaderForms
 mod NicknameForms
 pub mod SaidNames
+pub mod LeastCauses

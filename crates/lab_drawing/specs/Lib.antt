@@ -19,3 +19,5 @@ pub mod Sketch
 pub mod ArrowLaws
 pub mod Text
 pub mod Rows
+pub mod SnapshotWalks
+pub mod SnapshotDrawings

@@ -9,6 +9,7 @@
 //! if an allocation fails.
 #![tactic(auto)]
 
+mod causes;
 mod cycles;
 mod dependence;
 mod drawing;
@@ -23,12 +24,14 @@ mod readers;
 mod reads;
 mod rows;
 mod sketch;
+mod snapshot_drawing;
 mod states;
 mod text;
 mod titles;
 mod values;
 mod written;
 
+pub use causes::snapshot_walk;
 pub use cycles::{cycle_of, walk_phenomenon};
 pub use drawing::{Arrow, Drawing, Spot, Tie, is_dashed};
 pub use installs::{Misplaced, Why, installers_of, misplaced_of, put_misplaced};
@@ -41,6 +44,7 @@ pub use making::arrow_of;
 pub use nicknames::Nickname;
 pub use rows::is_named;
 pub use sketch::draw;
+pub use snapshot_drawing::{draw_snapshot, put_broken_title, put_snapshot_title};
 pub use states::{ops_of, state_at};
 pub use text::{outcome_name, put_escaped, put_number, put_state};
 pub use titles::{put_finding_title, put_full_name, put_serial_title};

@@ -43,7 +43,7 @@ pub fn draw(
 }
 
 /// A drawing with this title.
-fn entitled(title: Vec<u8>, drawing: Drawing) -> Drawing
+pub fn entitled(title: Vec<u8>, drawing: Drawing) -> Drawing
     ensures { result ≡ entitled title.items drawing }
 {
     Drawing {
@@ -99,7 +99,7 @@ fn of_finding(
 }
 
 /// The drawing of a walk.
-fn of_walk(
+pub fn of_walk(
     alloc: Global,
     history: &History,
     about: Vec<u8>,

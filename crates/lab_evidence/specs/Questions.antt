@@ -18,7 +18,9 @@ use Rattle.lab_drawing.specs.Making.{arrow_of}
 use Rattle.lab_drawing.specs.Rows.{is_named}
 use Rattle.lab_drawing.specs.declared.drawing.Arrow.{Arrow}
 use Rattle.lab_reports.specs.Phenomena.{finding_of}
-use Rattle.lab_reports.specs.declared.phenomenon.Phenomenon.{Phenomenon}
+use Rattle.lab_reports.specs.declared.violation.Violation.{Violation}
+use Rattle.lab_reports.specs.declared.violation.Violation.TheVariants as violation
+use Rattle.lab_explain.specs.Focus.{Focus}
 use Rattle.lab_evidence.specs.declared.questions.Did.{Did}
 use Rattle.lab_evidence.specs.declared.questions.Did.TheVariants.{Saw, Wrote}
 use Rattle.lab_evidence.specs.declared.questions.Question.{Question}
@@ -30,9 +32,13 @@ serial_cycle (serial.NoFault f) = []
 serial_cycle (serial.NoCycle walk) = walk
 
 -- the cycle that is told
-abbrev pub told_cycle : Report → Option Phenomenon → List Edge
-told_cycle report None = serial_cycle report.serial
-told_cycle report (Some p) = cycle_of (finding_of p report)
+abbrev pub shown_cycle : Report → List Edge → Option Violation → List Edge
+shown_cycle report walk None = serial_cycle report.serial
+shown_cycle report walk (Some (violation.Phenomenon p)) = cycle_of (finding_of p report)
+shown_cycle report walk (Some violation.Snapshot) = walk
+
+abbrev pub told_cycle : Report → Focus → List Edge
+told_cycle report focus = shown_cycle report focus.walk focus.shown
 
 -- the steps of it that are shown
 abbrev pub shown_steps : List Edge → List Edge
@@ -91,13 +97,14 @@ of_found (finding.At n k row) = of_place n k row
 of_found finding.NotJudged = []
 
 -- the question that is of no step
-abbrev pub of_fault : Report → Option Phenomenon → List Question
+abbrev pub of_fault : Report → Option Violation → List Question
 of_fault report None = of_serial report.serial
-of_fault report (Some p) = of_found (finding_of p report)
+of_fault report (Some (violation.Phenomenon p)) = of_found (finding_of p report)
+of_fault report (Some violation.Snapshot) = of_serial report.serial
 
 -- all questions
-abbrev pub questions_of : History → Report → Option Phenomenon → List Question
-questions_of h report asked = of_steps h 0 (shown_steps (told_cycle report asked)) ++ of_fault report asked
+abbrev pub questions_of : History → Report → Focus → List Question
+questions_of h report focus = of_steps h 0 (shown_steps (told_cycle report focus)) ++ of_fault report focus.shown
 
 -- rows with this one, each once
 abbrev pub with_row : List Row → Row → List Row
@@ -118,10 +125,11 @@ serial_row (serial.Yes order) = []
 serial_row (serial.NoFault f) = parts_row (parts_of f)
 serial_row (serial.NoCycle walk) = []
 
-abbrev pub fault_row : Report → Option Phenomenon → List Row
+abbrev pub fault_row : Report → Option Violation → List Row
 fault_row report None = serial_row report.serial
-fault_row report (Some p) = []
+fault_row report (Some (violation.Phenomenon p)) = []
+fault_row report (Some violation.Snapshot) = serial_row report.serial
 
 -- the rows in question, as they first come
-abbrev pub rows_of : Report → Option Phenomenon → List Question → List Row
-rows_of report asked questions = with_rows (fault_row report asked) questions
+abbrev pub rows_of : Report → Option Violation → List Question → List Row
+rows_of report shown questions = with_rows (fault_row report shown) questions

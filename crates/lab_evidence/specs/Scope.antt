@@ -1,13 +1,17 @@
 -- What a page shows of a history: its transactions, what the verdict is about, and the rows involved.
-use Rattle.std.specs.Prelude.{ℕ, ◌==◌, nat_le, min, Bool, ◌&&◌, ◌||◌, cond, Option, is_some, List, [], ◌∷◌, ◌++◌, length, take, flat_map}
+use Rattle.std.specs.Prelude.{ℕ, ◌==◌, nat_le, min, Bool, ◌&&◌, ◌||◌, cond, Option, Some, None, is_some, List, [], ◌∷◌, ◌++◌, length, take, flat_map}
 use Rattle.std.specs.List.{list_any}
 use Rattle.lab_table.specs.Row.{Row}
 use Rattle.lab_history.specs.History.{History}
 use Rattle.lab_history.specs.Version.{ops_of, op_at}
 use Rattle.lab_history.specs.declared.transaction.Txn.{Txn}
 use Rattle.lab_judge.specs.declared.report.Report.{Report}
-use Rattle.lab_drawing.specs.Sketch.{drawing_of}
-use Rattle.lab_reports.specs.declared.phenomenon.Phenomenon.{Phenomenon}
+use Rattle.lab_deps.specs.declared.edge.Edge.{Edge}
+use Rattle.lab_drawing.specs.Sketch.{Sketch, drawing_of}
+use Rattle.lab_drawing.specs.SnapshotDrawings.{snapshot_drawing}
+use Rattle.lab_reports.specs.declared.violation.Violation.{Violation}
+use Rattle.lab_reports.specs.declared.violation.Violation.TheVariants as violation
+use Rattle.lab_explain.specs.Focus.{Focus}
 use Rattle.lab_evidence.specs.declared.questions.Question.{Question}
 use Rattle.lab_evidence.specs.Questions.{questions_of, rows_of}
 
@@ -44,10 +48,19 @@ shown_txns named txns = named ++ few_others named txns
 abbrev pub scope_with : History → List ℕ → List Question → List Row → Scope
 scope_with h columns asked rows = record { txns = shown_txns (named_txns columns) h.txns; asked = asked; rows = rows }
 
+-- the drawing of what is shown
+abbrev pub shown_drawing : History → Report → List Edge → Option Violation → Sketch
+shown_drawing h report walk None = drawing_of h report None
+shown_drawing h report walk (Some (violation.Phenomenon p)) = drawing_of h report (Some p)
+shown_drawing h report walk (Some violation.Snapshot) = snapshot_drawing h report.snapshot walk
+
+abbrev pub focus_drawing : History → Report → Focus → Sketch
+focus_drawing h report focus = shown_drawing h report focus.walk focus.shown
+
 -- what the page of a report shows
-abbrev pub scope_of : History → Report → Option Phenomenon → Scope
-scope_of h report asked =
-    scope_with h (drawing_of h report asked).columns (questions_of h report asked) (rows_of report asked (questions_of h report asked))
+abbrev pub scope_of : History → Report → Focus → Scope
+scope_of h report focus =
+    scope_with h (focus_drawing h report focus).columns (questions_of h report focus) (rows_of report focus.shown (questions_of h report focus))
 
 -- whether a question is at an operation
 abbrev pub is_at : ℕ → ℕ → Question → Bool

@@ -7,7 +7,7 @@ use crate::questions::Question;
 use lab_deps::FaultParts;
 use lab_drawing::is_named;
 use lab_judge::{Report, Serial};
-use lab_reports::Phenomenon;
+use lab_reports::Violation;
 use lab_table::{NoMemory, RowName};
 use std::alloc::Global;
 
@@ -61,13 +61,14 @@ fn put_serial_row(out: &mut Vec<RowName>, serial: &Serial) -> Result<(), NoMemor
 fn put_fault_row(
     out: &mut Vec<RowName>,
     report: &Report,
-    asked: Option<Phenomenon>,
+    shown: Option<Violation>,
 ) -> Result<(), NoMemory>
-    ensures { OnOk result (out.new.items ≡ out.old.items ++ fault_row report.now asked) }
+    ensures { OnOk result (out.new.items ≡ out.old.items ++ fault_row report.now shown) }
 {
-    match asked {
+    match shown {
         None => put_serial_row(out, &report.serial),
-        Some(_) => Ok(()),
+        Some(Violation::Phenomenon(_)) => Ok(()),
+        Some(Violation::Snapshot) => put_serial_row(out, &report.serial),
     }
 }
 
@@ -75,13 +76,13 @@ fn put_fault_row(
 pub fn rows_of(
     alloc: Global,
     report: &Report,
-    asked: Option<Phenomenon>,
+    shown: Option<Violation>,
     questions: &[Question],
 ) -> Result<Vec<RowName>, NoMemory>
-    ensures { IfOk result (λ rows. rows.items ≡ rows_of report.now asked questions.now) }
+    ensures { IfOk result (λ rows. rows.items ≡ rows_of report.now shown questions.now) }
 {
     let mut rows = Vec::new(alloc);
-    put_fault_row(&mut rows, report, asked)?;
+    put_fault_row(&mut rows, report, shown)?;
     add_rows(&mut rows, questions)?;
     Ok(rows)
 }

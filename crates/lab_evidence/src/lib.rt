@@ -28,6 +28,6 @@ pub use chains::put_chain;
 pub use markup::{put_op, put_row};
 pub use questions::{Did, Question, first_did, second_did, shown_steps, told_cycle};
 pub use rows::put_rows;
-pub use scope::{Scope, scope_of};
+pub use scope::{Scope, focus_drawing, scope_of};
 pub use transactions::put_transactions;
 pub use version_places::asked_place;

@@ -5,9 +5,10 @@ ghost use Rattle.lab_evidence.specs.Questions.{serial_cycle, told_cycle, shown_s
 
 use lab_deps::{Edge, FaultParts, Kind};
 use lab_drawing::{Spot, arrow_of, cycle_of};
+use lab_explain::Focus;
 use lab_history::History;
 use lab_judge::{Finding, Report, Serial};
-use lab_reports::Phenomenon;
+use lab_reports::Violation;
 use lab_table::{NoMemory, RowName, TxnNo};
 use std::alloc::Global;
 
@@ -45,12 +46,13 @@ fn serial_cycle(serial: &Serial) -> &[Edge]
 }
 
 /// Returns the cycle that the page explains; empty if there is none.
-pub fn told_cycle(report: &Report, asked: Option<Phenomenon>) -> &[Edge]
-    ensures { result.now ≡ told_cycle report.now asked }
+pub fn told_cycle<'a>(report: &'a Report, focus: &'a Focus) -> &'a [Edge]
+    ensures { result.now ≡ told_cycle report.now focus.now }
 {
-    match asked {
+    match focus.shown {
         None => serial_cycle(&report.serial),
-        Some(phenomenon) => cycle_of(phenomenon.found_in(report)),
+        Some(Violation::Phenomenon(phenomenon)) => cycle_of(phenomenon.found_in(report)),
+        Some(Violation::Snapshot) => focus.walk.as_slice(),
     }
 }
 
@@ -172,13 +174,16 @@ fn put_of_found(out: &mut Vec<Question>, finding: &Finding) -> Result<(), NoMemo
 fn put_of_fault(
     out: &mut Vec<Question>,
     report: &Report,
-    asked: Option<Phenomenon>,
+    shown: Option<Violation>,
 ) -> Result<(), NoMemory>
-    ensures { OnOk result (out.new.items ≡ out.old.items ++ of_fault report.now asked) }
+    ensures { OnOk result (out.new.items ≡ out.old.items ++ of_fault report.now shown) }
 {
-    match asked {
+    match shown {
         None => put_of_serial(out, &report.serial),
-        Some(phenomenon) => put_of_found(out, phenomenon.found_in(report)),
+        Some(Violation::Phenomenon(phenomenon)) => {
+            put_of_found(out, phenomenon.found_in(report))
+        }
+        Some(Violation::Snapshot) => put_of_serial(out, &report.serial),
     }
 }
 
@@ -187,16 +192,16 @@ pub fn questions_of(
     alloc: Global,
     history: &History,
     report: &Report,
-    asked: Option<Phenomenon>,
+    focus: &Focus,
 ) -> Result<Vec<Question>, NoMemory>
-    ensures { IfOk result (λ questions. questions.items ≡ questions_of history.now report.now asked) }
+    ensures { IfOk result (λ questions. questions.items ≡ questions_of history.now report.now focus.now) }
 {
     let mut questions = Vec::new(alloc);
     put_of_steps(
         &mut questions,
         history,
-        shown_steps(told_cycle(report, asked)),
+        shown_steps(told_cycle(report, focus)),
     )?;
-    put_of_fault(&mut questions, report, asked)?;
+    put_of_fault(&mut questions, report, focus.shown)?;
     Ok(questions)
 }

@@ -2,15 +2,15 @@
 
 ghost use Rattle.std.specs.Prelude.{◌≡◌, ◌++◌, is_some, IfOk, OnOk};
 ghost use Rattle.lab_history.specs.Version.{ops_of, op_at};
-ghost use Rattle.lab_evidence.specs.Scope.{is_among, other_txn, other_txns, few_others, named_txns, shown_txns, scope_with, scope_of, is_at, is_asked, shows_op, has_line};
+ghost use Rattle.lab_evidence.specs.Scope.{is_among, other_txn, other_txns, few_others, named_txns, shown_txns, scope_with, focus_drawing, scope_of, is_at, is_asked, shows_op, has_line};
 
 use crate::asked_rows::rows_of;
 use crate::questions::{Question, questions_of};
-use lab_drawing::{Drawing, draw};
-use lab_explain::op_of;
+use lab_drawing::{Drawing, draw, draw_snapshot};
+use lab_explain::{Focus, op_of};
 use lab_history::{History, Txn};
 use lab_judge::Report;
-use lab_reports::Phenomenon;
+use lab_reports::Violation;
 use lab_table::{NoMemory, RowName, TxnNo};
 use std::alloc::Global;
 use std::marker::Model;
@@ -111,18 +111,34 @@ fn scope_with(
     Ok(Scope { txns, asked, rows })
 }
 
+/// Returns the drawing of what the page of a report shows.
+pub fn focus_drawing(
+    alloc: Global,
+    history: &History,
+    report: &Report,
+    focus: &Focus,
+) -> Result<Drawing, NoMemory>
+    ensures { IfOk result (λ drawing. drawing ≡ focus_drawing history.now report.now focus.now) }
+{
+    match focus.shown {
+        None => draw(alloc, history, report, None),
+        Some(Violation::Phenomenon(phenomenon)) => draw(alloc, history, report, Some(phenomenon)),
+        Some(Violation::Snapshot) => draw_snapshot(alloc, history, &report.snapshot, &focus.walk),
+    }
+}
+
 /// Returns the part of a history that the page of a report shows.
 pub fn scope_of(
     alloc: Global,
     history: &History,
     report: &Report,
-    asked: Option<Phenomenon>,
+    focus: &Focus,
 ) -> Result<Scope, NoMemory>
-    ensures { IfOk result (λ scope. scope ≡ scope_of history.now report.now asked) }
+    ensures { IfOk result (λ scope. scope ≡ scope_of history.now report.now focus.now) }
 {
-    let drawing = draw(alloc, history, report, asked)?;
-    let questions = questions_of(alloc, history, report, asked)?;
-    let rows = rows_of(alloc, report, asked, &questions)?;
+    let drawing = focus_drawing(alloc, history, report, focus)?;
+    let questions = questions_of(alloc, history, report, focus)?;
+    let rows = rows_of(alloc, report, focus.shown, &questions)?;
     scope_with(alloc, history, &drawing, questions, rows)
 }
 

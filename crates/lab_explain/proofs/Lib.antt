@@ -7,3 +7,4 @@ mod LastCommits
 mod ToldWalks
 mod TrueFaults
 mod OneExplanation
+pub mod OneFocus

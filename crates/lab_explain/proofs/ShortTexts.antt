@@ -2,6 +2,8 @@
 use Rattle.std.{proofs.{Common.{◌≡◌, ℕ, ◌+◌, ◌≤◌, Bool, true, false, cond, Option, Some, None, List, [], ◌∷◌, ◌++◌, refl, arith}, lemmas.Bool.Decides.{nat_tests}}, specs.{Prelude.{nat_le}, Str.{bytes_eq}}}
 use Rattle.lab_history.specs.History.{History}
 use Rattle.lab_judge.specs.{ReportText.{walk_text}, declared.report.{Finding.{Finding, TheVariants.{Absent, Walk, At, NotJudged}}, Grade.{Grade}, Report.{Report}}}
+use Rattle.lab_deps.specs.declared.edge.Edge.{Edge}
+use Rattle.lab_judge.specs.declared.places.Places.{Places}
 use Rattle.lab_judge.specs.declared.report.Grade.TheVariants as grade
 use Rattle.lab_reports.specs.{Phenomena.{phenomenon_name, finding_of}, declared.phenomenon.Phenomenon.{Phenomenon, TheVariants.{G0, G1a, G1b, G1c, GSingle, G2Item, G2}}}
 use Rattle.lab_explain.specs.Lines.{lines, paragraph, cut, capped}
@@ -10,6 +12,7 @@ use Rattle.lab_explain.specs.Findings.{alone_sentences, beside, by_walk, pointer
 use Rattle.lab_explain.specs.Names.{level_line}
 use Rattle.lab_explain.specs.Phrases.{pointer_words, pointer_end, last_line}
 use Rattle.lab_explain.specs.Places.{places_lines}
+use Rattle.lab_explain.specs.SnapshotPart.{snapshot_sentences, snapshot_text}
 use Rattle.lab_explain.specs.Told.{serial_walk, told_of, is_told}
 use Rattle.lab_explain.proofs.Capped.{lines_append, cut_few, few_lines}
 
@@ -163,6 +166,14 @@ module _ (h : History) (report : Report) (told : Option Phenomenon) where
 
   few : lines (first ++ second ++ third ++ level_line report.level ++ last_line) ≤ 97
   few = within (lines (first ++ second ++ third ++ level_line report.level ++ last_line)) (verdict_lines told + 14 + most told + 1 + 1) 97 all_short (few_most told)
+
+-- the text of a snapshot verdict
+snapshot_part : (h : History) (snapshot : Places) (walk : List Edge) → lines (snapshot_text h snapshot walk) ≤ 91
+unfolding snapshot_text
+snapshot_part h snapshot walk = both 90 1 (capped 90 (snapshot_sentences h snapshot walk)) last_line (few_lines 90 (snapshot_sentences h snapshot walk) (omega arith)) last_short
+
+pub snapshot_short : (h : History) (snapshot : Places) (walk : List Edge) → lines (snapshot_text h snapshot walk) ≤ 100
+snapshot_short h snapshot walk = omega (arith, snapshot_part h snapshot walk)
 
 module _ (h : History) (report : Report) where
   whole_short : lines (whole_text h report) ≤ 97

@@ -5,11 +5,11 @@ use Rattle.lab_deps.specs.declared.edge.Edge.{Edge}
 use Rattle.lab_judge.specs.{Judgement.{IsExactJudgement}, declared.report.Report.{Report}}
 use Rattle.lab_drawing.{specs.{ArrowLaws.{IsArrowOf, NamesWalk}, declared.drawing.Arrow.{Arrow}}, proofs.{JudgedWalks.{is_found}, DrawnWalks.{edge_of}, MadeArrows.{has_arrow}}}
 use Rattle.lab_reports.specs.declared.phenomenon.Phenomenon.{Phenomenon}
-use Rattle.lab_explain.specs.{Lines.{step}, Steps.{edge_text, told_edge, edge_step}}
+use Rattle.lab_explain.specs.{Lines.{step}, Steps.{edge_text, told_edge, edge_step}, declared.steps.Lead.{Lead}}
 
-pub told : (h : History) (report : Report) (asked : Option Phenomenon) (walk : List Edge) → IsExactJudgement h report → NamesWalk report asked walk
-    → (e : Edge) → Contains walk e → (a : Arrow) × (edge_step h e ≡ step (edge_text h e a)) × IsArrowOf h e a
-told h report asked walk exact is e there =
+pub told : (h : History) (lead : Lead) (report : Report) (asked : Option Phenomenon) (walk : List Edge) → IsExactJudgement h report → NamesWalk report asked walk
+    → (e : Edge) → Contains walk e → (a : Arrow) × (edge_step h lead e ≡ step (edge_text h lead e a)) × IsArrowOf h e a
+told h lead report asked walk exact is e there =
     let found = is_found h report walk exact asked is in
     let arrow = has_arrow h found.installed e (edge_of h walk e found.closed there) in
-    (arrow.0, ap (told_edge h e) arrow.1, arrow.2)
+    (arrow.0, ap (told_edge h lead e) arrow.1, arrow.2)

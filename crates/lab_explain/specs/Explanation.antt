@@ -15,6 +15,7 @@ use Rattle.lab_explain.specs.Phrases.{no_order, unsound_text, order_head, last_l
 use Rattle.lab_explain.specs.Places.{places_lines}
 use Rattle.lab_explain.specs.Steps.{walk_sentences}
 use Rattle.lab_explain.specs.Told.{told_of}
+use Rattle.lab_explain.specs.declared.steps.Lead.TheVariants.{Transactions}
 
 -- the sentence of an order
 unfoldable pub order_sentence : List ℕ → List ℕ
@@ -24,7 +25,7 @@ order_sentence order = order_head ++ txns_text order ++ codes "."
 abbrev pub serial_sentences : History → Serial → List (List ℕ)
 serial_sentences h (serial.Yes order) = paragraph (order_sentence order) ∷ []
 serial_sentences h (serial.NoFault f) = paragraph unsound_text ∷ fault_sentences h f
-serial_sentences h (serial.NoCycle walk) = paragraph no_order ∷ walk_sentences h walk
+serial_sentences h (serial.NoCycle walk) = paragraph no_order ∷ walk_sentences h Transactions walk
 
 -- the lines of what is found of each phenomenon, of which the cycle of this one is told
 unfoldable pub findings_lines : History → Report → Option Phenomenon → List ℕ

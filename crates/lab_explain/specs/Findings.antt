@@ -17,6 +17,7 @@ use Rattle.lab_explain.specs.Names.{flaw_of}
 use Rattle.lab_explain.specs.Phrases.{round_text, not_judged, other_words, asked_words, explains_words, pointer_words, pointer_end}
 use Rattle.lab_explain.specs.Steps.{walk_sentences}
 use Rattle.lab_explain.specs.Told.{serial_walk, is_told}
+use Rattle.lab_explain.specs.declared.steps.Lead.TheVariants.{Transactions}
 
 -- a phenomenon at the head of its part, by the cycle that is found of it
 unfoldable pub head_of : History → Phenomenon → Finding → List ℕ
@@ -50,7 +51,7 @@ said_alone h p NotJudged = not_judged
 
 -- the sentences of a finding that is explained by itself, in lines: its own, and those of its cycle where it has one
 unfoldable pub alone_sentences : History → Phenomenon → Finding → List (List ℕ)
-alone_sentences h p found = paragraph (head_of h p found ++ said_alone h p found) ∷ walk_sentences h (cycle_of found)
+alone_sentences h p found = paragraph (head_of h p found ++ said_alone h p found) ∷ walk_sentences h Transactions (cycle_of found)
 
 -- a finding beside a serial verdict whose walk is printed so
 unfoldable pub beside : History → Phenomenon → List ℕ → Finding → List ℕ

@@ -12,4 +12,7 @@ pub mod Findings
 pub mod Explanation
 pub mod PrintedParts
 pub mod Sentences
+pub mod SnapshotPart
+pub mod Promise
+pub mod Focus
 pub mod Answer

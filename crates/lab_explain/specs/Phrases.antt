@@ -13,6 +13,14 @@ round_text = codes "each of these transactions comes before the next, and the la
 unfoldable pub unsound_text : List ℕ
 unsound_text = codes "Not judged, since the record contradicts itself: what it says at one place isn't what is due there."
 
+-- a snapshot verdict on a history that isn't sound
+unfoldable pub snapshot_unsound : List ℕ
+snapshot_unsound = codes "Snapshot isolation not kept, since the history isn't sound: what it records at one place isn't what is due there."
+
+-- behind the title of a cycle of starts and commits
+unfoldable pub snapshot_round : List ℕ
+snapshot_round = codes ". Each of these starts and commits comes before the next, and the last before the first, so no order keeps all of these dependencies with each start before its commit."
+
 -- an order
 unfoldable pub order_head : List ℕ
 order_head = codes "Serializable: run whole, one after another, the committed transactions list, write and leave what is recorded, in this order:"

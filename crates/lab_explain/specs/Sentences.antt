@@ -18,6 +18,7 @@ use Rattle.lab_explain.specs.Findings.{head_of, found_beside, said_alone}
 use Rattle.lab_explain.specs.Phrases.{no_order, unsound_text}
 use Rattle.lab_explain.specs.Steps.{edge_text}
 use Rattle.lab_explain.specs.Told.{serial_walk}
+use Rattle.lab_explain.specs.declared.steps.Lead.{Lead}
 
 -- the first sentence of a serial verdict
 abbrev pub serial_sentence : Serial → List ℕ
@@ -26,13 +27,13 @@ serial_sentence (serial.NoFault f) = unsound_text
 serial_sentence (serial.NoCycle walk) = no_order
 
 -- the sentence of a dependency, where there are operations that make it
-abbrev pub sentence_by : History → Edge → Option Arrow → List ℕ
-sentence_by h e None = []
-sentence_by h e (Some a) = edge_text h e a
+abbrev pub sentence_by : History → Lead → Edge → Option Arrow → List ℕ
+sentence_by h lead e None = []
+sentence_by h lead e (Some a) = edge_text h lead e a
 
 -- the sentence of a dependency, by the operations between which the picture has its arrow
-abbrev pub edge_sentence : History → Edge → List ℕ
-edge_sentence h e = sentence_by h e (arrow_of h e)
+abbrev pub edge_sentence : History → Lead → Edge → List ℕ
+edge_sentence h lead e = sentence_by h lead e (arrow_of h e)
 
 -- how a recorder most often comes to a fault
 abbrev pub mistake_text : LocalFault → List ℕ

@@ -11,6 +11,8 @@ use Rattle.lab_drawing.specs.Making.{arrow_of}
 use Rattle.lab_drawing.specs.declared.drawing.Arrow.{Arrow}
 use Rattle.lab_drawing.specs.declared.drawing.Spot.{Spot}
 use Rattle.lab_explain.specs.Lines.{step, joined}
+use Rattle.lab_explain.specs.declared.steps.Lead.{Lead}
+use Rattle.lab_explain.specs.declared.steps.Lead.TheVariants.{Transactions, Points}
 use Rattle.lab_explain.specs.Clauses.{txn_name, op_text, seen_by, left_by, saw_text, left_text}
 
 -- what the operation that a dependency leads from did: it saw the row, or left it
@@ -45,23 +47,44 @@ tag_text e = codes " [" ++ kind_name e.kind ++ codes "(" ++ printed_row_name e.r
 unfoldable pub order_text : Edge → List ℕ
 order_text e = txn_name e.from ++ codes " comes before " ++ txn_name e.to ++ codes ": "
 
+-- the start of one transaction comes before the commit of another
+unfoldable pub start_first : Edge → List ℕ
+start_first e = codes "The start of " ++ txn_name e.from ++ codes " comes before the commit of " ++ txn_name e.to ++ codes ": "
+
+-- the commit of one transaction comes before the start of another
+unfoldable pub commit_first : Edge → List ℕ
+commit_first e = codes "The commit of " ++ txn_name e.from ++ codes " comes before the start of " ++ txn_name e.to ++ codes ": "
+
+-- which points a dependency orders: an anti-dependency a start and a commit, any other a commit and a start
+abbrev pub points_text : Edge → Kind → List ℕ
+points_text e Write = commit_first e
+points_text e ItemRead = commit_first e
+points_text e PredicateRead = commit_first e
+points_text e ItemAnti = start_first e
+points_text e PredicateAnti = start_first e
+
+-- what a dependency orders: two transactions, or a start and a commit
+abbrev pub lead_text : Lead → Edge → List ℕ
+lead_text Transactions e = order_text e
+lead_text Points e = points_text e e.kind
+
 -- the sentence of a dependency, by the operations that make it
-unfoldable pub edge_text : History → Edge → Arrow → List ℕ
-edge_text h e a = order_text e ++ from_text h e.kind a.from e.row ++ to_text h e.kind a.to e.row ++ codes "." ++ tag_text e
+unfoldable pub edge_text : History → Lead → Edge → Arrow → List ℕ
+edge_text h lead e a = lead_text lead e ++ from_text h e.kind a.from e.row ++ to_text h e.kind a.to e.row ++ codes "." ++ tag_text e
 
 -- its lines, where there are such operations
-abbrev pub told_edge : History → Edge → Option Arrow → List ℕ
-told_edge h e None = []
-told_edge h e (Some a) = step (edge_text h e a)
+abbrev pub told_edge : History → Lead → Edge → Option Arrow → List ℕ
+told_edge h lead e None = []
+told_edge h lead e (Some a) = step (edge_text h lead e a)
 
 -- the lines of a dependency, by the operations between which the picture has its arrow
-abbrev pub edge_step : History → Edge → List ℕ
-edge_step h e = told_edge h e (arrow_of h e)
+abbrev pub edge_step : History → Lead → Edge → List ℕ
+edge_step h lead e = told_edge h lead e (arrow_of h e)
 
 -- the sentences of a walk in lines: those of its dependencies, in order
-abbrev pub walk_sentences : History → List Edge → List (List ℕ)
-walk_sentences h walk = map (edge_step h) walk
+abbrev pub walk_sentences : History → Lead → List Edge → List (List ℕ)
+walk_sentences h lead walk = map (edge_step h lead) walk
 
 -- the lines of a walk
-abbrev pub walk_steps : History → List Edge → List ℕ
-walk_steps h walk = joined (walk_sentences h walk)
+abbrev pub walk_steps : History → Lead → List Edge → List ℕ
+walk_steps h lead walk = joined (walk_sentences h lead walk)

@@ -9,7 +9,7 @@ use crate::clauses::put_saw;
 use crate::lines::{lines, put_paragraph, put_placed, put_with_left_out, room_behind};
 use crate::names::flaw_of;
 use crate::phrases::{asked_words, explains_words, not_judged, other_words, round_text};
-use crate::steps::{put_standing_walk, put_walk_steps};
+use crate::steps::{Lead, put_standing_walk, put_walk_steps};
 use crate::told::{is_same, walk_text};
 use lab_drawing::{cycle_of, put_full_name};
 use lab_history::History;
@@ -147,7 +147,7 @@ fn put_found_alone(
     ensures { OnOk result (out.new.items ≡ out.old.items ++ joined (alone_sentences history.now phenomenon finding.now)) }
 {
     put_alone_first(alloc, out, history, phenomenon, finding)?;
-    put_walk_steps(alloc, out, history, cycle_of(finding))
+    put_walk_steps(alloc, out, history, Lead::Transactions, cycle_of(finding))
 }
 
 /// What stands of those lines in so many.
@@ -166,7 +166,15 @@ fn alone_front(
     let mut out = Vec::new(alloc);
     put_placed(&mut out, most, Some(most), &first)?;
     let room = room_behind(Some(most), &first);
-    put_standing_walk(alloc, &mut out, most, room, history, cycle_of(finding))?;
+    put_standing_walk(
+        alloc,
+        &mut out,
+        most,
+        room,
+        history,
+        Lead::Transactions,
+        cycle_of(finding),
+    )?;
     Ok(out)
 }
 

@@ -12,6 +12,10 @@ ghost use Rattle.lab_judge.specs.declared.serial.Serial.TheVariants.{NoFault};
 ghost use Rattle.lab_streams.specs.declared.ending.Ending.{Ending};
 ghost use Rattle.lab_drawing.specs.ArrowLaws.{IsArrowOf, NamesWalk};
 ghost use Rattle.lab_reports.specs.declared.phenomenon.Phenomenon.{Phenomenon};
+ghost use Rattle.lab_reports.specs.declared.requirement.Requirement.{Requirement as Required};
+ghost use Rattle.lab_reports.specs.declared.violation.Violation.{Violation as Violated};
+ghost use Rattle.lab_judge.specs.declared.places.Places.{Places as Placed};
+ghost use Rattle.lab_explain.specs.SnapshotPart.{snapshot_text};
 ghost use Rattle.lab_drawing.specs.declared.drawing.Arrow.{Arrow as Drawn};
 ghost use Rattle.lab_explain.specs.Answer.{IsExplainAnswer};
 ghost use Rattle.lab_explain.specs.Explanation.{explanation_of};
@@ -20,13 +24,14 @@ ghost use Rattle.lab_explain.specs.Lines.{lines, step};
 ghost use Rattle.lab_explain.specs.Places.{IsLastBefore, last_before};
 ghost use Rattle.lab_explain.specs.PrintedParts.{AreParts, IsPartAlone, StandsIn, IsCutOther};
 ghost use Rattle.lab_explain.specs.Steps.{edge_step, edge_text};
+ghost use Rattle.lab_explain.specs.declared.steps.Lead.{Lead as Led};
 
 /// Each dependency of a cycle that a judgement names has its sentence, by the operations that make it: the last write
 /// of the installer, and the first operation of the reader that makes the dependency. By definition (`walk_steps`), the
 /// lines of a cycle are those of its dependencies, in order.
 pub fn each_dependency_has_its_sentence()
-    ensures { (h : Held) (report : Report) (asked : Option Phenomenon) (walk : List Dependency) → IsExactJudgement h report → NamesWalk report asked walk
-        → (e : Dependency) → Contains walk e → (a : Drawn) × (edge_step h e ≡ step (edge_text h e a)) × IsArrowOf h e a }
+    ensures { (h : Held) (lead : Led) (report : Report) (asked : Option Phenomenon) (walk : List Dependency) → IsExactJudgement h report → NamesWalk report asked walk
+        → (e : Dependency) → Contains walk e → (a : Drawn) × (edge_step h lead e ≡ step (edge_text h lead e a)) × IsArrowOf h e a }
 {}
 
 /// The fault that is explained instead of an order is true of the history.
@@ -56,11 +61,12 @@ pub fn how_to_have_a_cycle_explained_stands()
 
 /// An explanation has at most 100 lines.
 pub fn explanation_is_short()
-    ensures { (h : Held) (report : Report) (asked : Option Phenomenon) → lines (explanation_of h report asked) ≤ 100 }
+    ensures report { (h : Held) (report : Report) (asked : Option Phenomenon) → lines (explanation_of h report asked) ≤ 100 }
+    ensures snapshot { (h : Held) (snapshot : Placed) (walk : List Dependency) → lines (snapshot_text h snapshot walk) ≤ 100 }
 {}
 
 /// `explain` has one output for each input, byte for byte: two explanations of one file are equal.
 pub fn explain_answer_unique()
-    ensures text { (input one other : List ℕ) (asked : Option Phenomenon) (first again : Ending) → IsExplainAnswer input asked one first → IsExplainAnswer input asked other again → one ≡ other }
-    ensures ending { (input one other : List ℕ) (asked : Option Phenomenon) (first again : Ending) → IsExplainAnswer input asked one first → IsExplainAnswer input asked other again → first ≡ again }
+    ensures text { (input one other : List ℕ) (asked : Option Violated) (required : Option Required) (first again : Ending) → IsExplainAnswer input asked required one first → IsExplainAnswer input asked required other again → one ≡ other }
+    ensures ending { (input one other : List ℕ) (asked : Option Violated) (required : Option Required) (first again : Ending) → IsExplainAnswer input asked required one first → IsExplainAnswer input asked required other again → first ≡ again }
 {}

@@ -17,27 +17,34 @@ mod fault_parts;
 mod fault_steps;
 mod faults;
 mod findings;
+mod focus;
 mod laws;
 mod lines;
 mod names;
 mod newer_rows;
 mod phrases;
 mod places;
+mod promise;
 mod sections;
 mod sentences;
+mod snapshot_part;
 mod steps;
 mod told;
 
 pub use clauses::{op_of, put_txn};
 pub use explaining::explain;
+pub use focus::{Focus, focus_of, lead_of};
 pub use laws::{
     a_fault_that_is_explained_stands, a_part_is_cut_between_sentences,
     each_dependency_has_its_sentence, explain_answer_unique, explanation_is_short,
     how_to_have_a_cycle_explained_stands,
 };
 pub use names::level_line;
+pub use promise::put_promise;
 pub use sections::explanation;
 pub use sentences::{
     put_due_sentence, put_edge_sentence, put_finding_sentence, put_found_sentence,
     put_mistake_sentence, put_places_sentence, put_recorded_sentence, put_serial_sentence,
 };
+pub use snapshot_part::put_snapshot_sentence;
+pub use steps::Lead;

@@ -1,7 +1,7 @@
 //! Phrases of an explanation.
 
 ghost use Rattle.std.specs.Prelude.{◌≡◌};
-ghost use Rattle.lab_explain.specs.Phrases.{no_order, round_text, unsound_text, order_head, spans_head, circle_head, not_judged, last_line, version_words, listed_words, wrote_words, lists_words, writes_words, last_words, installers_words, as_last_words, start_words, commit_words, place_words, first_words, behind_words, places_words, commits_words, other_words, asked_words, often_words, explains_words, pointer_words, pointer_end};
+ghost use Rattle.lab_explain.specs.Phrases.{no_order, round_text, unsound_text, snapshot_unsound, snapshot_round, order_head, spans_head, circle_head, not_judged, last_line, version_words, listed_words, wrote_words, lists_words, writes_words, last_words, installers_words, as_last_words, start_words, commit_words, place_words, first_words, behind_words, places_words, commits_words, other_words, asked_words, often_words, explains_words, pointer_words, pointer_end};
 
 /// No order.
 #[tactic(auto, unfolding(crate::specs::Phrases::no_order))]
@@ -25,6 +25,22 @@ pub fn unsound_text() -> &'static [u8]
     ensures { result.now ≡ unsound_text }
 {
     b"Not judged, since the record contradicts itself: what it says at one place isn't what is due there."
+}
+
+/// A snapshot verdict on a history that isn't sound.
+#[tactic(auto, unfolding(crate::specs::Phrases::snapshot_unsound))]
+pub fn snapshot_unsound() -> &'static [u8]
+    ensures { result.now ≡ snapshot_unsound }
+{
+    b"Snapshot isolation not kept, since the history isn't sound: what it records at one place isn't what is due there."
+}
+
+/// After the title of a cycle of starts and commits.
+#[tactic(auto, unfolding(crate::specs::Phrases::snapshot_round))]
+pub fn snapshot_round() -> &'static [u8]
+    ensures { result.now ≡ snapshot_round }
+{
+    b". Each of these starts and commits comes before the next, and the last before the first, so no order keeps all of these dependencies with each start before its commit."
 }
 
 /// An order.

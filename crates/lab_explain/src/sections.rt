@@ -15,7 +15,7 @@ use crate::names::level_line;
 use crate::phrases::{last_line, no_order, order_head, unsound_text};
 use crate::places::put_places_lines;
 use crate::sentences::put_serial_sentence;
-use crate::steps::{put_standing_walk, put_walk_steps};
+use crate::steps::{Lead, put_standing_walk, put_walk_steps};
 use crate::told::{serial_walk, told_of};
 use lab_history::History;
 use lab_judge::{Report, Serial};
@@ -50,7 +50,13 @@ fn serial_lines(alloc: Global, history: &History, serial: &Serial) -> Result<Vec
         }
         Serial::NoCycle(walk) => {
             put_paragraph(&mut out, no_order())?;
-            put_walk_steps(alloc, &mut out, history, walk.as_slice())?;
+            put_walk_steps(
+                alloc,
+                &mut out,
+                history,
+                Lead::Transactions,
+                walk.as_slice(),
+            )?;
         }
     }
     Ok(out)
@@ -86,7 +92,15 @@ fn serial_front(
             put_standing_fault(alloc, &mut out, most, room, history, fault)?;
         }
         Serial::NoCycle(walk) => {
-            put_standing_walk(alloc, &mut out, most, room, history, walk.as_slice())?;
+            put_standing_walk(
+                alloc,
+                &mut out,
+                most,
+                room,
+                history,
+                Lead::Transactions,
+                walk.as_slice(),
+            )?;
         }
     }
     Ok(out)

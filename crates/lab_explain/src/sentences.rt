@@ -11,7 +11,7 @@ use crate::findings::{put_found_beside, put_head, put_said_alone};
 use crate::phrases::{no_order, unsound_text};
 use crate::places::put_sentence;
 use crate::sections::put_order_sentence;
-use crate::steps::put_edge;
+use crate::steps::{Lead, put_edge};
 use crate::told::serial_walk;
 use lab_deps::{Edge, LocalFault};
 use lab_drawing::arrow_of;
@@ -33,12 +33,17 @@ pub fn put_serial_sentence(out: &mut Vec<u8>, serial: &Serial) -> Result<(), NoM
 }
 
 /// Appends the sentence of a dependency; nothing if no operations make it.
-pub fn put_edge_sentence(out: &mut Vec<u8>, history: &History, edge: &Edge) -> Result<(), NoMemory>
-    ensures { OnOk result (out.new.items ≡ out.old.items ++ edge_sentence history.now edge.now) }
+pub fn put_edge_sentence(
+    out: &mut Vec<u8>,
+    history: &History,
+    lead: Lead,
+    edge: &Edge,
+) -> Result<(), NoMemory>
+    ensures { OnOk result (out.new.items ≡ out.old.items ++ edge_sentence history.now lead edge.now) }
 {
     match arrow_of(history, edge) {
         None => Ok(()),
-        Some(arrow) => put_edge(out, history, edge, &arrow),
+        Some(arrow) => put_edge(out, history, lead, edge, &arrow),
     }
 }
 

@@ -3,7 +3,7 @@
 
 ghost use Rattle.std.specs.Prelude.{◌≡◌, ◌++◌, OnOk};
 ghost use Rattle.lab_explain.specs.Lines.{standing};
-ghost use Rattle.lab_explain.specs.Steps.{from_text, left_next, saw_next, to_text, tag_text, order_text, edge_text, edge_step, walk_sentences, walk_steps};
+ghost use Rattle.lab_explain.specs.Steps.{from_text, left_next, saw_next, to_text, tag_text, order_text, start_first, commit_first, points_text, lead_text, edge_text, edge_step, walk_sentences, walk_steps};
 
 use crate::clauses::{put_left, put_left_row, put_op, put_saw, put_seen, put_txn};
 use crate::lines::{put_placed, put_step, room_behind};
@@ -14,6 +14,16 @@ use lab_judge::kind_name;
 use lab_printing::put_row_name;
 use lab_table::{NoMemory, RowName};
 use std::alloc::Global;
+
+/// What the step of a dependency orders.
+#[derive(Clone, Copy, Debug, PartialEq, Eq)]
+pub enum Lead {
+    /// Two transactions, as in a serial order.
+    Transactions,
+    /// A start and a commit, as in a snapshot run: an anti-dependency the start of its first transaction and the commit
+    /// of its second one, any other dependency the commit of the first and the start of the second.
+    Points,
+}
 
 /// Appends what the operation that a dependency leads from did with the row.
 fn put_from(
@@ -125,17 +135,62 @@ fn put_order(out: &mut Vec<u8>, edge: &Edge) -> Result<(), NoMemory>
     out.extend_from_slice(b": ")
 }
 
+/// Appends that one start comes before another transaction's commit.
+#[tactic(auto, unfolding(crate::specs::Steps::start_first))]
+fn put_start_first(out: &mut Vec<u8>, edge: &Edge) -> Result<(), NoMemory>
+    ensures { OnOk result (out.new.items ≡ out.old.items ++ start_first edge.now) }
+{
+    out.extend_from_slice(b"The start of ")?;
+    put_txn(out, edge.from)?;
+    out.extend_from_slice(b" comes before the commit of ")?;
+    put_txn(out, edge.to)?;
+    out.extend_from_slice(b": ")
+}
+
+/// Appends that one commit comes before another transaction's start.
+#[tactic(auto, unfolding(crate::specs::Steps::commit_first))]
+fn put_commit_first(out: &mut Vec<u8>, edge: &Edge) -> Result<(), NoMemory>
+    ensures { OnOk result (out.new.items ≡ out.old.items ++ commit_first edge.now) }
+{
+    out.extend_from_slice(b"The commit of ")?;
+    put_txn(out, edge.from)?;
+    out.extend_from_slice(b" comes before the start of ")?;
+    put_txn(out, edge.to)?;
+    out.extend_from_slice(b": ")
+}
+
+/// Appends which start and commit a dependency orders.
+fn put_points(out: &mut Vec<u8>, edge: &Edge) -> Result<(), NoMemory>
+    ensures { OnOk result (out.new.items ≡ out.old.items ++ points_text edge.now edge.now.kind) }
+{
+    match edge.kind {
+        Kind::Write | Kind::ItemRead | Kind::PredicateRead => put_commit_first(out, edge),
+        Kind::ItemAnti | Kind::PredicateAnti => put_start_first(out, edge),
+    }
+}
+
+/// Appends what a dependency orders.
+fn put_lead(out: &mut Vec<u8>, lead: Lead, edge: &Edge) -> Result<(), NoMemory>
+    ensures { OnOk result (out.new.items ≡ out.old.items ++ lead_text lead edge.now) }
+{
+    match lead {
+        Lead::Transactions => put_order(out, edge),
+        Lead::Points => put_points(out, edge),
+    }
+}
+
 /// Appends the sentence of a dependency, by the operations that make it.
 #[tactic(auto, unfolding(crate::specs::Steps::edge_text))]
 pub fn put_edge(
     out: &mut Vec<u8>,
     history: &History,
+    lead: Lead,
     edge: &Edge,
     arrow: &Arrow,
 ) -> Result<(), NoMemory>
-    ensures { OnOk result (out.new.items ≡ out.old.items ++ edge_text history.now edge.now arrow.now) }
+    ensures { OnOk result (out.new.items ≡ out.old.items ++ edge_text history.now lead edge.now arrow.now) }
 {
-    put_order(out, edge)?;
+    put_lead(out, lead, edge)?;
     put_from(out, history, edge.kind, arrow.from, edge.row)?;
     put_to(out, history, edge.kind, arrow.to, edge.row)?;
     out.extend_from_slice(b".")?;
@@ -147,15 +202,16 @@ fn put_edge_step(
     alloc: Global,
     out: &mut Vec<u8>,
     history: &History,
+    lead: Lead,
     edge: &Edge,
 ) -> Result<(), NoMemory>
-    ensures { OnOk result (out.new.items ≡ out.old.items ++ edge_step history.now edge.now) }
+    ensures { OnOk result (out.new.items ≡ out.old.items ++ edge_step history.now lead edge.now) }
 {
     match arrow_of(history, edge) {
         None => Ok(()),
         Some(arrow) => {
             let mut text = Vec::new(alloc);
-            put_edge(&mut text, history, edge, &arrow)?;
+            put_edge(&mut text, history, lead, edge, &arrow)?;
             put_step(out, &text)
         }
     }
@@ -166,12 +222,13 @@ pub fn put_walk_steps(
     alloc: Global,
     out: &mut Vec<u8>,
     history: &History,
+    lead: Lead,
     walk: &[Edge],
 ) -> Result<(), NoMemory>
-    ensures { OnOk result (out.new.items ≡ out.old.items ++ walk_steps history.now walk.now) }
+    ensures { OnOk result (out.new.items ≡ out.old.items ++ walk_steps history.now lead walk.now) }
 {
     for edge in walk {
-        put_edge_step(alloc, out, history, edge)?;
+        put_edge_step(alloc, out, history, lead, edge)?;
     }
     Ok(())
 }
@@ -183,9 +240,10 @@ pub fn put_standing_walk(
     most: usize,
     room: Option<usize>,
     history: &History,
+    lead: Lead,
     walk: &[Edge],
 ) -> Result<(), NoMemory>
-    ensures { OnOk result (out.new.items ≡ out.old.items ++ standing most room (walk_sentences history.now walk.now)) }
+    ensures { OnOk result (out.new.items ≡ out.old.items ++ standing most room (walk_sentences history.now lead walk.now)) }
 {
     let mut room = room;
     for edge in walk {
@@ -193,7 +251,7 @@ pub fn put_standing_walk(
             return Ok(());
         }
         let mut text = Vec::new(alloc);
-        put_edge_step(alloc, &mut text, history, edge)?;
+        put_edge_step(alloc, &mut text, history, lead, edge)?;
         put_placed(out, most, room, &text)?;
         room = room_behind(room, &text);
     }

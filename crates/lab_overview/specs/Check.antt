@@ -11,8 +11,12 @@ use Rattle.lab_judge.specs.declared.serial.Serial.{Serial}
 use Rattle.lab_judge.specs.declared.serial.Serial.TheVariants as serial
 use Rattle.lab_drawing.specs.Text.{escaped}
 use Rattle.lab_reports.specs.Phenomena.{finding_of}
-use Rattle.lab_reports.specs.declared.phenomenon.Phenomenon.{Phenomenon}
-use Rattle.lab_overview.specs.Phrases.{check_order, check_cycle, check_fault, check_file, check_program}
+use Rattle.lab_judge.specs.declared.places.Places.{Places}
+use Rattle.lab_judge.specs.declared.places.Places.TheVariants as places
+use Rattle.lab_reports.specs.declared.violation.Violation.{Violation}
+use Rattle.lab_reports.specs.declared.violation.Violation.TheVariants as violation
+use Rattle.lab_explain.specs.Focus.{Focus}
+use Rattle.lab_overview.specs.Phrases.{check_order, check_cycle, check_circle, check_fault, check_file, check_program}
 use Rattle.lab_overview.specs.Tags.{check_head, report_head, file_open, history_head, page_close}
 
 -- how a verdict is checked
@@ -28,14 +32,24 @@ found_check (finding.Walk walk) = check_cycle
 found_check (finding.At n k row) = check_fault
 found_check finding.NotJudged = []
 
-abbrev pub check_of : Report → Option Phenomenon → List ℕ
-check_of report None = serial_check report.serial
-check_of report (Some p) = found_check (finding_of p report)
+-- how a snapshot verdict is
+abbrev pub snapshot_check : Places → List ℕ
+snapshot_check (places.Yes spans) = []
+snapshot_check (places.NoFault f) = check_fault
+snapshot_check (places.NoCycle points) = check_circle
+
+abbrev pub check_by : Report → Option Violation → List ℕ
+check_by report None = serial_check report.serial
+check_by report (Some (violation.Phenomenon p)) = found_check (finding_of p report)
+check_by report (Some violation.Snapshot) = snapshot_check report.snapshot
+
+abbrev pub check_of : Report → Focus → List ℕ
+check_of report focus = check_by report focus.shown
 
 -- the part
-unfoldable pub check_part : Report → Option Phenomenon → List ℕ
-check_part report asked =
-    check_head ++ check_of report asked ++ check_file ++ check_program
+unfoldable pub check_part : Report → Focus → List ℕ
+check_part report focus =
+    check_head ++ check_of report focus ++ check_file ++ check_program
 
 -- the ten lines of the report
 unfoldable pub report_part : Report → List ℕ

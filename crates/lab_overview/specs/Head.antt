@@ -15,13 +15,20 @@ use Rattle.lab_judge.specs.declared.report.Grade.TheVariants as grade
 use Rattle.lab_judge.specs.declared.report.Report.{Report}
 use Rattle.lab_judge.specs.declared.serial.Serial.{Serial}
 use Rattle.lab_judge.specs.declared.serial.Serial.TheVariants as serial
-use Rattle.lab_drawing.specs.Cycles.{walk_phenomenon}
+use Rattle.lab_deps.specs.declared.edge.Edge.{Edge}
+use Rattle.lab_drawing.specs.Cycles.{walk_phenomenon, cycle_of}
+use Rattle.lab_drawing.specs.SnapshotDrawings.{snapshot_title}
 use Rattle.lab_drawing.specs.Text.{escaped}
-use Rattle.lab_drawing.specs.Titles.{serial_title, finding_title}
+use Rattle.lab_drawing.specs.Titles.{full_name, serial_title, finding_title}
 use Rattle.lab_reports.specs.Phenomena.{phenomena, phenomenon_name, finding_of}
 use Rattle.lab_reports.specs.declared.phenomenon.Phenomenon.{Phenomenon}
+use Rattle.lab_reports.specs.declared.violation.Violation.{Violation}
+use Rattle.lab_reports.specs.declared.violation.Violation.TheVariants as violation
+use Rattle.lab_reports.specs.declared.requirement.Requirement.{Requirement}
+use Rattle.lab_explain.specs.Focus.{Focus}
+use Rattle.lab_explain.specs.Promise.{promise_text}
 use Rattle.lab_overview.specs.Meanings.{meaning_of, fault_meaning, level_words, rung_of}
-use Rattle.lab_overview.specs.Phrases.{yes_lede, nav_text}
+use Rattle.lab_overview.specs.Phrases.{yes_lede, placed_lede, circle_lede, nav_text}
 use Rattle.lab_overview.specs.Style.{style_text}
 use Rattle.lab_overview.specs.Tags.{title_open, lede_open, counts_open, counts_between, counts_close}
 
@@ -31,9 +38,29 @@ serial_headline h (serial.Yes order) = codes "Serializable"
 serial_headline h (serial.NoFault f) = serial_title h (serial.NoFault f)
 serial_headline h (serial.NoCycle walk) = serial_title h (serial.NoCycle walk)
 
-abbrev pub headline_of : History → Report → Option Phenomenon → List ℕ
-headline_of h report None = serial_headline h report.serial
-headline_of h report (Some p) = finding_title h p (finding_of p report)
+-- what is shown, in a line
+abbrev pub shown_headline : History → Report → List Edge → Option Violation → List ℕ
+shown_headline h report walk None = serial_headline h report.serial
+shown_headline h report walk (Some (violation.Phenomenon p)) = finding_title h p (finding_of p report)
+shown_headline h report walk (Some violation.Snapshot) = snapshot_title h report.snapshot walk
+
+-- a level that a phenomenon breaks
+unfoldable pub broken_headline : History → Report → Requirement → Phenomenon → List ℕ
+broken_headline h report requirement p = promise_text requirement report ++ codes ": " ++ full_name h p (cycle_of (finding_of p report))
+
+-- whether what is required is kept, and what breaks it
+abbrev pub promise_headline : History → Report → List Edge → Requirement → Option Violation → List ℕ
+promise_headline h report walk requirement None = promise_text requirement report
+promise_headline h report walk requirement (Some (violation.Phenomenon p)) = broken_headline h report requirement p
+promise_headline h report walk requirement (Some violation.Snapshot) = snapshot_title h report.snapshot walk
+
+-- the headline: of what is required, or of what is shown
+abbrev pub headline_by : History → Report → List Edge → Option Requirement → Option Violation → List ℕ
+headline_by h report walk None shown = shown_headline h report walk shown
+headline_by h report walk (Some requirement) shown = promise_headline h report walk requirement shown
+
+abbrev pub headline_of : History → Report → Focus → List ℕ
+headline_of h report focus = headline_by h report focus.walk focus.required focus.shown
 
 -- what it means, in a sentence
 abbrev pub serial_lede : Serial → List ℕ
@@ -41,9 +68,38 @@ serial_lede (serial.Yes order) = yes_lede
 serial_lede (serial.NoFault f) = fault_meaning (parts_of f)
 serial_lede (serial.NoCycle walk) = meaning_of (walk_phenomenon walk)
 
-abbrev pub lede_of : Report → Option Phenomenon → List ℕ
-lede_of report None = serial_lede report.serial
-lede_of report (Some p) = meaning_of p
+-- the same of a snapshot verdict
+abbrev pub snapshot_lede : Places → List ℕ
+snapshot_lede (places.Yes spans) = placed_lede
+snapshot_lede (places.NoFault f) = fault_meaning (parts_of f)
+snapshot_lede (places.NoCycle points) = circle_lede
+
+-- the same of what is shown
+abbrev pub shown_lede : Report → Option Violation → List ℕ
+shown_lede report None = serial_lede report.serial
+shown_lede report (Some (violation.Phenomenon p)) = meaning_of p
+shown_lede report (Some violation.Snapshot) = snapshot_lede report.snapshot
+
+-- a cycle that what is required allows
+unfoldable pub allowed_lede : History → List Edge → List ℕ
+allowed_lede h walk = serial_title h (serial.NoCycle walk) ++ codes ". What is required allows this."
+
+-- what a serial verdict means where what is required is kept, or no phenomenon breaks it
+abbrev pub kept_lede : History → Serial → List ℕ
+kept_lede h (serial.Yes order) = yes_lede
+kept_lede h (serial.NoFault f) = fault_meaning (parts_of f)
+kept_lede h (serial.NoCycle walk) = allowed_lede h walk
+
+abbrev pub promise_lede : History → Report → Option Violation → List ℕ
+promise_lede h report None = kept_lede h report.serial
+promise_lede h report (Some v) = shown_lede report (Some v)
+
+abbrev pub lede_by : History → Report → Option Requirement → Option Violation → List ℕ
+lede_by h report None shown = shown_lede report shown
+lede_by h report (Some requirement) shown = promise_lede h report shown
+
+abbrev pub lede_of : History → Report → Focus → List ℕ
+lede_of h report focus = lede_by h report focus.required focus.shown
 
 -- what the user says of the page, behind the title
 unfoldable pub behind_title : List ℕ → List ℕ
@@ -189,13 +245,13 @@ abbrev pub counts_text : List Txn → List ℕ
 counts_text txns = counts_line (length txns) (length (committed_txns txns))
 
 -- what the browser doesn't show
-unfoldable pub head_text : History → Report → Option Phenomenon → List ℕ → List ℕ
-head_text h report asked title = page_open ++ title_text (headline_of h report asked) report.level title ++ style_text ++ codes "</style>\n</head>\n<body>\n"
+unfoldable pub head_text : History → Report → Focus → List ℕ → List ℕ
+head_text h report focus title = page_open ++ title_text (headline_of h report focus) report.level title ++ style_text ++ codes "</style>\n</head>\n<body>\n"
 
 -- the beginning of the header
-unfoldable pub header_open : History → Report → Option Phenomenon → List ℕ → List ℕ
-header_open h report asked title = codes "<header>\n" ++ title_above title ++ headline_text (headline_of h report asked) (lede_of report asked)
+unfoldable pub header_open : History → Report → Focus → List ℕ → List ℕ
+header_open h report focus title = codes "<header>\n" ++ title_above title ++ headline_text (headline_of h report focus) (lede_of h report focus)
 
 -- the header
-unfoldable pub header_text : History → Report → Option Phenomenon → List ℕ → List ℕ
-header_text h report asked title = header_open h report asked title ++ tiles_text report ++ counts_text h.txns ++ nav_text
+unfoldable pub header_text : History → Report → Focus → List ℕ → List ℕ
+header_text h report focus title = header_open h report focus title ++ tiles_text report ++ counts_text h.txns ++ nav_text

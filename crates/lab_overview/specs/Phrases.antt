@@ -5,6 +5,14 @@ use Rattle.std.specs.Prelude.{ℕ, List, codes}
 unfoldable pub yes_lede : List ℕ
 yes_lede = codes "The committed transactions could have run one after another: there is an order in which every recorded row comes out."
 
+-- what is said of a snapshot run
+unfoldable pub placed_lede : List ℕ
+placed_lede = codes "Each transaction saw what had committed before its start, and its own writes; no row was written by two that overlap."
+
+-- what is said of a cycle of starts and commits
+unfoldable pub circle_lede : List ℕ
+circle_lede = codes "No starts and commits fit: what was seen and written asks for each of those below before the next, and for the last before the first."
+
 -- what is said of a fault
 unfoldable pub fault_lede : List ℕ
 fault_lede = codes "The record contradicts itself at one place: either the recorder wrote what didn't happen, or the database did what no statement does."
@@ -48,6 +56,10 @@ check_order = codes "<ol>\n<li>Begin with the rows as they were at first (<a hre
 -- how a cycle is checked
 unfoldable pub check_cycle : List ℕ
 check_cycle = codes "<ol>\n<li>For each step, look at its two statements in <a href=\"#transactions\">the table</a>: did each see or write what the step says?</li>\n<li>Look at the row in <a href=\"#rows\">the rows</a>: do the two versions follow on each other as the step says?</li>\n<li>Follow the steps: each transaction would have to run before the next, and the last before the first. So no order keeps all steps.</li>\n</ol>\n<p>That is all a no says. It doesn't say that no order gives the recorded rows: two writes of one value leave a dependency that values don't show.</p>\n"
+
+-- how a cycle of starts and commits is checked
+unfoldable pub check_circle : List ℕ
+check_circle = codes "<ol>\n<li>For each step, look at its two statements in <a href=\"#transactions\">the table</a>: did the one see, and the other write, what the step says?</li>\n<li>Look at the row in <a href=\"#rows\">the rows</a>: do the two versions follow on each other as the step says?</li>\n<li>A transaction that saw or overwrote a version starts after the commit of its writer, and one that missed a version before that commit. Follow the steps: with each start before its commit they lead back to the first. So no starts and commits keep all steps.</li>\n</ol>\n"
 
 -- how a fault is checked
 unfoldable pub check_fault : List ℕ

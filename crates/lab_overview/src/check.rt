@@ -1,12 +1,15 @@
 //! How a reader can check the verdict.
 
 ghost use Rattle.std.specs.Prelude.{◌≡◌, ◌++◌, OnOk};
-ghost use Rattle.lab_overview.specs.Check.{serial_check, found_check, check_of, check_part};
+ghost use Rattle.lab_overview.specs.Check.{serial_check, found_check, snapshot_check, check_of, check_part};
 
-use crate::phrases::{check_cycle, check_fault, check_file, check_order, check_program};
+use crate::phrases::{
+    check_circle, check_cycle, check_fault, check_file, check_order, check_program,
+};
 use crate::tags::check_head;
-use lab_judge::{Finding, Report, Serial};
-use lab_reports::Phenomenon;
+use lab_explain::Focus;
+use lab_judge::{Finding, Places, Report, Serial};
+use lab_reports::Violation;
 use lab_table::NoMemory;
 
 /// How a verdict is checked.
@@ -32,26 +35,34 @@ fn found_check(finding: &Finding) -> &'static [u8]
     }
 }
 
-fn check_of(report: &Report, asked: Option<Phenomenon>) -> &'static [u8]
-    ensures { result.now ≡ check_of report.now asked }
+/// How a snapshot verdict is.
+fn snapshot_check(snapshot: &Places) -> &'static [u8]
+    ensures { result.now ≡ snapshot_check snapshot.now }
 {
-    match asked {
+    match snapshot {
+        Places::Yes(_) => b"",
+        Places::NoFault(_) => check_fault(),
+        Places::NoCycle(_) => check_circle(),
+    }
+}
+
+fn check_of(report: &Report, focus: &Focus) -> &'static [u8]
+    ensures { result.now ≡ check_of report.now focus.now }
+{
+    match focus.shown {
         None => serial_check(&report.serial),
-        Some(phenomenon) => found_check(phenomenon.found_in(report)),
+        Some(Violation::Phenomenon(phenomenon)) => found_check(phenomenon.found_in(report)),
+        Some(Violation::Snapshot) => snapshot_check(&report.snapshot),
     }
 }
 
 /// Appends the section on checking the verdict. On failure, a part of it may have been appended.
 #[tactic(auto, unfolding(crate::specs::Check::check_part))]
-pub fn put_check(
-    out: &mut Vec<u8>,
-    report: &Report,
-    asked: Option<Phenomenon>,
-) -> Result<(), NoMemory>
-    ensures { OnOk result (out.new.items ≡ out.old.items ++ check_part report.now asked) }
+pub fn put_check(out: &mut Vec<u8>, report: &Report, focus: &Focus) -> Result<(), NoMemory>
+    ensures { OnOk result (out.new.items ≡ out.old.items ++ check_part report.now focus.now) }
 {
     out.extend_from_slice(check_head())?;
-    out.extend_from_slice(check_of(report, asked))?;
+    out.extend_from_slice(check_of(report, focus))?;
     out.extend_from_slice(check_file())?;
     out.extend_from_slice(check_program())
 }

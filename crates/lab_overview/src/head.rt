@@ -10,9 +10,9 @@ use crate::style::put_style;
 use crate::tags::{counts_between, counts_close, counts_open, lede_open, title_open};
 use crate::tiles::put_tiles;
 use lab_drawing::{put_escaped, put_number};
+use lab_explain::Focus;
 use lab_history::{History, Outcome, Txn};
 use lab_judge::{Grade, Report};
-use lab_reports::Phenomenon;
 use lab_table::{NoMemory, TxnNo};
 use std::alloc::Global;
 
@@ -188,12 +188,12 @@ pub fn put_head(
     out: &mut Vec<u8>,
     history: &History,
     report: &Report,
-    asked: Option<Phenomenon>,
+    focus: &Focus,
     title: &[u8],
 ) -> Result<(), NoMemory>
-    ensures { OnOk result (out.new.items ≡ out.old.items ++ head_text history.now report.now asked title.now) }
+    ensures { OnOk result (out.new.items ≡ out.old.items ++ head_text history.now report.now focus.now title.now) }
 {
-    let headline = headline_of(alloc, history, report, asked)?;
+    let headline = headline_of(alloc, history, report, focus)?;
     out.extend_from_slice(page_open())?;
     put_title(out, &headline, report.level, title)?;
     put_style(out)?;
@@ -207,15 +207,16 @@ fn put_header_open(
     out: &mut Vec<u8>,
     history: &History,
     report: &Report,
-    asked: Option<Phenomenon>,
+    focus: &Focus,
     title: &[u8],
 ) -> Result<(), NoMemory>
-    ensures { OnOk result (out.new.items ≡ out.old.items ++ header_open history.now report.now asked title.now) }
+    ensures { OnOk result (out.new.items ≡ out.old.items ++ header_open history.now report.now focus.now title.now) }
 {
-    let headline = headline_of(alloc, history, report, asked)?;
+    let headline = headline_of(alloc, history, report, focus)?;
     out.extend_from_slice(b"<header>\n")?;
     put_title_above(out, title)?;
-    put_headline(out, &headline, lede_of(report, asked))
+    let lede = lede_of(alloc, history, report, focus)?;
+    put_headline(out, &headline, &lede)
 }
 
 /// Appends the header.
@@ -225,12 +226,12 @@ pub fn put_header(
     out: &mut Vec<u8>,
     history: &History,
     report: &Report,
-    asked: Option<Phenomenon>,
+    focus: &Focus,
     title: &[u8],
 ) -> Result<(), NoMemory>
-    ensures { OnOk result (out.new.items ≡ out.old.items ++ header_text history.now report.now asked title.now) }
+    ensures { OnOk result (out.new.items ≡ out.old.items ++ header_text history.now report.now focus.now title.now) }
 {
-    put_header_open(alloc, out, history, report, asked, title)?;
+    put_header_open(alloc, out, history, report, focus, title)?;
     put_tiles(alloc, out, report)?;
     put_counts(alloc, out, history.txns().as_slice())?;
     out.extend_from_slice(nav_text())

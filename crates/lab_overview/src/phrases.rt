@@ -1,7 +1,7 @@
 //! Fixed texts of a page.
 
 ghost use Rattle.std.specs.Prelude.{◌≡◌};
-ghost use Rattle.lab_overview.specs.Phrases.{yes_lede, fault_lede, nav_text, ladder_open, serial_rung, repeatable_rung, committed_rung, uncommitted_rung, lowest_rung, phenomena_open, check_order, check_cycle, check_fault, check_file, check_program};
+ghost use Rattle.lab_overview.specs.Phrases.{yes_lede, placed_lede, circle_lede, fault_lede, nav_text, ladder_open, serial_rung, repeatable_rung, committed_rung, uncommitted_rung, lowest_rung, phenomena_open, check_order, check_cycle, check_circle, check_fault, check_file, check_program};
 
 /// What is said of an order.
 #[tactic(auto, unfolding(crate::specs::Phrases::yes_lede))]
@@ -9,6 +9,22 @@ pub fn yes_lede() -> &'static [u8]
     ensures { result.now ≡ yes_lede }
 {
     b"The committed transactions could have run one after another: there is an order in which every recorded row comes out."
+}
+
+/// What is said of a snapshot run.
+#[tactic(auto, unfolding(crate::specs::Phrases::placed_lede))]
+pub fn placed_lede() -> &'static [u8]
+    ensures { result.now ≡ placed_lede }
+{
+    b"Each transaction saw what had committed before its start, and its own writes; no row was written by two that overlap."
+}
+
+/// What is said of a cycle of starts and commits.
+#[tactic(auto, unfolding(crate::specs::Phrases::circle_lede))]
+pub fn circle_lede() -> &'static [u8]
+    ensures { result.now ≡ circle_lede }
+{
+    b"No starts and commits fit: what was seen and written asks for each of those below before the next, and for the last before the first."
 }
 
 /// What is said of a fault.
@@ -97,6 +113,14 @@ pub fn check_cycle() -> &'static [u8]
     ensures { result.now ≡ check_cycle }
 {
     b"<ol>\n<li>For each step, look at its two statements in <a href=\"#transactions\">the table</a>: did each see or write what the step says?</li>\n<li>Look at the row in <a href=\"#rows\">the rows</a>: do the two versions follow on each other as the step says?</li>\n<li>Follow the steps: each transaction would have to run before the next, and the last before the first. So no order keeps all steps.</li>\n</ol>\n<p>That is all a no says. It doesn't say that no order gives the recorded rows: two writes of one value leave a dependency that values don't show.</p>\n"
+}
+
+/// How a cycle of starts and commits is checked.
+#[tactic(auto, unfolding(crate::specs::Phrases::check_circle))]
+pub fn check_circle() -> &'static [u8]
+    ensures { result.now ≡ check_circle }
+{
+    b"<ol>\n<li>For each step, look at its two statements in <a href=\"#transactions\">the table</a>: did the one see, and the other write, what the step says?</li>\n<li>Look at the row in <a href=\"#rows\">the rows</a>: do the two versions follow on each other as the step says?</li>\n<li>A transaction that saw or overwrote a version starts after the commit of its writer, and one that missed a version before that commit. Follow the steps: with each start before its commit they lead back to the first. So no starts and commits keep all steps.</li>\n</ol>\n"
 }
 
 /// How a fault is checked.

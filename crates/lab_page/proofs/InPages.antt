@@ -1,17 +1,18 @@
 -- What stands in a page.
-use Rattle.std.{proofs.{Common.{◌≡◌, ◌≤◌, ℕ, Bool, true, false, cond, Option, None, List, [], ◌++◌, length, refl, sym, subst}, lemmas.{Bool.{le-leb}, List.Elements.{All-contains}}}, specs.Prelude.{codes, Contains, nat_le}}
+use Rattle.std.{proofs.{Common.{◌≡◌, ◌≤◌, ℕ, Bool, true, false, cond, None, List, [], ◌++◌, length, refl, sym, subst}, lemmas.{Bool.{le-leb}, List.Elements.{All-contains}}}, specs.Prelude.{codes, Contains, nat_le}}
 use Rattle.lab_history.specs.History.{History}
 use Rattle.lab_deps.specs.declared.{edge.Edge.{Edge}, fault.LocalFault.{LocalFault}}
 use Rattle.lab_judge.specs.{ReportText.{report_text}, declared.{report.Report.{Report}, serial.Serial.TheVariants.{NoFault}}}
-use Rattle.lab_drawing.specs.{Sketch.{drawing_of}, Text.{escaped}}
+use Rattle.lab_drawing.specs.Text.{escaped}
 use Rattle.lab_explain.specs.{Faults.{recorded_text, due_text}, Names.{level_line}, Places.{places_sentence}, Sentences.{edge_sentence, mistake_text, finding_sentence}}
 use Rattle.lab_reports.specs.declared.phenomenon.Phenomenon.{Phenomenon}
+use Rattle.lab_explain.specs.{Focus.{Focus, lead_of}, declared.steps.Lead.{Lead}}
 use Rattle.lab_overview.specs.Check.{check_part, report_part, history_part, file_of}
 use Rattle.lab_overview.specs.Figure.{figure_text, drawn_text, is_wide, fold_open, picture_open, picture_close, fold_close, no_picture}
 use Rattle.lab_overview.specs.Head.{head_text, header_text}
 use Rattle.lab_overview.specs.Levels.{levels_text}
 use Rattle.lab_overview.specs.Sentences.{led_text, paragraph_text}
-use Rattle.lab_evidence.specs.{Questions.{told_cycle, shown_steps}, Rows.{rows_part}, Scope.{Scope}, Transactions.{transactions_text}}
+use Rattle.lab_evidence.specs.{Questions.{told_cycle, shown_steps}, Rows.{rows_part}, Scope.{Scope, focus_drawing}, Transactions.{transactions_text}}
 use Rattle.lab_page.specs.{Tags.{opening_open, sentences_close, why_close}, Untagged.{Holds, Shows}, Why.{opening_of, opening_text, edge_items, fault_items, behind_steps, steps_text, heading_of, why_open, sentences_text, why_told, why_drawn, why_text}, Whole.{verdict_part, evidence_part, page_with}}
 use Rattle.lab_overview.specs.Tags.{report_head}
 use Rattle.lab_page.proofs.{Held.{in_front, behind_it, within, front, back}, InLevels.{level_in_levels, places_in_levels, led_in_levels}, InSteps.{recorded_held, due_held, mistake_held, edges_led, items_in_steps, fault_in_steps}, Untagging.{Closes, shown_behind, shown_led}}
@@ -60,42 +61,42 @@ picture_in_figure : (columns picture : List ℕ) → nat_le (length picture) 655
 picture_in_figure columns picture short =
     subst (λ b. Holds (cond b (drawn_text (is_wide columns) picture) no_picture) picture) (sym short) (drawn_held (is_wide columns) picture)
 
-module _ (h : History) (s : Scope) (report : Report) (asked : Option Phenomenon) where
+module _ (h : History) (s : Scope) (report : Report) (focus : Focus) where
   abbrev opening : List ℕ
-  opening = opening_text (opening_of h report asked)
+  opening = opening_text (opening_of h report focus)
 
   abbrev pub steps : List ℕ
-  steps = steps_text h s report asked
+  steps = steps_text h s report focus
 
   abbrev behind : List ℕ
-  behind = behind_steps (told_cycle report asked)
+  behind = behind_steps (told_cycle report focus)
 
-  steps_in_sentences : Holds (sentences_text h s report asked) steps
+  steps_in_sentences : Holds (sentences_text h s report focus) steps
   unfolding sentences_text
   steps_in_sentences = in_front (opening ++ steps) behind steps (back opening steps)
 
-  opening_in_sentences : Holds (sentences_text h s report asked) opening
+  opening_in_sentences : Holds (sentences_text h s report focus) opening
   unfolding sentences_text
   opening_in_sentences = in_front (opening ++ steps) behind opening (front opening steps)
 
   module _ (title picture : List ℕ) where
     abbrev why : List ℕ
-    why = why_text h s report asked picture
+    why = why_text h s report focus picture
 
     abbrev figure : List ℕ
-    figure = figure_text (drawing_of h report asked).columns picture
+    figure = figure_text (focus_drawing h report focus).columns picture
 
     abbrev sentences : List ℕ
-    sentences = sentences_text h s report asked
+    sentences = sentences_text h s report focus
 
     abbrev begin : List ℕ
-    begin = why_open (heading_of report asked)
+    begin = why_open (heading_of report focus)
 
     abbrev told : List ℕ
-    told = why_told h s report asked
+    told = why_told h s report focus
 
     abbrev drawn : List ℕ
-    drawn = why_drawn (drawing_of h report asked).columns picture
+    drawn = why_drawn (focus_drawing h report focus).columns picture
 
     sentences_in_told : Holds told sentences
     unfolding why_told
@@ -114,17 +115,17 @@ module _ (h : History) (s : Scope) (report : Report) (asked : Option Phenomenon)
     figure_in_why = behind_it told drawn figure figure_in_drawn
 
     abbrev pub whole : List ℕ
-    whole = page_with h s report asked title picture
+    whole = page_with h s report focus title picture
 
     abbrev verdict : List ℕ
-    verdict = verdict_part h s report asked title picture
+    verdict = verdict_part h s report focus title picture
 
     abbrev head : List ℕ
-    head = head_text h report asked title ++ header_text h report asked title
+    head = head_text h report focus title ++ header_text h report focus title
 
     verdict_in_page : (part : List ℕ) → Holds verdict part → Holds whole part
     unfolding page_with
-    verdict_in_page part held = in_front verdict (evidence_part h s report asked) part held
+    verdict_in_page part held = in_front verdict (evidence_part h s report focus) part held
 
     why_in_page : (part : List ℕ) → Holds why part → Holds whole part
     unfolding verdict_part
@@ -140,15 +141,16 @@ module _ (h : History) (s : Scope) (report : Report) (asked : Option Phenomenon)
     pub steps_in_page : (part : List ℕ) → Holds steps part → Holds whole part
     steps_in_page part held = sentences_in_page part (within sentences steps part steps_in_sentences held)
 
-    pub opening_shown : Shows whole (opening_of h report asked)
-    opening_shown = opening_shows whole (opening_of h report asked) (sentences_in_page opening opening_in_sentences)
+    pub opening_shown : Shows whole (opening_of h report focus)
+    opening_shown = opening_shows whole (opening_of h report focus) (sentences_in_page opening opening_in_sentences)
 
-    pub step_shown : (e : Edge) → Contains (shown_steps (told_cycle report asked)) e → Shows whole (edge_sentence h e)
+    pub step_shown : (e : Edge) → Contains (shown_steps (told_cycle report focus)) e → Shows whole (edge_sentence h (lead_of focus.shown) e)
     step_shown e among =
-        let edges : List Edge = shown_steps (told_cycle report asked) in
-        shown_led whole (edge_sentence h e)
-        (All-contains (λ it. Holds whole (led_text (edge_sentence h it))) edges e
-        (edges_led h s whole 0 edges (steps_in_page (edge_items h s 0 edges) (items_in_steps h s report asked))) among)
+        let edges : List Edge = shown_steps (told_cycle report focus) in
+        let lead : Lead = lead_of focus.shown in
+        shown_led whole (edge_sentence h lead e)
+        (All-contains (λ it. Holds whole (led_text (edge_sentence h lead it))) edges e
+        (edges_led h s lead whole 0 edges (steps_in_page (edge_items h s lead 0 edges) (items_in_steps h s report focus))) among)
 
     pub level_shown : Shows whole (level_line report.level)
     level_shown = paragraph_shows whole (level_line report.level) (levels_in_page (paragraph_text (level_line report.level)) (level_in_levels h report))
@@ -160,12 +162,12 @@ module _ (h : History) (s : Scope) (report : Report) (asked : Option Phenomenon)
     phenomenon_shown p = shown_led whole (finding_sentence h report p) (levels_in_page (led_text (finding_sentence h report p)) (led_in_levels h report p))
 
     abbrev tables : List ℕ
-    tables = transactions_text h s ++ rows_part h s ++ check_part report asked
+    tables = transactions_text h s ++ rows_part h s ++ check_part report focus
 
     report_in_page : Holds whole (report_part report)
     unfolding page_with evidence_part
     report_in_page =
-        behind_it verdict (evidence_part h s report asked) (report_part report)
+        behind_it verdict (evidence_part h s report focus) (report_part report)
         (in_front (tables ++ report_part report) (history_part (file_of h)) (report_part report) (back tables (report_part report)))
 
     pub report_shown : Shows whole (report_text report)
@@ -173,20 +175,20 @@ module _ (h : History) (s : Scope) (report : Report) (asked : Option Phenomenon)
 
     pub picture_held : length picture ≤ 65536 → Holds whole picture
     picture_held short =
-        why_in_page picture (within why figure picture figure_in_why (picture_in_figure (drawing_of h report asked).columns picture (le-leb (length picture) 65536 short)))
+        why_in_page picture (within why figure picture figure_in_why (picture_in_figure (focus_drawing h report focus).columns picture (le-leb (length picture) 65536 short)))
 
 -- the sentences of a fault that is the verdict
-module _ (h : History) (s : Scope) (report : Report) (title picture : List ℕ) (f : LocalFault) (is : report.serial ≡ NoFault f) where
-  fault_shown : (sentence : List ℕ) → Holds (fault_items h f) (led_text sentence) → Shows (whole h s report None title picture) sentence
+module _ (h : History) (s : Scope) (report : Report) (focus : Focus) (title picture : List ℕ) (f : LocalFault) (none : focus.shown ≡ None) (is : report.serial ≡ NoFault f) where
+  fault_shown : (sentence : List ℕ) → Holds (fault_items h f) (led_text sentence) → Shows (whole h s report focus title picture) sentence
   fault_shown sentence held =
-      shown_led (whole h s report None title picture) sentence
-      (steps_in_page h s report None title picture (led_text sentence) (fault_in_steps h s report f (led_text sentence) is held))
+      shown_led (whole h s report focus title picture) sentence
+      (steps_in_page h s report focus title picture (led_text sentence) (fault_in_steps h s report focus f (led_text sentence) none is held))
 
-  pub recorded_shown : Shows (whole h s report None title picture) (recorded_text h f)
+  pub recorded_shown : Shows (whole h s report focus title picture) (recorded_text h f)
   recorded_shown = fault_shown (recorded_text h f) (recorded_held h f)
 
-  pub due_shown : Shows (whole h s report None title picture) (due_text h f)
+  pub due_shown : Shows (whole h s report focus title picture) (due_text h f)
   due_shown = fault_shown (due_text h f) (due_held h f)
 
-  pub mistake_shown : Shows (whole h s report None title picture) (mistake_text f)
+  pub mistake_shown : Shows (whole h s report focus title picture) (mistake_text f)
   mistake_shown = fault_shown (mistake_text f) (mistake_held h f)

@@ -1,9 +1,9 @@
 -- Where a title stands in its page.
-use Rattle.std.{proofs.{Common.{◌≡◌, ◌≢◌, ℕ, ◌==◌, Bool, true, false, cond, Option, List, [], ◌++◌, length, refl, sym, ap, subst, ◌∙◌, append_assoc}, lemmas.{Bool.{eqb-true}, List.{append-nil}}}, specs.Prelude.{codes}}
+use Rattle.std.{proofs.{Common.{◌≡◌, ◌≢◌, ℕ, ◌==◌, Bool, true, false, cond, List, [], ◌++◌, length, refl, sym, ap, subst, ◌∙◌, append_assoc}, lemmas.{Bool.{eqb-true}, List.{append-nil}}}, specs.Prelude.{codes}}
 use Rattle.lab_history.specs.History.{History}
 use Rattle.lab_judge.specs.declared.report.{Grade.{Grade}, Report.{Report}}
 use Rattle.lab_drawing.specs.Text.{escaped}
-use Rattle.lab_reports.specs.declared.phenomenon.Phenomenon.{Phenomenon}
+use Rattle.lab_explain.specs.Focus.{Focus}
 use Rattle.lab_evidence.specs.Scope.{Scope}
 use Rattle.lab_overview.specs.Head.{behind_title, title_behind, above_headline, title_above, page_open, verdict_text, title_text, headline_text, headline_of, lede_of, tiles_text, counts_text, head_text, header_open, header_text}
 use Rattle.lab_overview.specs.Levels.{levels_text}
@@ -80,38 +80,38 @@ titled_once headline level =
     let begin : List ℕ = verdict_text headline level in
     once_before (codes "</title>\n<style>\n") (λ title. begin ++ title_behind title) (once_behind begin title_behind behind_once)
 
-module _ (h : History) (report : Report) (asked : Option Phenomenon) where
-  head_once : Once (head_text h report asked)
+module _ (h : History) (report : Report) (focus : Focus) where
+  head_once : Once (head_text h report focus)
   unfolding head_text
   head_once =
-      let titled : List ℕ → List ℕ = title_text (headline_of h report asked) report.level in
+      let titled : List ℕ → List ℕ = title_text (headline_of h report focus) report.level in
       once_before (codes "</style>\n</head>\n<body>\n") (λ title. page_open ++ titled title ++ style_text)
-      (once_before style_text (λ title. page_open ++ titled title) (once_behind page_open titled (titled_once (headline_of h report asked) report.level)))
+      (once_before style_text (λ title. page_open ++ titled title) (once_behind page_open titled (titled_once (headline_of h report focus) report.level)))
 
-  open_once : Once (header_open h report asked)
+  open_once : Once (header_open h report focus)
   unfolding header_open
   open_once =
-      once_before (headline_text (headline_of h report asked) (lede_of report asked)) (λ title. codes "<header>\n" ++ title_above title)
+      once_before (headline_text (headline_of h report focus) (lede_of h report focus)) (λ title. codes "<header>\n" ++ title_above title)
       (once_behind (codes "<header>\n") title_above above_once)
 
-  header_once : Once (header_text h report asked)
+  header_once : Once (header_text h report focus)
   unfolding header_text
   header_once =
-      let begin : List ℕ → List ℕ = header_open h report asked in
+      let begin : List ℕ → List ℕ = header_open h report focus in
       once_before nav_text (λ title. begin title ++ tiles_text report ++ counts_text h.txns)
       (once_before (counts_text h.txns) (λ title. begin title ++ tiles_text report) (once_before (tiles_text report) begin open_once))
 
   module _ (s : Scope) (picture : List ℕ) where
-    verdict_twice : HasTitlesEscaped (λ title. verdict_part h s report asked title picture)
+    verdict_twice : HasTitlesEscaped (λ title. verdict_part h s report focus title picture)
     unfolding verdict_part
     verdict_twice =
-        let both : List ℕ → List ℕ = λ title. head_text h report asked title ++ header_text h report asked title in
-        twice_before (levels_text h report) (λ title. both title ++ why_text h s report asked picture)
-        (twice_before (why_text h s report asked picture) both (twice (head_text h report asked) (header_text h report asked) head_once header_once))
+        let both : List ℕ → List ℕ = λ title. head_text h report focus title ++ header_text h report focus title in
+        twice_before (levels_text h report) (λ title. both title ++ why_text h s report focus picture)
+        (twice_before (why_text h s report focus picture) both (twice (head_text h report focus) (header_text h report focus) head_once header_once))
 
-    pub page_twice : HasTitlesEscaped (λ title. page_with h s report asked title picture)
+    pub page_twice : HasTitlesEscaped (λ title. page_with h s report focus title picture)
     unfolding page_with
-    page_twice = twice_before (evidence_part h s report asked) (λ title. verdict_part h s report asked title picture) verdict_twice
+    page_twice = twice_before (evidence_part h s report focus) (λ title. verdict_part h s report focus title picture) verdict_twice
 
 -- above the headline a title is shown
 open_closes : Closes title_open
@@ -129,31 +129,31 @@ above_shows page title held =
 above_held : (title : List ℕ) → length title ≢ 0 → Holds (title_above title) (above_headline title)
 above_held title some = subst (λ text. Holds text (above_headline title)) (sym (stands title (above_headline title) some)) (itself (above_headline title))
 
-module _ (h : History) (report : Report) (asked : Option Phenomenon) (title : List ℕ) (some : length title ≢ 0) where
-  in_open : Holds (header_open h report asked title) (above_headline title)
+module _ (h : History) (report : Report) (focus : Focus) (title : List ℕ) (some : length title ≢ 0) where
+  in_open : Holds (header_open h report focus title) (above_headline title)
   unfolding header_open
   in_open =
-      in_front (codes "<header>\n" ++ title_above title) (headline_text (headline_of h report asked) (lede_of report asked)) (above_headline title)
+      in_front (codes "<header>\n" ++ title_above title) (headline_text (headline_of h report focus) (lede_of h report focus)) (above_headline title)
       (behind_it (codes "<header>\n") (title_above title) (above_headline title) (above_held title some))
 
-  in_header : Holds (header_text h report asked title) (above_headline title)
+  in_header : Holds (header_text h report focus title) (above_headline title)
   unfolding header_text
   in_header =
-      let begin : List ℕ = header_open h report asked title in
+      let begin : List ℕ = header_open h report focus title in
       in_front (begin ++ tiles_text report ++ counts_text h.txns) nav_text (above_headline title)
       (in_front (begin ++ tiles_text report) (counts_text h.txns) (above_headline title) (in_front begin (tiles_text report) (above_headline title) in_open))
 
   module _ (s : Scope) (picture : List ℕ) where
-    in_verdict : Holds (verdict_part h s report asked title picture) (above_headline title)
+    in_verdict : Holds (verdict_part h s report focus title picture) (above_headline title)
     unfolding verdict_part
     in_verdict =
-        let head : List ℕ = head_text h report asked title in
-        let header : List ℕ = header_text h report asked title in
-        in_front (head ++ header ++ why_text h s report asked picture) (levels_text h report) (above_headline title)
-        (in_front (head ++ header) (why_text h s report asked picture) (above_headline title) (behind_it head header (above_headline title) in_header))
+        let head : List ℕ = head_text h report focus title in
+        let header : List ℕ = header_text h report focus title in
+        in_front (head ++ header ++ why_text h s report focus picture) (levels_text h report) (above_headline title)
+        (in_front (head ++ header) (why_text h s report focus picture) (above_headline title) (behind_it head header (above_headline title) in_header))
 
-    pub title_shown : Shows (page_with h s report asked title picture) title
+    pub title_shown : Shows (page_with h s report focus title picture) title
     unfolding page_with
     title_shown =
-        above_shows (page_with h s report asked title picture) title
-        (in_front (verdict_part h s report asked title picture) (evidence_part h s report asked) (above_headline title) in_verdict)
+        above_shows (page_with h s report focus title picture) title
+        (in_front (verdict_part h s report focus title picture) (evidence_part h s report focus) (above_headline title) in_verdict)

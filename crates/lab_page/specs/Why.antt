@@ -10,26 +10,36 @@ use Rattle.lab_judge.specs.declared.report.Report.{Report}
 use Rattle.lab_judge.specs.declared.serial.Serial.{Serial}
 use Rattle.lab_judge.specs.declared.serial.Serial.TheVariants as serial
 use Rattle.lab_drawing.specs.Making.{arrow_of}
-use Rattle.lab_drawing.specs.Sketch.{drawing_of}
 use Rattle.lab_drawing.specs.Text.{escaped}
 use Rattle.lab_drawing.specs.declared.drawing.Arrow.{Arrow}
 use Rattle.lab_explain.specs.Faults.{recorded_text, due_text}
 use Rattle.lab_explain.specs.Sentences.{serial_sentence, edge_sentence, mistake_text, found_sentence}
 use Rattle.lab_reports.specs.Phenomena.{finding_of}
-use Rattle.lab_reports.specs.declared.phenomenon.Phenomenon.{Phenomenon}
+use Rattle.lab_reports.specs.declared.requirement.Requirement.{Requirement}
+use Rattle.lab_reports.specs.declared.violation.Violation.{Violation}
+use Rattle.lab_reports.specs.declared.violation.Violation.TheVariants as violation
+use Rattle.lab_judge.specs.declared.places.Places.{Places}
+use Rattle.lab_judge.specs.declared.places.Places.TheVariants as places
+use Rattle.lab_explain.specs.Focus.{Focus, lead_of}
+use Rattle.lab_explain.specs.SnapshotPart.{snapshot_sentence}
+use Rattle.lab_explain.specs.declared.steps.Lead.{Lead}
 use Rattle.lab_evidence.specs.Chains.{asked_place, chain_text}
 use Rattle.lab_overview.specs.Figure.{figure_text}
 use Rattle.lab_evidence.specs.Markup.{op_text, row_text}
 use Rattle.lab_overview.specs.Sentences.{led_text}
 use Rattle.lab_page.specs.Phrases.{kinds_text}
 use Rattle.lab_evidence.specs.Questions.{first_did, second_did, told_cycle, shown_steps}
-use Rattle.lab_evidence.specs.Scope.{Scope}
+use Rattle.lab_evidence.specs.Scope.{Scope, focus_drawing}
 use Rattle.lab_page.specs.Tags.{opening_open, steps_open, chain_open, why_head, sentences_open, row_open, versions_open, sentences_close, why_close}
 
 -- the first sentence
-abbrev pub opening_of : History → Report → Option Phenomenon → List ℕ
-opening_of h report None = serial_sentence report.serial
-opening_of h report (Some p) = found_sentence h p (finding_of p report)
+abbrev pub shown_opening : History → Report → List Edge → Option Violation → List ℕ
+shown_opening h report walk None = serial_sentence report.serial
+shown_opening h report walk (Some (violation.Phenomenon p)) = found_sentence h p (finding_of p report)
+shown_opening h report walk (Some violation.Snapshot) = snapshot_sentence h report.snapshot walk
+
+abbrev pub opening_of : History → Report → Focus → List ℕ
+opening_of h report focus = shown_opening h report focus.walk focus.shown
 
 -- it in the page
 unfoldable pub opening_text : List ℕ → List ℕ
@@ -72,13 +82,13 @@ below_by h s kind None = []
 below_by h s kind (Some a) = below_text h s kind a
 
 -- the step of a dependency
-abbrev pub edge_item : History → Scope → ℕ → Edge → List ℕ
-edge_item h s step e = item_text step (edge_sentence h e) (below_by h s e.kind (arrow_of h e))
+abbrev pub edge_item : History → Scope → Lead → ℕ → Edge → List ℕ
+edge_item h s lead step e = item_text step (edge_sentence h lead e) (below_by h s e.kind (arrow_of h e))
 
 -- steps, where so many come before these
-abbrev pub edge_items : History → Scope → ℕ → List Edge → List ℕ
-edge_items h s before [] = []
-edge_items h s before (e ∷ es) = edge_item h s (before + 1) e ++ edge_items h s (before + 1) es
+abbrev pub edge_items : History → Scope → Lead → ℕ → List Edge → List ℕ
+edge_items h s lead before [] = []
+edge_items h s lead before (e ∷ es) = edge_item h s lead (before + 1) e ++ edge_items h s lead (before + 1) es
 
 -- the steps of a fault
 abbrev pub recorded_item : History → LocalFault → List ℕ
@@ -99,9 +109,10 @@ serial_items h (serial.Yes order) = []
 serial_items h (serial.NoFault f) = fault_items h f
 serial_items h (serial.NoCycle walk) = []
 
-abbrev pub fault_steps : History → Report → Option Phenomenon → List ℕ
+abbrev pub fault_steps : History → Report → Option Violation → List ℕ
 fault_steps h report None = serial_items h report.serial
-fault_steps h report (Some p) = []
+fault_steps h report (Some (violation.Phenomenon p)) = []
+fault_steps h report (Some violation.Snapshot) = serial_items h report.serial
 
 -- how many steps aren't shown
 unfoldable pub untold_text : ℕ → List ℕ
@@ -118,9 +129,9 @@ abbrev pub behind_steps : List Edge → List ℕ
 behind_steps walk = cond (length walk == 0) [] (behind_cycle (length walk))
 
 -- the steps
-unfoldable pub steps_text : History → Scope → Report → Option Phenomenon → List ℕ
-steps_text h s report asked =
-    steps_open ++ edge_items h s 0 (shown_steps (told_cycle report asked)) ++ fault_steps h report asked ++ codes "</ol>\n"
+unfoldable pub steps_text : History → Scope → Report → Focus → List ℕ
+steps_text h s report focus =
+    steps_open ++ edge_items h s (lead_of focus.shown) 0 (shown_steps (told_cycle report focus)) ++ fault_steps h report focus.shown ++ codes "</ol>\n"
 
 -- the heading
 abbrev pub serial_heading : Serial → List ℕ
@@ -128,26 +139,47 @@ serial_heading (serial.Yes order) = codes "An order that gives every row"
 serial_heading (serial.NoFault f) = codes "What is wrong"
 serial_heading (serial.NoCycle walk) = codes "Why no order fits"
 
-abbrev pub heading_of : Report → Option Phenomenon → List ℕ
-heading_of report None = serial_heading report.serial
-heading_of report (Some p) = codes "What is found"
+-- the same where what is required is kept, or no phenomenon breaks it
+abbrev pub kept_heading : Serial → List ℕ
+kept_heading (serial.Yes order) = codes "An order that gives every row"
+kept_heading (serial.NoFault f) = codes "What is wrong"
+kept_heading (serial.NoCycle walk) = codes "What is allowed"
+
+-- the same of a snapshot verdict
+abbrev pub snapshot_heading : Places → List ℕ
+snapshot_heading (places.Yes spans) = codes "What is found"
+snapshot_heading (places.NoFault f) = codes "What is wrong"
+snapshot_heading (places.NoCycle points) = codes "Why no snapshots fit"
+
+-- the same of a serial verdict, by what is required
+abbrev pub order_heading : Serial → Option Requirement → List ℕ
+order_heading verdict None = serial_heading verdict
+order_heading verdict (Some requirement) = kept_heading verdict
+
+abbrev pub heading_by : Report → Option Requirement → Option Violation → List ℕ
+heading_by report required None = order_heading report.serial required
+heading_by report required (Some (violation.Phenomenon p)) = codes "What is found"
+heading_by report required (Some violation.Snapshot) = snapshot_heading report.snapshot
+
+abbrev pub heading_of : Report → Focus → List ℕ
+heading_of report focus = heading_by report focus.required focus.shown
 
 -- the beginning
 unfoldable pub why_open : List ℕ → List ℕ
 why_open heading = why_head ++ heading ++ sentences_open
 
 -- the sentences
-unfoldable pub sentences_text : History → Scope → Report → Option Phenomenon → List ℕ
-sentences_text h s report asked = opening_text (opening_of h report asked) ++ steps_text h s report asked ++ behind_steps (told_cycle report asked)
+unfoldable pub sentences_text : History → Scope → Report → Focus → List ℕ
+sentences_text h s report focus = opening_text (opening_of h report focus) ++ steps_text h s report focus ++ behind_steps (told_cycle report focus)
 
 -- the heading and the sentences
-unfoldable pub why_told : History → Scope → Report → Option Phenomenon → List ℕ
-why_told h s report asked = why_open (heading_of report asked) ++ sentences_text h s report asked ++ sentences_close
+unfoldable pub why_told : History → Scope → Report → Focus → List ℕ
+why_told h s report focus = why_open (heading_of report focus) ++ sentences_text h s report focus ++ sentences_close
 
 -- the picture of these columns
 unfoldable pub why_drawn : List ℕ → List ℕ → List ℕ
 why_drawn columns picture = figure_text columns picture ++ why_close
 
 -- the whole part
-unfoldable pub why_text : History → Scope → Report → Option Phenomenon → List ℕ → List ℕ
-why_text h s report asked picture = why_told h s report asked ++ why_drawn (drawing_of h report asked).columns picture
+unfoldable pub why_text : History → Scope → Report → Focus → List ℕ → List ℕ
+why_text h s report focus picture = why_told h s report focus ++ why_drawn (focus_drawing h report focus).columns picture

@@ -15,6 +15,9 @@ ghost use Rattle.lab_explain.specs.Names.{level_line};
 ghost use Rattle.lab_explain.specs.Places.{places_sentence};
 ghost use Rattle.lab_explain.specs.Sentences.{edge_sentence, mistake_text, finding_sentence};
 ghost use Rattle.lab_reports.specs.declared.phenomenon.Phenomenon.{Phenomenon};
+ghost use Rattle.lab_reports.specs.declared.requirement.Requirement.{Requirement as Required};
+ghost use Rattle.lab_reports.specs.declared.violation.Violation.{Violation as Violated};
+ghost use Rattle.lab_explain.specs.Focus.{Focus as Focused, lead_of};
 ghost use Rattle.lab_page.specs.Answer.{IsPageAnswer};
 ghost use Rattle.lab_overview.specs.Check.{file_of};
 ghost use Rattle.lab_overview.specs.Sentences.{led_text};
@@ -28,29 +31,29 @@ ghost use Rattle.lab_page.specs.Whole.{page_text};
 /// shown step of a cycle, the three of a fault, the sentence of the snapshot verdict, one for each phenomenon, and the
 /// line of the level.
 pub fn the_sentences_stand_in_their_page()
-    ensures first { (h : Held) (report : Report) (asked : Option Phenomenon) (title picture : List ℕ) → Shows (page_text h report asked title picture) (opening_of h report asked) }
-    ensures steps { (h : Held) (report : Report) (asked : Option Phenomenon) (title picture : List ℕ) (e : Dependency) → Contains (shown_steps (told_cycle report asked)) e → Shows (page_text h report asked title picture) (edge_sentence h e) }
-    ensures recorded { (h : Held) (report : Report) (title picture : List ℕ) (f : Fault) → report.serial ≡ NoFault f → Shows (page_text h report None title picture) (recorded_text h f) }
-    ensures due { (h : Held) (report : Report) (title picture : List ℕ) (f : Fault) → report.serial ≡ NoFault f → Shows (page_text h report None title picture) (due_text h f) }
-    ensures mistake { (h : Held) (report : Report) (title picture : List ℕ) (f : Fault) → report.serial ≡ NoFault f → Shows (page_text h report None title picture) (mistake_text f) }
-    ensures places { (h : Held) (report : Report) (asked : Option Phenomenon) (title picture : List ℕ) → Shows (page_text h report asked title picture) (places_sentence report.snapshot) }
-    ensures phenomena { (h : Held) (report : Report) (asked : Option Phenomenon) (title picture : List ℕ) (p : Phenomenon) → Shows (page_text h report asked title picture) (finding_sentence h report p) }
-    ensures level { (h : Held) (report : Report) (asked : Option Phenomenon) (title picture : List ℕ) → Shows (page_text h report asked title picture) (level_line report.level) }
+    ensures first { (h : Held) (report : Report) (focus : Focused) (title picture : List ℕ) → Shows (page_text h report focus title picture) (opening_of h report focus) }
+    ensures steps { (h : Held) (report : Report) (focus : Focused) (title picture : List ℕ) (e : Dependency) → Contains (shown_steps (told_cycle report focus)) e → Shows (page_text h report focus title picture) (edge_sentence h (lead_of focus.shown) e) }
+    ensures recorded { (h : Held) (report : Report) (focus : Focused) (title picture : List ℕ) (f : Fault) → focus.shown ≡ None → report.serial ≡ NoFault f → Shows (page_text h report focus title picture) (recorded_text h f) }
+    ensures due { (h : Held) (report : Report) (focus : Focused) (title picture : List ℕ) (f : Fault) → focus.shown ≡ None → report.serial ≡ NoFault f → Shows (page_text h report focus title picture) (due_text h f) }
+    ensures mistake { (h : Held) (report : Report) (focus : Focused) (title picture : List ℕ) (f : Fault) → focus.shown ≡ None → report.serial ≡ NoFault f → Shows (page_text h report focus title picture) (mistake_text f) }
+    ensures places { (h : Held) (report : Report) (focus : Focused) (title picture : List ℕ) → Shows (page_text h report focus title picture) (places_sentence report.snapshot) }
+    ensures phenomena { (h : Held) (report : Report) (focus : Focused) (title picture : List ℕ) (p : Phenomenon) → Shows (page_text h report focus title picture) (finding_sentence h report p) }
+    ensures level { (h : Held) (report : Report) (focus : Focused) (title picture : List ℕ) → Shows (page_text h report focus title picture) (level_line report.level) }
 {}
 
 /// Without its tags, a page has the ten lines of the report.
 pub fn the_report_stands_in_its_page()
-    ensures { (h : Held) (report : Report) (asked : Option Phenomenon) (title picture : List ℕ) → Shows (page_text h report asked title picture) (report_text report) }
+    ensures { (h : Held) (report : Report) (focus : Focused) (title picture : List ℕ) → Shows (page_text h report focus title picture) (report_text report) }
 {}
 
 /// Without its tags, a page has the file of its history, if that has at most 65,536 bytes.
 pub fn the_history_stands_in_its_page()
-    ensures { (h : Held) (report : Report) (asked : Option Phenomenon) (title picture : List ℕ) → length (file_of h) ≤ 65536 → Shows (page_text h report asked title picture) (file_of h) }
+    ensures { (h : Held) (report : Report) (focus : Focused) (title picture : List ℕ) → length (file_of h) ≤ 65536 → Shows (page_text h report focus title picture) (file_of h) }
 {}
 
 /// A page has its picture, byte for byte, if that has at most 65,536 bytes.
 pub fn the_picture_stands_in_its_page()
-    ensures { (h : Held) (report : Report) (asked : Option Phenomenon) (title picture : List ℕ) → length picture ≤ 65536 → Holds (page_text h report asked title picture) picture }
+    ensures { (h : Held) (report : Report) (focus : Focused) (title picture : List ℕ) → length picture ≤ 65536 → Holds (page_text h report focus title picture) picture }
 {}
 
 /// A sentence of a page without its tags is the escaped sentence. An escaped text, with its character references read
@@ -70,12 +73,12 @@ pub fn what_is_escaped_has_no_markup()
 /// A page has its title escaped, in two positions, and the rest of the page doesn't depend on the title. Without its
 /// tags, the page has the title.
 pub fn a_title_stands_escaped_in_its_page()
-    ensures escaped { (h : Held) (report : Report) (asked : Option Phenomenon) (picture : List ℕ) → HasTitlesEscaped (λ title. page_text h report asked title picture) }
-    ensures shown { (h : Held) (report : Report) (asked : Option Phenomenon) (title picture : List ℕ) → length title ≢ 0 → Shows (page_text h report asked title picture) title }
+    ensures escaped { (h : Held) (report : Report) (focus : Focused) (picture : List ℕ) → HasTitlesEscaped (λ title. page_text h report focus title picture) }
+    ensures shown { (h : Held) (report : Report) (focus : Focused) (title picture : List ℕ) → length title ≢ 0 → Shows (page_text h report focus title picture) title }
 {}
 
 /// `page` has one output for each input, byte for byte: two pages of one file are equal.
 pub fn page_answer_unique()
-    ensures text { (input title one other : List ℕ) (asked : Option Phenomenon) (first again : Ending) → IsPageAnswer input asked title one first → IsPageAnswer input asked title other again → one ≡ other }
-    ensures ending { (input title one other : List ℕ) (asked : Option Phenomenon) (first again : Ending) → IsPageAnswer input asked title one first → IsPageAnswer input asked title other again → first ≡ again }
+    ensures text { (input title one other : List ℕ) (asked : Option Violated) (required : Option Required) (first again : Ending) → IsPageAnswer input asked required title one first → IsPageAnswer input asked required title other again → one ≡ other }
+    ensures ending { (input title one other : List ℕ) (asked : Option Violated) (required : Option Required) (first again : Ending) → IsPageAnswer input asked required title one first → IsPageAnswer input asked required title other again → first ≡ again }
 {}

@@ -5,10 +5,10 @@ ghost use Rattle.lab_page.specs.Whole.{verdict_part, evidence_part, page_with, p
 
 use crate::why::put_why;
 use lab_evidence::{Scope, put_rows, put_transactions, scope_of};
+use lab_explain::Focus;
 use lab_history::History;
 use lab_judge::Report;
 use lab_overview::{put_check, put_head, put_header, put_history, put_levels, put_report};
-use lab_reports::Phenomenon;
 use lab_table::NoMemory;
 use std::alloc::Global;
 
@@ -20,15 +20,15 @@ fn put_verdict(
     history: &History,
     scope: &Scope,
     report: &Report,
-    asked: Option<Phenomenon>,
+    focus: &Focus,
     title: &[u8],
     picture: &[u8],
 ) -> Result<(), NoMemory>
-    ensures { OnOk result (out.new.items ≡ out.old.items ++ verdict_part history.now scope.now report.now asked title.now picture.now) }
+    ensures { OnOk result (out.new.items ≡ out.old.items ++ verdict_part history.now scope.now report.now focus.now title.now picture.now) }
 {
-    put_head(alloc, out, history, report, asked, title)?;
-    put_header(alloc, out, history, report, asked, title)?;
-    put_why(alloc, out, history, scope, report, asked, picture)?;
+    put_head(alloc, out, history, report, focus, title)?;
+    put_header(alloc, out, history, report, focus, title)?;
+    put_why(alloc, out, history, scope, report, focus, picture)?;
     put_levels(alloc, out, history, report)
 }
 
@@ -40,13 +40,13 @@ fn put_evidence(
     history: &History,
     scope: &Scope,
     report: &Report,
-    asked: Option<Phenomenon>,
+    focus: &Focus,
 ) -> Result<(), NoMemory>
-    ensures { OnOk result (out.new.items ≡ out.old.items ++ evidence_part history.now scope.now report.now asked) }
+    ensures { OnOk result (out.new.items ≡ out.old.items ++ evidence_part history.now scope.now report.now focus.now) }
 {
     put_transactions(alloc, out, history, scope)?;
     put_rows(alloc, out, history, scope)?;
-    put_check(out, report, asked)?;
+    put_check(out, report, focus)?;
     put_report(alloc, out, report)?;
     put_history(alloc, out, history)
 }
@@ -59,14 +59,14 @@ fn put_page(
     history: &History,
     scope: &Scope,
     report: &Report,
-    asked: Option<Phenomenon>,
+    focus: &Focus,
     title: &[u8],
     picture: &[u8],
 ) -> Result<(), NoMemory>
-    ensures { OnOk result (out.new.items ≡ out.old.items ++ page_with history.now scope.now report.now asked title.now picture.now) }
+    ensures { OnOk result (out.new.items ≡ out.old.items ++ page_with history.now scope.now report.now focus.now title.now picture.now) }
 {
-    put_verdict(alloc, out, history, scope, report, asked, title, picture)?;
-    put_evidence(alloc, out, history, scope, report, asked)
+    put_verdict(alloc, out, history, scope, report, focus, title, picture)?;
+    put_evidence(alloc, out, history, scope, report, focus)
 }
 
 /// The page of a report on a history, with its picture and what the user says of it.
@@ -74,16 +74,16 @@ pub fn page_text(
     alloc: Global,
     history: &History,
     report: &Report,
-    asked: Option<Phenomenon>,
+    focus: &Focus,
     title: &[u8],
     picture: &[u8],
 ) -> Result<Vec<u8>, NoMemory>
-    ensures { IfOk result (λ text. text.items ≡ page_text history.now report.now asked title.now picture.now) }
+    ensures { IfOk result (λ text. text.items ≡ page_text history.now report.now focus.now title.now picture.now) }
 {
-    let scope = scope_of(alloc, history, report, asked)?;
+    let scope = scope_of(alloc, history, report, focus)?;
     let mut out = Vec::new(alloc);
     put_page(
-        alloc, &mut out, history, &scope, report, asked, title, picture,
+        alloc, &mut out, history, &scope, report, focus, title, picture,
     )?;
     Ok(out)
 }

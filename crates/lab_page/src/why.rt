@@ -2,19 +2,19 @@
 //! text may have been appended.
 
 ghost use Rattle.std.specs.Prelude.{◌≡◌, ◌++◌, OnOk};
-ghost use Rattle.lab_page.specs.Why.{opening_of, opening_text, serial_heading, heading_of, why_open, sentences_text, why_told, why_drawn, why_text};
-ghost use Rattle.lab_drawing.specs.Sketch.{drawing_of};
+ghost use Rattle.lab_page.specs.Why.{opening_of, opening_text, serial_heading, kept_heading, snapshot_heading, order_heading, heading_of, why_open, sentences_text, why_told, why_drawn, why_text};
+ghost use Rattle.lab_evidence.specs.Scope.{focus_drawing};
 ghost use Rattle.lab_overview.specs.Figure.{figure_text};
 
 use crate::tags::{opening_open, sentences_close, sentences_open, why_close, why_head};
 use crate::why_steps::{put_behind_steps, put_steps};
-use lab_drawing::{Drawing, draw, put_escaped};
-use lab_evidence::{Scope, told_cycle};
-use lab_explain::{put_found_sentence, put_serial_sentence};
+use lab_drawing::{Drawing, put_escaped};
+use lab_evidence::{Scope, focus_drawing, told_cycle};
+use lab_explain::{Focus, put_found_sentence, put_serial_sentence, put_snapshot_sentence};
 use lab_history::History;
-use lab_judge::{Report, Serial};
+use lab_judge::{Places, Report, Serial};
 use lab_overview::put_figure;
-use lab_reports::Phenomenon;
+use lab_reports::{Requirement, Violation};
 use lab_table::NoMemory;
 use std::alloc::Global;
 
@@ -23,14 +23,17 @@ fn put_opening_sentence(
     out: &mut Vec<u8>,
     history: &History,
     report: &Report,
-    asked: Option<Phenomenon>,
+    focus: &Focus,
 ) -> Result<(), NoMemory>
-    ensures { OnOk result (out.new.items ≡ out.old.items ++ opening_of history.now report.now asked) }
+    ensures { OnOk result (out.new.items ≡ out.old.items ++ opening_of history.now report.now focus.now) }
 {
-    match asked {
+    match focus.shown {
         None => put_serial_sentence(out, &report.serial),
-        Some(phenomenon) => {
+        Some(Violation::Phenomenon(phenomenon)) => {
             put_found_sentence(out, history, phenomenon, phenomenon.found_in(report))
+        }
+        Some(Violation::Snapshot) => {
+            put_snapshot_sentence(out, history, &report.snapshot, &focus.walk)
         }
     }
 }
@@ -55,13 +58,46 @@ fn serial_heading(serial: &Serial) -> &'static [u8]
     }
 }
 
-/// The heading.
-fn heading_of(report: &Report, asked: Option<Phenomenon>) -> &'static [u8]
-    ensures { result.now ≡ heading_of report.now asked }
+/// The same where what is required is kept, or no phenomenon breaks it.
+fn kept_heading(serial: &Serial) -> &'static [u8]
+    ensures { result.now ≡ kept_heading serial.now }
 {
-    match asked {
-        None => serial_heading(&report.serial),
-        Some(_) => b"What is found",
+    match serial {
+        Serial::Yes(_) => b"An order that gives every row",
+        Serial::NoFault(_) => b"What is wrong",
+        Serial::NoCycle(_) => b"What is allowed",
+    }
+}
+
+/// The same of a snapshot verdict.
+fn snapshot_heading(snapshot: &Places) -> &'static [u8]
+    ensures { result.now ≡ snapshot_heading snapshot.now }
+{
+    match snapshot {
+        Places::Yes(_) => b"What is found",
+        Places::NoFault(_) => b"What is wrong",
+        Places::NoCycle(_) => b"Why no snapshots fit",
+    }
+}
+
+/// The same of a serial verdict, by what is required.
+fn order_heading(serial: &Serial, required: Option<Requirement>) -> &'static [u8]
+    ensures { result.now ≡ order_heading serial.now required }
+{
+    match required {
+        None => serial_heading(serial),
+        Some(_) => kept_heading(serial),
+    }
+}
+
+/// The heading.
+fn heading_of(report: &Report, focus: &Focus) -> &'static [u8]
+    ensures { result.now ≡ heading_of report.now focus.now }
+{
+    match focus.shown {
+        None => order_heading(&report.serial, focus.required),
+        Some(Violation::Phenomenon(_)) => b"What is found",
+        Some(Violation::Snapshot) => snapshot_heading(&report.snapshot),
     }
 }
 
@@ -83,15 +119,15 @@ fn put_sentences(
     history: &History,
     scope: &Scope,
     report: &Report,
-    asked: Option<Phenomenon>,
+    focus: &Focus,
 ) -> Result<(), NoMemory>
-    ensures { OnOk result (out.new.items ≡ out.old.items ++ sentences_text history.now scope.now report.now asked) }
+    ensures { OnOk result (out.new.items ≡ out.old.items ++ sentences_text history.now scope.now report.now focus.now) }
 {
     let mut opening = Vec::new(alloc);
-    put_opening_sentence(&mut opening, history, report, asked)?;
+    put_opening_sentence(&mut opening, history, report, focus)?;
     put_opening(out, &opening)?;
-    put_steps(alloc, out, history, scope, report, asked)?;
-    put_behind_steps(out, told_cycle(report, asked))
+    put_steps(alloc, out, history, scope, report, focus)?;
+    put_behind_steps(out, told_cycle(report, focus))
 }
 
 /// Appends the picture of a drawing.
@@ -107,12 +143,12 @@ fn put_report_figure(
     out: &mut Vec<u8>,
     history: &History,
     report: &Report,
-    asked: Option<Phenomenon>,
+    focus: &Focus,
     picture: &[u8],
 ) -> Result<(), NoMemory>
-    ensures { OnOk result (out.new.items ≡ out.old.items ++ figure_text (drawing_of history.now report.now asked).columns picture.now) }
+    ensures { OnOk result (out.new.items ≡ out.old.items ++ figure_text (focus_drawing history.now report.now focus.now).columns picture.now) }
 {
-    let drawing = draw(alloc, history, report, asked)?;
+    let drawing = focus_drawing(alloc, history, report, focus)?;
     put_drawing_figure(out, &drawing, picture)
 }
 
@@ -124,12 +160,12 @@ fn put_why_told(
     history: &History,
     scope: &Scope,
     report: &Report,
-    asked: Option<Phenomenon>,
+    focus: &Focus,
 ) -> Result<(), NoMemory>
-    ensures { OnOk result (out.new.items ≡ out.old.items ++ why_told history.now scope.now report.now asked) }
+    ensures { OnOk result (out.new.items ≡ out.old.items ++ why_told history.now scope.now report.now focus.now) }
 {
-    put_why_open(out, heading_of(report, asked))?;
-    put_sentences(alloc, out, history, scope, report, asked)?;
+    put_why_open(out, heading_of(report, focus))?;
+    put_sentences(alloc, out, history, scope, report, focus)?;
     out.extend_from_slice(sentences_close())
 }
 
@@ -140,12 +176,12 @@ fn put_why_drawn(
     out: &mut Vec<u8>,
     history: &History,
     report: &Report,
-    asked: Option<Phenomenon>,
+    focus: &Focus,
     picture: &[u8],
 ) -> Result<(), NoMemory>
-    ensures { OnOk result (out.new.items ≡ out.old.items ++ why_drawn (drawing_of history.now report.now asked).columns picture.now) }
+    ensures { OnOk result (out.new.items ≡ out.old.items ++ why_drawn (focus_drawing history.now report.now focus.now).columns picture.now) }
 {
-    put_report_figure(alloc, out, history, report, asked, picture)?;
+    put_report_figure(alloc, out, history, report, focus, picture)?;
     out.extend_from_slice(why_close())
 }
 
@@ -157,11 +193,11 @@ pub fn put_why(
     history: &History,
     scope: &Scope,
     report: &Report,
-    asked: Option<Phenomenon>,
+    focus: &Focus,
     picture: &[u8],
 ) -> Result<(), NoMemory>
-    ensures { OnOk result (out.new.items ≡ out.old.items ++ why_text history.now scope.now report.now asked picture.now) }
+    ensures { OnOk result (out.new.items ≡ out.old.items ++ why_text history.now scope.now report.now focus.now picture.now) }
 {
-    put_why_told(alloc, out, history, scope, report, asked)?;
-    put_why_drawn(alloc, out, history, report, asked, picture)
+    put_why_told(alloc, out, history, scope, report, focus)?;
+    put_why_drawn(alloc, out, history, report, focus, picture)
 }

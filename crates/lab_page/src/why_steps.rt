@@ -10,12 +10,13 @@ use lab_deps::{Edge, LocalFault};
 use lab_drawing::put_number;
 use lab_evidence::{Scope, shown_steps, told_cycle};
 use lab_explain::{
-    put_due_sentence, put_edge_sentence, put_mistake_sentence, put_recorded_sentence,
+    Focus, Lead, lead_of, put_due_sentence, put_edge_sentence, put_mistake_sentence,
+    put_recorded_sentence,
 };
 use lab_history::History;
 use lab_judge::{Report, Serial};
 use lab_overview::put_led;
-use lab_reports::Phenomenon;
+use lab_reports::Violation;
 use lab_table::NoMemory;
 use std::alloc::Global;
 
@@ -46,13 +47,14 @@ fn put_edge_item(
     out: &mut Vec<u8>,
     history: &History,
     scope: &Scope,
+    lead: Lead,
     step: u32,
     edge: &Edge,
 ) -> Result<(), NoMemory>
-    ensures { OnOk result (out.new.items ≡ out.old.items ++ edge_item history.now scope.now step edge.now) }
+    ensures { OnOk result (out.new.items ≡ out.old.items ++ edge_item history.now scope.now lead step edge.now) }
 {
     let mut sentence = Vec::new(alloc);
-    put_edge_sentence(&mut sentence, history, edge)?;
+    put_edge_sentence(&mut sentence, history, lead, edge)?;
     let mut below = Vec::new(alloc);
     put_below_edge(alloc, &mut below, history, scope, edge)?;
     put_item(out, step, &sentence, &below)
@@ -64,13 +66,14 @@ fn put_edge_items(
     out: &mut Vec<u8>,
     history: &History,
     scope: &Scope,
+    lead: Lead,
     steps: &[Edge],
 ) -> Result<(), NoMemory>
     requires { length steps.now ≤ 20 }
-    ensures { OnOk result (out.new.items ≡ out.old.items ++ edge_items history.now scope.now 0 steps.now) }
+    ensures { OnOk result (out.new.items ≡ out.old.items ++ edge_items history.now scope.now lead 0 steps.now) }
 {
     for (index, edge) in steps.iter().enumerate() {
-        put_edge_item(alloc, out, history, scope, index as u32 + 1, edge)?;
+        put_edge_item(alloc, out, history, scope, lead, index as u32 + 1, edge)?;
     }
     Ok(())
 }
@@ -143,19 +146,20 @@ fn put_serial_items(
     }
 }
 
-/// The same, where the serial verdict is told.
+/// The same, unless a phenomenon is shown.
 fn put_fault_steps(
     alloc: Global,
     out: &mut Vec<u8>,
     history: &History,
     report: &Report,
-    asked: Option<Phenomenon>,
+    shown: Option<Violation>,
 ) -> Result<(), NoMemory>
-    ensures { OnOk result (out.new.items ≡ out.old.items ++ fault_steps history.now report.now asked) }
+    ensures { OnOk result (out.new.items ≡ out.old.items ++ fault_steps history.now report.now shown) }
 {
-    match asked {
+    match shown {
         None => put_serial_items(alloc, out, history, &report.serial),
-        Some(_) => Ok(()),
+        Some(Violation::Phenomenon(_)) => Ok(()),
+        Some(Violation::Snapshot) => put_serial_items(alloc, out, history, &report.serial),
     }
 }
 
@@ -209,13 +213,13 @@ pub fn put_steps(
     history: &History,
     scope: &Scope,
     report: &Report,
-    asked: Option<Phenomenon>,
+    focus: &Focus,
 ) -> Result<(), NoMemory>
-    ensures { OnOk result (out.new.items ≡ out.old.items ++ steps_text history.now scope.now report.now asked) }
+    ensures { OnOk result (out.new.items ≡ out.old.items ++ steps_text history.now scope.now report.now focus.now) }
 {
-    let steps = shown_steps(told_cycle(report, asked));
+    let steps = shown_steps(told_cycle(report, focus));
     out.extend_from_slice(steps_open())?;
-    put_edge_items(alloc, out, history, scope, steps)?;
-    put_fault_steps(alloc, out, history, report, asked)?;
+    put_edge_items(alloc, out, history, scope, lead_of(focus.shown), steps)?;
+    put_fault_steps(alloc, out, history, report, focus.shown)?;
     out.extend_from_slice(b"</ol>\n")
 }

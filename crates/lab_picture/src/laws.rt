@@ -9,7 +9,7 @@ ghost use Rattle.lab_picture.specs.Picture.{IsPictureAnswer};
 ghost use Rattle.lab_picture.specs.RowLaws.{HasRow};
 ghost use Rattle.lab_drawing.specs.Sketch.{Sketch};
 ghost use Rattle.lab_picture.specs.Svg.{arrows_drawn};
-ghost use Rattle.lab_reports.specs.declared.phenomenon.Phenomenon.{Phenomenon};
+ghost use Rattle.lab_reports.specs.declared.violation.Violation.{Violation as Violated};
 ghost use Rattle.lab_drawing.specs.declared.drawing.Arrow.{Arrow as Drawn};
 ghost use Rattle.lab_drawing.specs.declared.drawing.Spot.{Spot as Place};
 
@@ -35,6 +35,6 @@ pub fn a_picture_is_low()
 
 /// `picture` has one output for each input, byte for byte: two pictures of one file are equal.
 pub fn picture_answer_unique()
-    ensures text { (input one other : List ℕ) (asked : Option Phenomenon) (first again : Ending) → IsPictureAnswer input asked one first → IsPictureAnswer input asked other again → one ≡ other }
-    ensures ending { (input one other : List ℕ) (asked : Option Phenomenon) (first again : Ending) → IsPictureAnswer input asked one first → IsPictureAnswer input asked other again → first ≡ again }
+    ensures text { (input one other : List ℕ) (asked : Option Violated) (first again : Ending) → IsPictureAnswer input asked one first → IsPictureAnswer input asked other again → one ≡ other }
+    ensures ending { (input one other : List ℕ) (asked : Option Violated) (first again : Ending) → IsPictureAnswer input asked one first → IsPictureAnswer input asked other again → first ≡ again }
 {}

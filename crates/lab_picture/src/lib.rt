@@ -34,7 +34,7 @@ mod svg;
 mod text;
 mod values;
 
-pub use drawn::picture_with;
+pub use drawn::report_picture;
 pub use laws::{
     a_picture_is_low, each_arrow_has_its_row_at_both_ends, each_named_operation_is_drawn,
     picture_answer_unique,

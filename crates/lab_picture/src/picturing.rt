@@ -5,12 +5,10 @@ ghost use Rattle.std.specs.Io.KnownBytes.{Appends, Keeps};
 ghost use Rattle.lab_streams.specs.Input.{ReadsFirst};
 ghost use Rattle.lab_picture.specs.Picture.{IsPictureOf, Pictures, IsPictureAnswer};
 
-use crate::forward::{forward_arrows, with_forward};
-use crate::svg::print_drawing;
-use lab_drawing::draw;
+use crate::drawn::report_picture;
 use lab_history::History;
 use lab_judge::judge;
-use lab_reports::Phenomenon;
+use lab_reports::Violation;
 use lab_streams::{Answer, Ending, Format, RunFault, Teller, tell_history};
 use lab_table::NoMemory;
 use std::alloc::{AllocError, Global};
@@ -20,22 +18,20 @@ use std::io::{Read, Write};
 fn picture_of(
     alloc: Global,
     history: &History,
-    asked: Option<Phenomenon>,
+    asked: Option<Violation>,
 ) -> Result<Vec<u8>, NoMemory>
     ensures { IfOk result (λ text. IsPictureOf history.now asked text.items) }
 {
     let Ok(report) = judge(alloc, history) else {
         return Err(AllocError);
     };
-    let forward = forward_arrows(alloc, history, &report, asked)?;
-    let drawing = with_forward(forward, draw(alloc, history, &report, asked)?);
-    print_drawing(alloc, history, &drawing)
+    report_picture(alloc, history, &report, asked)
 }
 
 /// What tells the picture of a judgement.
 #[derive(Drop)]
 struct TellsPicture {
-    asked: Option<Phenomenon>,
+    asked: Option<Violation>,
 }
 
 impl Teller for TellsPicture {
@@ -51,15 +47,15 @@ impl Teller for TellsPicture {
     fn note<N: Write>(&self, _notes: &mut N) {}
 }
 
-/// Reads a history file, and writes the picture of the judgement of its history: of the serial verdict, or of the
-/// finding about a phenomenon. If the file is refused, writes the line of its first fault. Reads, writes and ends as
+/// Reads a history file, and writes the picture of the judgement of its history: of the serial verdict, of the
+/// finding about a phenomenon, or of the snapshot verdict. If the file is refused, writes the line of its first fault. Reads, writes and ends as
 /// `tell_history` does.
 pub fn picture<R: Read, W: Write, N: Write>(
     alloc: Global,
     reader: &mut R,
     writer: &mut W,
     notes: &mut N,
-    asked: Option<Phenomenon>,
+    asked: Option<Violation>,
 ) -> Result<Ending, RunFault>
     ensures written { IfOk result (λ ending. IfSome (R.remaining reader.old) (λ input.
         (text : List ℕ) × Appends (W.contents writer.old) (W.contents writer.new) text × IsPictureAnswer input asked text ending)) }

@@ -4,6 +4,6 @@ use Rattle.lab_page.proofs.laws.a_title_stands_escaped_in_its_page.Goals as goal
 
 pub returns : goal.returns
 returns c = record {
-  escaped = λ h report asked picture. page_twice h report asked (scope_of h report asked) picture;
-  shown = λ h report asked title picture some. title_shown h report asked title some (scope_of h report asked) picture;
+  escaped = λ h report focus picture. page_twice h report focus (scope_of h report focus) picture;
+  shown = λ h report focus title picture some. title_shown h report focus title some (scope_of h report focus) picture;
 }

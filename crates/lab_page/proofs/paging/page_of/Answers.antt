@@ -7,10 +7,10 @@ returns c =
     IfOk-weaker c.page_text.result _ _
     (λ text is.
     record {
-      report = c.in-Ok.report;
-      judgement = c.in-Ok.ensures.exact;
+      focus = c.in_ok-focus.focus;
+      is_focus = c.in_ok-focus.ensures;
       picture = c.in_ok-picture.picture.items;
       drawn = c.in_ok-picture.ensures;
-      text_is = is ∙ ap (page_text c.args.history.now c.in-Ok.report c.args.asked c.args.title.now) c.deref.ensures.value;
+      text_is = is ∙ ap (page_text c.args.history.now c.args.report.now c.in_ok-focus.focus c.args.title.now) c.deref.ensures.value;
     })
     c.page_text.ensures
