@@ -82,7 +82,7 @@ shown_lede report (Some violation.Snapshot) = snapshot_lede report.snapshot
 
 -- a cycle that what is required allows
 unfoldable pub allowed_lede : History → List Edge → List ℕ
-allowed_lede h walk = serial_title h (serial.NoCycle walk) ++ codes ". What is required allows this."
+allowed_lede h walk = codes "Not serializable: " ++ full_name h (walk_phenomenon walk) walk ++ codes ". What is required allows this."
 
 -- what a serial verdict means where what is required is kept, or no phenomenon breaks it
 abbrev pub kept_lede : History → Serial → List ℕ
