@@ -15,7 +15,7 @@ one_walk h report (Some violation.Snapshot) one other p q = one_snapshot_walk h 
 
 -- what is the same in its three parts is the same
 alike : (shown again : Option Violation) (required too : Option Requirement) (walk other : List Edge) → shown ≡ again → required ≡ too → walk ≡ other
-    → (record { shown = shown; required = required; walk = walk }) ≡ (record { shown = again; required = too; walk = other })
+    → ◌≡◌ {A = Focus} (record { shown = shown; required = required; walk = walk }) (record { shown = again; required = too; walk = other })
 alike shown again required too walk other p q r = λ i. record { shown = p i; required = q i; walk = r i }
 
 pub one_focus : (h : History) (report : Report) (asked : Option Violation) (required : Option Requirement) (one other : Focus) → IsFocusOf h report asked required one

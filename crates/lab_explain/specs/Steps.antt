@@ -47,13 +47,29 @@ tag_text e = codes " [" ++ kind_name e.kind ++ codes "(" ++ printed_row_name e.r
 unfoldable pub order_text : Edge → List ℕ
 order_text e = txn_name e.from ++ codes " comes before " ++ txn_name e.to ++ codes ": "
 
+-- the start of a transaction
+unfoldable pub start_of : ℕ → List ℕ
+start_of n = codes "The start of " ++ txn_name n
+
+-- the commit of a transaction
+unfoldable pub commit_of : ℕ → List ℕ
+commit_of n = codes "The commit of " ++ txn_name n
+
+-- before a start
+unfoldable pub before_start : ℕ → List ℕ
+before_start n = codes " comes before the start of " ++ txn_name n ++ codes ": "
+
+-- before a commit
+unfoldable pub before_commit : ℕ → List ℕ
+before_commit n = codes " comes before the commit of " ++ txn_name n ++ codes ": "
+
 -- the start of one transaction comes before the commit of another
-unfoldable pub start_first : Edge → List ℕ
-start_first e = codes "The start of " ++ txn_name e.from ++ codes " comes before the commit of " ++ txn_name e.to ++ codes ": "
+abbrev pub start_first : Edge → List ℕ
+start_first e = start_of e.from ++ before_commit e.to
 
 -- the commit of one transaction comes before the start of another
-unfoldable pub commit_first : Edge → List ℕ
-commit_first e = codes "The commit of " ++ txn_name e.from ++ codes " comes before the start of " ++ txn_name e.to ++ codes ": "
+abbrev pub commit_first : Edge → List ℕ
+commit_first e = commit_of e.from ++ before_start e.to
 
 -- which points a dependency orders: an anti-dependency a start and a commit, any other a commit and a start
 abbrev pub points_text : Edge → Kind → List ℕ

@@ -3,7 +3,7 @@
 
 ghost use Rattle.std.specs.Prelude.{◌≡◌, ◌++◌, OnOk};
 ghost use Rattle.lab_explain.specs.Lines.{standing};
-ghost use Rattle.lab_explain.specs.Steps.{from_text, left_next, saw_next, to_text, tag_text, order_text, start_first, commit_first, points_text, lead_text, edge_text, edge_step, walk_sentences, walk_steps};
+ghost use Rattle.lab_explain.specs.Steps.{from_text, left_next, saw_next, to_text, tag_text, order_text, start_of, commit_of, before_start, before_commit, start_first, commit_first, points_text, lead_text, edge_text, edge_step, walk_sentences, walk_steps};
 
 use crate::clauses::{put_left, put_left_row, put_op, put_saw, put_seen, put_txn};
 use crate::lines::{put_placed, put_step, room_behind};
@@ -12,7 +12,7 @@ use lab_drawing::{Arrow, Spot, arrow_of};
 use lab_history::History;
 use lab_judge::kind_name;
 use lab_printing::put_row_name;
-use lab_table::{NoMemory, RowName};
+use lab_table::{NoMemory, RowName, TxnNo};
 use std::alloc::Global;
 
 /// What the step of a dependency orders.
@@ -135,28 +135,58 @@ fn put_order(out: &mut Vec<u8>, edge: &Edge) -> Result<(), NoMemory>
     out.extend_from_slice(b": ")
 }
 
-/// Appends that one start comes before another transaction's commit.
-#[tactic(auto, unfolding(crate::specs::Steps::start_first))]
-fn put_start_first(out: &mut Vec<u8>, edge: &Edge) -> Result<(), NoMemory>
-    ensures { OnOk result (out.new.items ≡ out.old.items ++ start_first edge.now) }
+/// Appends the start of a transaction.
+#[tactic(auto, unfolding(crate::specs::Steps::start_of))]
+fn put_start_of(out: &mut Vec<u8>, txn: TxnNo) -> Result<(), NoMemory>
+    ensures { OnOk result (out.new.items ≡ out.old.items ++ start_of txn) }
 {
     out.extend_from_slice(b"The start of ")?;
-    put_txn(out, edge.from)?;
-    out.extend_from_slice(b" comes before the commit of ")?;
-    put_txn(out, edge.to)?;
+    put_txn(out, txn)
+}
+
+/// Appends the commit of a transaction.
+#[tactic(auto, unfolding(crate::specs::Steps::commit_of))]
+fn put_commit_of(out: &mut Vec<u8>, txn: TxnNo) -> Result<(), NoMemory>
+    ensures { OnOk result (out.new.items ≡ out.old.items ++ commit_of txn) }
+{
+    out.extend_from_slice(b"The commit of ")?;
+    put_txn(out, txn)
+}
+
+/// Appends that something comes before a start.
+#[tactic(auto, unfolding(crate::specs::Steps::before_start))]
+fn put_before_start(out: &mut Vec<u8>, txn: TxnNo) -> Result<(), NoMemory>
+    ensures { OnOk result (out.new.items ≡ out.old.items ++ before_start txn) }
+{
+    out.extend_from_slice(b" comes before the start of ")?;
+    put_txn(out, txn)?;
     out.extend_from_slice(b": ")
 }
 
+/// Appends that something comes before a commit.
+#[tactic(auto, unfolding(crate::specs::Steps::before_commit))]
+fn put_before_commit(out: &mut Vec<u8>, txn: TxnNo) -> Result<(), NoMemory>
+    ensures { OnOk result (out.new.items ≡ out.old.items ++ before_commit txn) }
+{
+    out.extend_from_slice(b" comes before the commit of ")?;
+    put_txn(out, txn)?;
+    out.extend_from_slice(b": ")
+}
+
+/// Appends that one start comes before another transaction's commit.
+fn put_start_first(out: &mut Vec<u8>, edge: &Edge) -> Result<(), NoMemory>
+    ensures { OnOk result (out.new.items ≡ out.old.items ++ start_first edge.now) }
+{
+    put_start_of(out, edge.from)?;
+    put_before_commit(out, edge.to)
+}
+
 /// Appends that one commit comes before another transaction's start.
-#[tactic(auto, unfolding(crate::specs::Steps::commit_first))]
 fn put_commit_first(out: &mut Vec<u8>, edge: &Edge) -> Result<(), NoMemory>
     ensures { OnOk result (out.new.items ≡ out.old.items ++ commit_first edge.now) }
 {
-    out.extend_from_slice(b"The commit of ")?;
-    put_txn(out, edge.from)?;
-    out.extend_from_slice(b" comes before the start of ")?;
-    put_txn(out, edge.to)?;
-    out.extend_from_slice(b": ")
+    put_commit_of(out, edge.from)?;
+    put_before_start(out, edge.to)
 }
 
 /// Appends which start and commit a dependency orders.
