@@ -10,7 +10,7 @@ use crate::serial::{NO_SESSION, TWO_SESSIONS};
 use crate::streams::{FAULTS, Sink, Source};
 use crate::words::{
     COMPARISON, EXPLANATION, LISTING, MATRIX, MATRIX_AT, NO_COMPARISON, NO_EXPLANATION, NO_PICTURE,
-    NO_SMALLER, PICTURE, SMALLER,
+    NO_SMALLER, PICTURE, SMALLER, UNSHOWN,
 };
 use lab_streams::RunFault;
 use std::alloc::Global;
@@ -23,7 +23,7 @@ use std::test::Fail;
 use std::thread::Threads;
 
 /// Cases that read.
-const READING: [Case; 18] = [
+const READING: [Case; 19] = [
     TWO_SESSIONS,
     NO_SESSION,
     LEFT_OPEN,
@@ -37,6 +37,7 @@ const READING: [Case; 18] = [
     PICTURE,
     NO_PICTURE,
     EXPLANATION,
+    UNSHOWN,
     NO_EXPLANATION,
     SMALLER,
     NO_SMALLER,
@@ -133,7 +134,7 @@ const NO_JOIN: Case = Case {
 };
 
 /// Cases that write, but for those of files.
-const WRITING: [Case; 21] = [
+const WRITING: [Case; 22] = [
     TWO_SESSIONS,
     NO_SESSION,
     LEFT_OPEN,
@@ -147,6 +148,7 @@ const WRITING: [Case; 21] = [
     PICTURE,
     NO_PICTURE,
     EXPLANATION,
+    UNSHOWN,
     NO_EXPLANATION,
     SMALLER,
     NO_SMALLER,

@@ -6,7 +6,7 @@ use crate::run::{WITHOUT_SESSION, WITHOUT_SESSION_FAULT};
 use lab_engine::Level;
 use lab_levels::LEVELS;
 use lab_matrix::CaseName;
-use lab_reports::{Phenomenon, Violation};
+use lab_reports::{Phenomenon, Requirement, Violation};
 use std::test::Fail;
 
 /// Of a history without transactions there is nothing but the heading.
@@ -21,6 +21,26 @@ pub const PICTURE: Case = Case {
 <rect width="556" height="76" fill="white"/>
 <text font-size="14" font-weight="bold" x="26" y="30">Serializable: no committed transaction</text>
 <text x="26" y="48">serializable: yes
+</text>
+</svg>
+"#,
+    status: 0,
+};
+
+/// Without transactions, a history is a snapshot run.
+const SNAPSHOT_PICTURE: Case = Case {
+    subcommand: Subcommand::Picture {
+        asked: Some(Violation::Snapshot),
+    },
+    input: EMPTY,
+    text: br#"<svg xmlns="http://www.w3.org/2000/svg" role="img" width="556" height="76" viewBox="0 0 556 76" font-family="monospace" font-size="11">
+<title>Snapshot isolation kept</title>
+<desc>snapshot: yes
+</desc>
+<defs><marker id="p-head" viewBox="0 0 8 8" refX="8" refY="4" markerWidth="9" markerHeight="9" markerUnits="userSpaceOnUse" orient="auto"><path d="M0 0L8 4L0 8z"/></marker></defs>
+<rect width="556" height="76" fill="white"/>
+<text font-size="14" font-weight="bold" x="26" y="30">Snapshot isolation kept</text>
+<text x="26" y="48">snapshot: yes
 </text>
 </svg>
 "#,
@@ -42,6 +62,17 @@ pub const EXPLANATION: Case = Case {
     input: INTERMEDIATE,
     text: b"G1b (intermediate read): present: statement 1 of T2 (select * from test) saw row 1 as 101 (the\n    version of statement 1 of T1), not the last one of its transaction.\nWhat each line says, and what a no doesn't: docs/REPORT.md.\n",
     status: 0,
+};
+
+/// A history without transactions shows nothing of what is required.
+pub const UNSHOWN: Case = Case {
+    subcommand: Subcommand::Explain {
+        asked: None,
+        required: Some(Requirement::Snapshot),
+    },
+    input: EMPTY,
+    text: b"Snapshot isolation not shown: no transaction committed.\nSerializable: run whole, one after another, the committed transactions list, write and leave what is\n    recorded, in this order: none.\nA snapshot run: each transaction sees what had committed before its start, and its own writes; no\n    row is written by two that overlap.\nG0 (dirty write): absent.\nG1a (aborted read): absent.\nG1b (intermediate read): absent.\nG1c (circular information flow): absent.\nG-single: absent.\nG2-item: absent.\nG2: absent.\nLevel PL-3 (serializable).\nWhat each line says, and what a no doesn't: docs/REPORT.md.\n",
+    status: 1,
 };
 
 pub const NO_EXPLANATION: Case = Case {
@@ -134,10 +165,12 @@ pub const UNREADABLE: Case = Case {
     status: 3,
 };
 
-const CASES: [Case; 13] = [
+const CASES: [Case; 15] = [
     PICTURE,
+    SNAPSHOT_PICTURE,
     NO_PICTURE,
     EXPLANATION,
+    UNSHOWN,
     NO_EXPLANATION,
     COMPARISON,
     NO_COMPARISON,

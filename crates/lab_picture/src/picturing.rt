@@ -47,9 +47,9 @@ impl Teller for TellsPicture {
     fn note<N: Write>(&self, _notes: &mut N) {}
 }
 
-/// Reads a history file, and writes the picture of the judgement of its history: of the serial verdict, of the
-/// finding about a phenomenon, or of the snapshot verdict. If the file is refused, writes the line of its first fault. Reads, writes and ends as
-/// `tell_history` does.
+/// Reads a history file, and writes the picture of the judgement of its history: of the serial verdict, of the finding
+/// about a phenomenon, or of the snapshot verdict. If the file is refused, writes the line of its first fault. Reads,
+/// writes and ends as `tell_history` does.
 pub fn picture<R: Read, W: Write, N: Write>(
     alloc: Global,
     reader: &mut R,
