@@ -1,6 +1,7 @@
 //! Writes hints after the output.
 
 use crate::file::file_hint;
+use crate::options::is_long_dash;
 use crate::play::{long_file_hint, rule_hint};
 use crate::script::script_hint;
 use crate::silent::{left_out_hint, silent_play_hint};
@@ -116,6 +117,8 @@ fn name_rule(name: &str) -> &'static str {
         "; the name ends with a carriage return, as in a list whose lines end with CRLF"
     } else if name == "-" {
         "; '-' is a file of this name, and not standard input"
+    } else if name.starts_with(|sign: char| is_long_dash(sign)) {
+        "; the name begins with a dash, and an option with two hyphens"
     } else {
         ""
     }

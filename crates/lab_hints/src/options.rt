@@ -50,7 +50,7 @@ const OPTIONS: [(&str, Choice); 15] = [
 ];
 
 /// Whether a character is a dash that editors and chats put in place of two hyphens.
-fn is_long_dash(sign: char) -> bool {
+pub fn is_long_dash(sign: char) -> bool {
     matches!(sign, '\u{2010}'..='\u{2015}' | '\u{2212}')
 }
 

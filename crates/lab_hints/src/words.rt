@@ -57,8 +57,10 @@ fn put_report_options(
     subcommand: &str,
     meant: &Meant<'_>,
 ) -> Result<(), NoMemory> {
+    // A subcommand that takes a phenomenon refuses a level beside it.
+    let is_of_phenomenon = meant.phenomenon.is_some() && takes(subcommand, Choice::Phenomenon);
     match meant.requirement {
-        Some(requirement) if takes(subcommand, Choice::Requirement) => {
+        Some(requirement) if takes(subcommand, Choice::Requirement) && !is_of_phenomenon => {
             put_option(out, "--require", requirement)?;
         }
         _ => {}
