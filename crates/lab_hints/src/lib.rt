@@ -8,7 +8,8 @@
 //! them after the output is written. They read the input again, and find the details themselves: in a script with a
 //! table of the grammar's forms, in a file in its value or its tokens.
 //!
-//! The texts aren't promised: no contract mentions them, and they may change between versions. A hint that finds less
+//! [`shown_text`] replaces the characters that control a terminal; its contract says which. The hints aren't promised: no
+//! contract mentions them, and they may change between versions. A hint that finds less
 //! than the fault says describes the kind of fault. Each call returns. If memory runs out or a write fails, the hint is
 //! dropped. Excerpts of an input are short, and in printable ASCII.
 #![tactic(auto)]
