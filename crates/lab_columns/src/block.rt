@@ -1,10 +1,10 @@
 //! Blocks of 64 numbers, with the least and the greatest of them.
 
-ghost use Rattle.std.specs.Prelude.{◌≡◌, ◌<◌, ◌≤◌, ℕ, ℤ, pos, true, length, int_le, get_or};
+ghost use Rattle.std.specs.Prelude.{◌≡◌, ◌<◌, ◌≤◌, ℕ, ℤ, pos, true, length, int_le, int_rem, get_or};
 ghost use Rattle.lab_table.specs.Row.{Row};
 ghost use Rattle.lab_columns.specs.Bounds.{IsBounded};
 
-use lab_table::{RowName, Value};
+use lab_table::{Modulus, RowName, Value};
 
 /// 64 numbers of a column.
 #[derive(Drop)]
@@ -69,6 +69,26 @@ impl Block {
         }
         Block::of(numbers)
     }
+
+    /// Returns the remainders of the numbers divided by a modulus, which have the signs of the numbers.
+    pub fn divided(&self, modulus: Modulus) -> Block
+        ensures numbers { (k : ℕ) → k < 64 → get_or result.numbers k (pos 0) ≡ int_rem (get_or self.now.numbers k (pos 0)) (pos modulus) }
+        ensures bounded { IsBounded result }
+    {
+        let mut left = [0; 64];
+        for place in 0..64 {
+            left[place] = remainder(self.numbers[place], modulus);
+        }
+        Block::of(left)
+    }
+}
+
+/// Returns the remainder of a number divided by a modulus, which has the sign of the number.
+#[inline(always)]
+pub fn remainder(number: i32, modulus: Modulus) -> i32
+    ensures { result ≡ int_rem number (pos modulus) }
+{
+    number % modulus.number() as i32
 }
 
 fn first_id(rows: &[(RowName, Value)]) -> i32 {
@@ -115,7 +135,7 @@ fn greatest(numbers: &[i32; 64]) -> i32
 }
 
 #[inline(always)]
-fn lesser(a: i32, b: i32) -> i32
+pub fn lesser(a: i32, b: i32) -> i32
     ensures first { int_le result a ≡ true }
     ensures second { int_le result b ≡ true }
 {
@@ -123,7 +143,7 @@ fn lesser(a: i32, b: i32) -> i32
 }
 
 #[inline(always)]
-fn greater(a: i32, b: i32) -> i32
+pub fn greater(a: i32, b: i32) -> i32
     ensures first { int_le a result ≡ true }
     ensures second { int_le b result ≡ true }
 {

@@ -1,137 +1,113 @@
 //! Tests of 64 numbers at once.
 //!
-//! What the least and the greatest number decide isn't asked of each.
+//! Numbers aren't tested one by one if the least and the greatest of them decide.
 
-ghost use Rattle.std.specs.Prelude.{◌≡◌, ◌<◌, ℕ, pos, true, false, get_or, int_lt, int_rem};
+ghost use Rattle.std.specs.Prelude.{◌≡◌, ◌<◌, ℕ, pos, get_or, int_lt, int_rem};
 ghost use Rattle.std.specs.List.{list_any};
 ghost use Rattle.std.specs.Ordering.{int_eq};
-ghost use Rattle.lab_columns.specs.Answers.{answer_at};
+ghost use Rattle.lab_columns.specs.Bits.{has_bit};
 ghost use Rattle.lab_columns.specs.Bounds.{IsBounded};
 
-use crate::answers::{Answers, either};
 use crate::block::Block;
+use crate::words::{all, either, joined, none, with_bit};
 use lab_table::{Modulus, Value};
 
-/// Whether each number of a block is this one.
-pub fn equal(block: &Block, number: i32) -> Answers
+/// Returns which numbers of a block are this one.
+pub fn equal(block: &Block, number: i32) -> u64
     requires { IsBounded block.now }
-    ensures { (k : ℕ) → k < 64 → answer_at result k ≡ int_eq (get_or block.now.numbers k (pos 0)) number }
+    ensures { (k : ℕ) → k < 64 → has_bit result k ≡ int_eq (get_or block.now.numbers k (pos 0)) number }
 {
     if number < block.least {
-        Answers::Never
+        none()
     } else if block.greatest < number {
-        Answers::Never
+        none()
     } else if block.least == block.greatest {
-        Answers::Always
+        all()
     } else {
-        Answers::Each(each_equal(&block.numbers, number))
+        each_equal(&block.numbers, number)
     }
 }
 
-/// Whether each number of a block is less than this one.
-pub fn less(block: &Block, number: i32) -> Answers
+/// Returns which numbers of a block are less than this one.
+pub fn less(block: &Block, number: i32) -> u64
     requires { IsBounded block.now }
-    ensures { (k : ℕ) → k < 64 → answer_at result k ≡ int_lt (get_or block.now.numbers k (pos 0)) number }
+    ensures { (k : ℕ) → k < 64 → has_bit result k ≡ int_lt (get_or block.now.numbers k (pos 0)) number }
 {
     if block.greatest < number {
-        Answers::Always
+        all()
     } else if block.least < number {
-        Answers::Each(each_less(&block.numbers, number))
+        each_less(&block.numbers, number)
     } else {
-        Answers::Never
+        none()
     }
 }
 
-/// Whether each number of a block is greater than this one.
-pub fn greater(block: &Block, number: i32) -> Answers
+/// Returns which numbers of a block are greater than this one.
+pub fn greater(block: &Block, number: i32) -> u64
     requires { IsBounded block.now }
-    ensures { (k : ℕ) → k < 64 → answer_at result k ≡ int_lt number (get_or block.now.numbers k (pos 0)) }
+    ensures { (k : ℕ) → k < 64 → has_bit result k ≡ int_lt number (get_or block.now.numbers k (pos 0)) }
 {
     if number < block.least {
-        Answers::Always
+        all()
     } else if number < block.greatest {
-        Answers::Each(each_greater(&block.numbers, number))
+        each_greater(&block.numbers, number)
     } else {
-        Answers::Never
+        none()
     }
 }
 
-/// Whether each number of a block is one of these.
-pub fn among(block: &Block, numbers: &[Value]) -> Answers
+/// Returns which numbers of a block are among `numbers`.
+pub fn among(block: &Block, numbers: &[Value]) -> u64
     requires { IsBounded block.now }
-    ensures { (k : ℕ) → k < 64 → answer_at result k ≡ list_any (int_eq (get_or block.now.numbers k (pos 0))) numbers.now }
+    ensures { (k : ℕ) → k < 64 → has_bit result k ≡ list_any (int_eq (get_or block.now.numbers k (pos 0))) numbers.now }
 {
-    let mut found = Answers::Never;
+    let mut found = none();
     for number in numbers {
         found = either(equal(block, number.number() as i32), found);
     }
     found
 }
 
-/// Whether each number of a block divided by the modulus leaves this rest, which has the sign of the number.
-pub fn leaving(block: &Block, modulus: Modulus, rest: Value) -> Answers
+/// Returns which numbers of a block, divided by the modulus, leave the remainder `rest`, which has the sign of the number.
+pub fn leaving(block: &Block, modulus: Modulus, rest: Value) -> u64
     requires { IsBounded block.now }
-    ensures { (k : ℕ) → k < 64 → answer_at result k ≡ int_eq (int_rem (get_or block.now.numbers k (pos 0)) (pos modulus)) rest }
+    ensures { (k : ℕ) → k < 64 → has_bit result k ≡ int_eq (int_rem (get_or block.now.numbers k (pos 0)) (pos modulus)) rest }
 {
-    if is_one(block) {
-        Answers::same(leaves(block.least, modulus, rest))
-    } else {
-        Answers::Each(each_leaving(&block.numbers, modulus, rest))
+    equal(&block.divided(modulus), rest.number() as i32)
+}
+
+fn each_equal(numbers: &[i32; 64], number: i32) -> u64
+    ensures { (k : ℕ) → k < 64 → has_bit result k ≡ int_eq (get_or numbers.now k (pos 0)) number }
+{
+    let mut low = 0;
+    let mut high = 0;
+    for place in 0..32 {
+        low = with_bit(low, place, numbers[place] == number);
+        high = with_bit(high, place, numbers[place + 32] == number);
     }
+    joined(low, high)
 }
 
-/// Whether the numbers of a block are one.
-fn is_one(block: &Block) -> bool
-    requires { IsBounded block.now }
-    ensures { result ≡ true → (k : ℕ) → k < 64 → get_or block.now.numbers k (pos 0) ≡ block.now.least }
+fn each_less(numbers: &[i32; 64], number: i32) -> u64
+    ensures { (k : ℕ) → k < 64 → has_bit result k ≡ int_lt (get_or numbers.now k (pos 0)) number }
 {
-    block.least == block.greatest
-}
-
-fn each_equal(numbers: &[i32; 64], number: i32) -> [bool; 64]
-    ensures { (k : ℕ) → k < 64 → get_or result k false ≡ int_eq (get_or numbers.now k (pos 0)) number }
-{
-    let mut answers = [false; 64];
-    for place in 0..64 {
-        answers[place] = numbers[place] == number;
+    let mut low = 0;
+    let mut high = 0;
+    for place in 0..32 {
+        low = with_bit(low, place, numbers[place] < number);
+        high = with_bit(high, place, numbers[place + 32] < number);
     }
-    answers
+    joined(low, high)
 }
 
-fn each_less(numbers: &[i32; 64], number: i32) -> [bool; 64]
-    ensures { (k : ℕ) → k < 64 → get_or result k false ≡ int_lt (get_or numbers.now k (pos 0)) number }
+fn each_greater(numbers: &[i32; 64], number: i32) -> u64
+    ensures { (k : ℕ) → k < 64 → has_bit result k ≡ int_lt number (get_or numbers.now k (pos 0)) }
 {
-    let mut answers = [false; 64];
-    for place in 0..64 {
-        answers[place] = numbers[place] < number;
+    let mut low = 0;
+    let mut high = 0;
+    for place in 0..32 {
+        low = with_bit(low, place, number < numbers[place]);
+        high = with_bit(high, place, number < numbers[place + 32]);
     }
-    answers
-}
-
-fn each_greater(numbers: &[i32; 64], number: i32) -> [bool; 64]
-    ensures { (k : ℕ) → k < 64 → get_or result k false ≡ int_lt number (get_or numbers.now k (pos 0)) }
-{
-    let mut answers = [false; 64];
-    for place in 0..64 {
-        answers[place] = number < numbers[place];
-    }
-    answers
-}
-
-fn each_leaving(numbers: &[i32; 64], modulus: Modulus, rest: Value) -> [bool; 64]
-    ensures { (k : ℕ) → k < 64 → get_or result k false ≡ int_eq (int_rem (get_or numbers.now k (pos 0)) (pos modulus)) rest }
-{
-    let mut answers = [false; 64];
-    for place in 0..64 {
-        answers[place] = leaves(numbers[place], modulus, rest);
-    }
-    answers
-}
-
-/// Whether a number divided by the modulus leaves this rest, which has the sign of the number.
-#[inline(always)]
-fn leaves(number: i32, modulus: Modulus, rest: Value) -> bool
-    ensures { result ≡ int_eq (int_rem number (pos modulus)) rest }
-{
-    number % modulus.number() as i32 == rest.number() as i32
+    joined(low, high)
 }

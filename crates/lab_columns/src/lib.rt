@@ -8,12 +8,19 @@
 //! allocation fails.
 #![tactic(auto)]
 
-mod answers;
+mod bits;
 mod block;
+mod columns;
 mod comparisons;
 mod condition;
+mod divided;
+mod evaluation;
 mod first;
+mod found;
 mod many;
+mod row_block;
+mod words;
 
+pub use columns::Columns;
 pub use first::first_matching;
 pub use many::{answers_for_rows, answers_for_values, names_id};

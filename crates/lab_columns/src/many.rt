@@ -5,6 +5,7 @@ ghost use Rattle.lab_table.specs.Predicate.{holds, by_id};
 
 use crate::block::Block;
 use crate::condition::{Rows, holds_each};
+use crate::words::unpacked;
 use lab_table::{Col, NoMemory, Pred, PredKind, RowName, Value};
 
 /// Returns whether any part of the condition tests the row's id. If not, ids don't matter.
@@ -47,7 +48,7 @@ pub fn answers_for_values(
             ids: Block::of([1; 64]),
             values: Block::of_list(block),
         };
-        let each = holds_each(pred, &rows).each();
+        let each = unpacked(holds_each(pred, &rows));
         add_first(answers, &each, block.len())?;
         rest = behind;
     }
@@ -66,7 +67,7 @@ pub fn answers_for_rows(
     let mut rest = rows;
     while !rest.is_empty() {
         let (block, behind) = rest.split_at(rest.len().min(64));
-        let each = holds_each(pred, &Rows::of(block)).each();
+        let each = unpacked(holds_each(pred, &Rows::of(block)));
         add_first(answers, &each, block.len())?;
         rest = behind;
     }
@@ -74,7 +75,7 @@ pub fn answers_for_rows(
 }
 
 /// Adds the first ones of 64 answers, so many.
-fn add_first(answers: &mut Vec<bool>, each: &[bool; 64], count: usize) -> Result<(), NoMemory>
+pub(crate) fn add_first(answers: &mut Vec<bool>, each: &[bool; 64], count: usize) -> Result<(), NoMemory>
     requires { count ≤ 64 }
     ensures { OnOk result (answers.new.items ≡ answers.old.items ++ take count each.now) }
 {

@@ -11,14 +11,14 @@ loop-rest-preserved c =
     let front : List (Row × ℤ) = c.split_at.result.0.now in
     let behind : List (Row × ℤ) = c.split_at.result.1.now in
     let all : List (Row × ℤ) = c.args.rows.now in
-    let each : List Bool = c.each-each.result in
+    let each : List Bool = c.unpacked.result in
     let so_far : List Bool = c.loop-rest.answers.items in
     let few : length front ≤ 64 = omega (arith, c.split_at.ensures.front_len, c.min.ensures) in
     let answered : (k : ℕ) → k < length front → get_or each k false ≡ f (get_or front k d) =
     λ k at.
     let within : k < 64 = omega (arith, at, few) in
     let row = get_or front k d in
-    c.each-each.ensures.at k within ∙ (c.holds_each.ensures k row.0.id within (c.of.ensures.ids k d at) ∙ ap (holds p row.0.id) (c.of.ensures.values k d at)) in
+    c.unpacked.ensures.bits k within ∙ (c.holds_each.ensures k row.0.id within (c.of.ensures.ids k d at) ∙ ap (holds p row.0.id) (c.of.ensures.values k d at)) in
     let before : so_far ++ map f (front ++ behind) ≡ map f all = subst (λ ys. so_far ++ map f ys ≡ map f all) c.split_at.ensures.by_index.0 c.loop-rest.invariant in
     ap (λ ys. ys ++ map f behind) c.in_ok-add_first.ensures
-    ∙ answers_next f each front d c.each-each.ensures.length few answered so_far behind all before (map-append f front behind)
+    ∙ answers_next f each front d c.unpacked.ensures.length few answered so_far behind all before (map-append f front behind)

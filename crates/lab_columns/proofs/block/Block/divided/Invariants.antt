@@ -1,0 +1,6 @@
+use Rattle.std.proofs.Common.{◌≡◌, ◌<◌, ℕ, pos, length, get_or}
+use Rattle.std.specs.Prelude.{int_rem}
+use Rattle.lab_columns.proofs.block.Block.divided.Given as goal
+
+abbrev pub invariant-loop-place : goal.invariant-loop-place
+invariant-loop-place l = (length l.left ≡ 64) × ((k : ℕ) → k < l.place → get_or l.left k (pos 0) ≡ int_rem (get_or l.self.numbers k (pos 0)) (pos l.modulus))
