@@ -7,10 +7,29 @@ ghost use Rattle.lab_table.specs.Statement.{matches};
 ghost use Rattle.lab_table.specs.ValueTests.{IsBlind};
 
 use crate::rows::Listed;
-use lab_columns::{answers_for_rows, answers_for_values, names_id};
+use lab_columns::{Columns, answers_for_rows, names_id};
 use lab_table::{NoMemory, Pred, PredKind, RowName, Statement, StatementKind, Value};
 use std::alloc::Global;
 use std::marker::Model;
+
+/// The columns of the values and of the versions that statements are asked of.
+#[derive(Drop)]
+pub struct AskedColumns<'a> {
+    /// A row for each different value.
+    by_value: Columns<'a>,
+    /// Each listed version.
+    by_row: Columns<'a>,
+}
+
+impl<'a> AskedColumns<'a> {
+    /// The columns of these versions.
+    pub fn of(alloc: Global, listed: &'a Listed) -> Result<AskedColumns<'a>, NoMemory> {
+        Ok(AskedColumns {
+            by_value: Columns::of(alloc, listed.examples())?,
+            by_row: Columns::of(alloc, listed.rows())?,
+        })
+    }
+}
 
 /// A statement, and of which values or rows its condition is true.
 ///
@@ -21,7 +40,7 @@ pub struct Asked<'a> {
     statement: &'a Statement,
     /// For each listed version the index of its value.
     numbers: &'a [u32],
-    values: &'a [Value],
+    values: &'a [(RowName, Value)],
     /// For each value whether the condition is true of it and any id.
     by_value: Vec<bool>,
     rows: &'a [(RowName, Value)],
@@ -62,13 +81,16 @@ impl<'a> Asked<'a> {
     }
 
     /// A statement that is asked now of the versions that are listed from one on and before another, or of all values.
-    pub fn of(
+    pub fn of<'b>(
         alloc: Global,
         statement: &'a Statement,
-        listed: &'a Listed,
+        listed: &'b Listed,
+        columns: &mut AskedColumns<'b>,
         from: usize,
         to: usize,
     ) -> Result<Asked<'a>, NoMemory>
+    where
+        'b: 'a,
         ensures { IfOk result (λ asked. asked ≡ statement.now) }
     {
         match condition(statement) {
@@ -76,33 +98,37 @@ impl<'a> Asked<'a> {
             Some(pred) => {
                 if is_short(pred) {
                     Ok(Asked::by_version(alloc, statement))
-                } else if names_id(pred) {
+                } else if !names_id(pred) {
+                    Asked::by_value(alloc, statement, pred, listed, &mut columns.by_value)
+                } else if is_small_part(from, to, listed.len()) {
                     Asked::by_row(alloc, statement, pred, listed.between(from, to), from)
                 } else {
-                    Asked::by_value(alloc, statement, pred, listed)
+                    Asked::by_any_row(alloc, statement, pred, &mut columns.by_row)
                 }
             }
         }
     }
 
     /// The same, where the condition has no test of an id.
-    fn by_value(
+    fn by_value<'b>(
         alloc: Global,
         statement: &'a Statement,
         pred: &Pred,
-        listed: &'a Listed,
+        listed: &'b Listed,
+        columns: &mut Columns<'b>,
     ) -> Result<Asked<'a>, NoMemory>
+    where
+        'b: 'a,
         requires condition { (row : Row) (value : ℤ) → row.table ≡ statement.now.table → matches statement.now row (Some value) ≡ holds pred.now row.id value }
         requires any_id { (id other : ℕ) (value : ℤ) → holds pred.now id value ≡ holds pred.now other value }
         ensures { IfOk result (λ asked. asked ≡ statement.now) }
     {
-        let values = listed.values();
         let mut by_value = Vec::new(alloc);
-        answers_for_values(&mut by_value, pred, values)?;
+        columns.answers(&mut by_value, pred)?;
         Ok(Asked {
             statement,
             numbers: listed.numbers(),
-            values,
+            values: columns.rows(),
             by_value,
             rows: &[],
             by_row: Vec::new(alloc),
@@ -131,6 +157,31 @@ impl<'a> Asked<'a> {
             rows,
             by_row,
             first,
+        })
+    }
+
+    /// The same for all versions.
+    fn by_any_row<'b>(
+        alloc: Global,
+        statement: &'a Statement,
+        pred: &Pred,
+        columns: &mut Columns<'b>,
+    ) -> Result<Asked<'a>, NoMemory>
+    where
+        'b: 'a,
+        requires { (row : Row) (value : ℤ) → row.table ≡ statement.now.table → matches statement.now row (Some value) ≡ holds pred.now row.id value }
+        ensures { IfOk result (λ asked. asked ≡ statement.now) }
+    {
+        let mut by_row = Vec::new(alloc);
+        columns.answers(&mut by_row, pred)?;
+        Ok(Asked {
+            statement,
+            numbers: &[],
+            values: &[],
+            by_value: Vec::new(alloc),
+            rows: columns.rows(),
+            by_row,
+            first: 0,
         })
     }
 
@@ -203,11 +254,16 @@ fn answer_of_row(
 
 /// The answer at a place, if there it is that for a value.
 #[inline(always)]
-fn answer_of_value(values: &[Value], answers: &[bool], place: usize, value: Value) -> Option<bool>
-    ensures { IfSome result (λ answer. (slice_get values.now place ≡ Some value) × (slice_get answers.now place ≡ Some answer)) }
+fn answer_of_value(
+    values: &[(RowName, Value)],
+    answers: &[bool],
+    place: usize,
+    value: Value,
+) -> Option<bool>
+    ensures { IfSome result (λ answer. (other : Row) × (slice_get values.now place ≡ Some (other, value)) × (slice_get answers.now place ≡ Some answer)) }
 {
-    let found = *values.get(place)?;
-    if found == value {
+    let entry = values.get(place)?;
+    if entry.1 == value {
         answers.get(place).copied()
     } else {
         None
@@ -235,6 +291,11 @@ fn condition(statement: &Statement) -> Option<&Pred>
         | StatementKind::Insert { .. }
         | StatementKind::Delete { pred: None } => None,
     }
+}
+
+/// Whether these are so few of all listed versions that only they are asked.
+fn is_small_part(from: usize, to: usize, all: usize) -> bool {
+    to.saturating_sub(from) < all / 64
 }
 
 /// Whether a condition is so short that it costs no more than to look for its answer: a comparison, or two that are joined.

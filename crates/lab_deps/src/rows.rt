@@ -33,6 +33,8 @@ pub struct Listed {
     numbers: Vec<u32>,
     /// The different values, by rising value.
     values: Vec<Value>,
+    /// A row for each different value, whichever has it.
+    examples: Vec<(RowName, Value)>,
 }
 
 impl Listed {
@@ -41,6 +43,7 @@ impl Listed {
             rows: Vec::new(alloc),
             numbers: Vec::new(alloc),
             values: Vec::new(alloc),
+            examples: Vec::new(alloc),
         }
     }
 
@@ -59,9 +62,14 @@ impl Listed {
         &self.numbers
     }
 
-    /// The different values.
-    pub fn values(&self) -> &[Value] {
-        &self.values
+    /// The states of all rows.
+    pub fn rows(&self) -> &[(RowName, Value)] {
+        &self.rows
+    }
+
+    /// A row for each different value.
+    pub fn examples(&self) -> &[(RowName, Value)] {
+        &self.examples
     }
 
     /// Adds the states of a row.
@@ -93,6 +101,18 @@ impl Listed {
             let value = row.1;
             let number = self.values.partition_point(|other| *other < value);
             self.numbers.push(number_of(number))?;
+        }
+        self.add_examples()
+    }
+
+    /// Lists each different value with the first row of all.
+    fn add_examples(&mut self) -> Result<(), NoMemory> {
+        if let Some(first) = self.rows.first() {
+            let row = first.0;
+            self.examples.try_reserve(self.values.len())?;
+            for value in &self.values {
+                self.examples.push((row, *value))?;
+            }
         }
         Ok(())
     }
