@@ -1,15 +1,17 @@
 //! What is said of a file that is no history.
 
-use crate::json_text::put_no_json;
+use crate::broken::put_broken;
+use crate::found::value_on_path;
 use crate::limits::{limit_rule, put_over};
 use crate::path::{put_value, put_wrong_value, value_at};
 use crate::rows::{has_number, items_at, unsorted_place};
 use crate::statement::put_bad_statement;
 use crate::text::{Part, put};
 use lab_history::{FileFault, Limit, Path};
+use lab_history_file::pruned_value;
 use lab_table::{NoMemory, TxnNo};
 use serde_json::Value as Json;
-use std::alloc::{AllocError, Global};
+use std::alloc::Global;
 
 /// The most places that are told of one thing.
 const TOLD_PLACES: usize = 2;
@@ -110,17 +112,31 @@ fn put_fault(
     }
 }
 
-/// Appends what is said of a fault of a file that isn't too long to be read.
+/// The part of a file's value that its fault is about, if the file is JSON.
+fn value_of(alloc: Global, text: &str, fault: &FileFault) -> Result<Option<Json>, NoMemory> {
+    match fault {
+        FileFault::WrongFormat { path } => Ok(Some(value_on_path(alloc, text, path)?)),
+        _ => pruned_value(alloc, text),
+    }
+}
+
+/// Appends what is said of a fault of a file that isn't too long to be read. No value of the whole file is made: it
+/// could take 170 times as much memory as the file.
 fn put_read(
     out: &mut Vec<u8>,
     alloc: Global,
     bytes: &[u8],
     fault: &FileFault,
 ) -> Result<(), NoMemory> {
-    match Json::from_slice(alloc, bytes) {
-        Ok(json) => put_fault(out, alloc, &json, fault),
-        Err(error) if error.is_memory() => Err(AllocError),
-        Err(error) => put_no_json(out, alloc, bytes, &error),
+    if *fault == FileFault::NotJson {
+        return put_broken(out, alloc, bytes);
+    }
+    let Ok(text) = std::str::from_utf8(bytes) else {
+        return Ok(());
+    };
+    match value_of(alloc, text, fault)? {
+        Some(json) => put_fault(out, alloc, &json, fault),
+        None => Ok(()),
     }
 }
 

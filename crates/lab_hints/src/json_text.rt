@@ -168,7 +168,7 @@ fn put_no_utf8(out: &mut Vec<u8>, bytes: &[u8], before: usize) -> Result<(), NoM
 
 /// Appends why a text of which so many bytes were read is no JSON: what is too much in it, what may not stand in its
 /// string there, or what stands there.
-fn put_why(out: &mut Vec<u8>, alloc: Global, bytes: &[u8], end: usize) -> Result<(), NoMemory> {
+pub fn put_why(out: &mut Vec<u8>, alloc: Global, bytes: &[u8], end: usize) -> Result<(), NoMemory> {
     let before = end.saturating_sub(1);
     let Ok(text) = std::str::from_utf8(bytes) else {
         return put_no_utf8(out, bytes, before);

@@ -13,8 +13,10 @@
 //! dropped. Excerpts of an input are short, and in printable ASCII.
 #![tactic(auto)]
 
+mod broken;
 mod byte;
 mod file;
+mod found;
 mod grammar;
 mod json_string;
 mod json_text;

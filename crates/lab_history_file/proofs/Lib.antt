@@ -44,6 +44,11 @@ pub mod Gathered
 pub mod WholeNumbers
 pub mod ReadTurns
 pub mod SkippedValues
+pub mod PrunedItems
+pub mod PrunedEntries
+pub mod PrunedParts
+pub mod PrunedFile
+pub mod PrunedTurns
 pub mod MembersSpell
 pub mod OperationFields
 pub mod TransactionFields

@@ -2,23 +2,22 @@
 use Rattle.std.proofs.Common.{◌≡◌, ℕ, ◌-◌, ◌<◌, ◌≤◌, Bool, true, false, List, [], ◌∷◌, length, Option, Some, None, is_some, option_map, option_and_then, refl, sym, ap, ◌∙◌, arith}
 use Rattle.std.specs.Prelude.{⊤}
 use Rattle.json.specs.Token.{Token}
-use Rattle.json.specs.Lex.{tokens}
-use Rattle.json.specs.Json.{Parse, parse_map, after_end_array, read_key, items, members, value, if_last}
+use Rattle.json.specs.Json.{Parse, parse_map, after_end_array, read_key, items, members, value}
 use Rattle.json.proofs.Grammar.{value_is, value-begin_array, value-begin_object}
 use Rattle.serde_json.specs.Data.{Num, Data, number, array, object, Items, item, Members, no_members, put}
-use Rattle.serde_json.specs.Read.{number_of, of_json, of_items, of_members, converted, read}
-use Rattle.lab_history_file.proofs.ReadTurns.{converted-array, converted-object, item_read, item_refused, items_over, member_read, member_refused, key_refused, members_over, whole_read, whole_and_more, whole_refused}
+use Rattle.serde_json.specs.Read.{number_of, of_json, of_items, of_members, converted}
+use Rattle.lab_history_file.proofs.ReadTurns.{converted-array, converted-object, item_read, item_refused, items_over, member_read, member_refused, key_refused, members_over}
 use Rattle.lab_history_file.specs.Rest.{rest, rest_of_value, rest_of_items, rest_of_members}
 
 rest_map : {A B : Type 0} (f : A → B) (o : Option (A × List Token)) → rest (parse_map f o) ≡ rest o
 rest_map f None = refl
 rest_map f (Some p) = refl
 
-rest_none : {A : Type 0} (o : Option (A × List Token)) → rest o ≡ None → o ≡ None
+pub rest_none : {A : Type 0} (o : Option (A × List Token)) → rest o ≡ None → o ≡ None
 rest_none None e = refl
 rest_none (Some p) e = absurd cc
 
-rest_some : {A : Type 0} (o : Option (A × List Token)) (r : List Token) → rest o ≡ Some r → (a : A) × (o ≡ Some (a, r))
+pub rest_some : {A : Type 0} (o : Option (A × List Token)) (r : List Token) → rest o ≡ Some r → (a : A) × (o ≡ Some (a, r))
 rest_some None r e = absurd cc
 rest_some (Some p) r e = let same : p.1 ≡ r = cc in (p.0, ap (λ s. Some (p.0, s)) same)
 
@@ -123,14 +122,3 @@ module _ (depth n : ℕ) (ts : List Token) where
 
     pub members_end : (r : List Token) → length ts ≤ n → read_key ts ≡ Some (None, r) → rest (converted (λ ms. of_members ms old) (members (value depth) n ts)) ≡ Some r
     members_end r enough e = ap rest (members_over (value depth) old n ts r enough e)
-
--- ---- the whole text
-
-pub text_reads : (text : List ℕ) → rest_of_value 127 (tokens text) ≡ Some [] → is_some (read text) ≡ true
-text_reads text e = let d = rest_some (converted of_json (value 127 (tokens text))) [] e in ap is_some (whole_read (value 127 (tokens text)) d.0 d.1)
-
-pub text_goes_on : (text : List ℕ) (t : Token) (r : List Token) → rest_of_value 127 (tokens text) ≡ Some (t ∷ r) → is_some (read text) ≡ false
-text_goes_on text t r e = let d = rest_some (converted of_json (value 127 (tokens text))) (t ∷ r) e in ap is_some (whole_and_more (value 127 (tokens text)) d.0 t r d.1)
-
-pub text_refused : (text : List ℕ) → rest_of_value 127 (tokens text) ≡ None → is_some (read text) ≡ false
-text_refused text e = ap is_some (whole_refused (value 127 (tokens text)) (rest_none (converted of_json (value 127 (tokens text))) e))

@@ -17,6 +17,7 @@ pub mod Slots
 pub mod Gathered
 pub mod Fields
 pub mod Numbers
+pub mod Pruned
 pub mod Rest
 pub mod Reads
 pub mod Behind

@@ -19,6 +19,6 @@ mod write_fault;
 mod writing;
 
 pub use laws::{faults_are_true, history_is_read_from_its_file, versions_hold_one_history};
-pub use reading::read_history;
+pub use reading::{pruned_value, read_history};
 pub use write_fault::WriteFault;
 pub use writing::write_history;

@@ -14,6 +14,8 @@ mod keys;
 mod lists;
 mod number;
 mod operation;
+mod pruned;
+mod shape;
 mod skip;
 mod stop;
 mod stream;
@@ -25,8 +27,8 @@ use keys::{has_keys, text_at};
 use lab_history::{FileFault, History, Installed, Limit, ListPlace, MAX_FILE_BYTES, Parts, Path};
 use lab_table::Table;
 use lists::entries_at;
+pub use pruned::pruned_value;
 use serde_json::Value as Json;
-use skip::is_json;
 use std::alloc::Global;
 use stop::Stop;
 use transaction::txns_of;
@@ -87,23 +89,7 @@ fn parts_of(alloc: Global, json: &Json) -> Result<Parts, FileFault>
     })
 }
 
-/// The parts of the history that the value of a file holds. The value is given back before the limits are looked at.
-fn parts_in_value(alloc: Global, bytes: &[u8]) -> Result<Parts, FileFault>
-    ensures { ReadsAs parts_in bytes.now result }
-{
-    match Json::from_slice(alloc, bytes) {
-        Ok(json) => parts_of(alloc, &json),
-        Err(error) => {
-            if error.is_memory() {
-                Err(FileFault::NoMemory)
-            } else {
-                Err(FileFault::NotJson)
-            }
-        }
-    }
-}
-
-/// The parts of the history that a file holds. A value is made only of JSON with a fault, to find the first one.
+/// The parts of the history that a file holds. A value is made only of a file with a fault, to find the first one.
 fn parts_in_file(alloc: Global, bytes: &[u8]) -> Result<Parts, FileFault>
     ensures { ReadsAs parts_in bytes.now result }
 {
@@ -114,17 +100,17 @@ fn parts_in_file(alloc: Global, bytes: &[u8]) -> Result<Parts, FileFault>
     }
 }
 
-/// The parts of the history that a file with a fault holds. No value is made of a file that isn't JSON.
+/// The parts of the history that a file with a fault holds. Its value is pruned of all that the fault can't depend on.
 fn parts_in_faulty(alloc: Global, bytes: &[u8]) -> Result<Parts, FileFault>
     ensures { ReadsAs parts_in bytes.now result }
 {
     let Ok(text) = std::str::from_utf8(bytes) else {
         return Err(FileFault::NotJson);
     };
-    if !is_json(alloc, text)? {
-        return Err(FileFault::NotJson);
+    match pruned_value(alloc, text)? {
+        Some(json) => parts_of(alloc, &json),
+        None => Err(FileFault::NotJson),
     }
-    parts_in_value(alloc, bytes)
 }
 
 /// The history that a file of any length holds.

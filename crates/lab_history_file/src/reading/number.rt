@@ -2,13 +2,15 @@
 //!
 //! Whole numbers are read here, and other numbers are only checked. A whole number of more than ten digits isn't read: no number of a history file is as large.
 
-ghost use Rattle.std.specs.Prelude.{◌≡◌, ◌≤◌, ◌<◌, ◌==◌, [], length, slice_index, true, false, Some, IfSome, IsTrue, is_some, option_and_then};
-ghost use Rattle.serde_json.specs.Data.{unsigned};
+ghost use Rattle.std.specs.Prelude.{◌≡◌, ◌≤◌, ◌<◌, ◌==◌, [], length, slice_index, true, false, Some, IfSome, IsTrue, is_some, option_and_then, option_map};
+ghost use Rattle.serde_json.specs.Data.{unsigned as unsigned_number};
 ghost use Rattle.serde_json.specs.Find.{as_i64};
 ghost use Rattle.serde_json.specs.Read.{number_of, number_from};
+ghost use Rattle.serde_json.specs.View.{number_view};
 ghost use Rattle.lab_history_file.specs.Numbers.{digits_on};
 
 use fast_float::Numeral;
+use serde_json::Number;
 
 /// The number that digits spell, if it is at most 10,000,000,009. No digits spell 0.
 #[inline(always)]
@@ -29,7 +31,7 @@ fn number_in(digits: &[u8]) -> Option<u64>
 /// The number that a token of JSON spells, if it is a whole number without a sign.
 #[inline(always)]
 pub fn whole_of(text: &str) -> Option<u64>
-    ensures value { IfSome result (λ n. number_of text.now ≡ Some (unsigned n)) }
+    ensures value { IfSome result (λ n. number_of text.now ≡ Some (unsigned_number n)) }
     ensures small { IfSome result (λ n. n ≤ 10000000009) }
 {
     let digits = text.as_bytes();
@@ -59,15 +61,15 @@ pub fn integer_of(text: &str) -> Option<i64>
     }
 }
 
-/// Whether a number that isn't too large for a float has this text: `serde_json` reads no other number.
-pub fn number_reads(text: &str) -> bool
-    ensures { result ≡ is_some (number_of text.now) }
+/// The number that a token of JSON spells, if `serde_json` reads it: a number too large for a float isn't read.
+pub fn json_number(text: &str) -> Option<Number>
+    ensures { option_map number_view result ≡ number_of text.now }
 {
     let bytes = text.as_bytes();
     if has_minus(bytes) {
-        negative_reads(&Numeral::scan(&bytes[1..]))
+        negative(&Numeral::scan(&bytes[1..]))
     } else {
-        unsigned_reads(&Numeral::scan(bytes))
+        unsigned(&Numeral::scan(bytes))
     }
 }
 
@@ -78,22 +80,29 @@ fn has_minus(bytes: &[u8]) -> bool
     !bytes.is_empty() && bytes[0] == b'-'
 }
 
-fn unsigned_reads(numeral: &Numeral<'_>) -> bool
-    ensures { result ≡ is_some (number_from false numeral.now) }
+fn unsigned(numeral: &Numeral<'_>) -> Option<Number>
+    ensures { option_map number_view result ≡ number_from false numeral.now }
 {
-    if numeral.to_u64().is_some() {
-        return true;
+    if let Some(n) = numeral.to_u64() {
+        return Some(Number::from(n));
     }
-    numeral.to_float::<f64>(false).is_finite()
+    Number::from_f64(numeral.to_float::<f64>(false))
 }
 
-fn negative_reads(numeral: &Numeral<'_>) -> bool
-    ensures { result ≡ is_some (number_from true numeral.now) }
+fn negative(numeral: &Numeral<'_>) -> Option<Number>
+    ensures { option_map number_view result ≡ number_from true numeral.now }
 {
     if let Some(n) = numeral.to_i64(true) {
         if n < 0 {
-            return true;
+            return Some(Number::from(n));
         }
     }
-    numeral.to_float::<f64>(true).is_finite()
+    Number::from_f64(numeral.to_float::<f64>(true))
+}
+
+/// Whether `serde_json` reads a number that has this text.
+pub fn number_reads(text: &str) -> bool
+    ensures { result ≡ is_some (number_of text.now) }
+{
+    json_number(text).is_some()
 }
