@@ -54,25 +54,31 @@ full_same : (place : ListPlace) (i : ℕ) (table id : Data) → full_in place i 
 full_same place i table id =
     both _ _ (ap (required (path.Part place i 0)) (table_same table)) (λ name. both _ _ (ap (required (path.Part place i 1)) (whole_same Part 1 999999 id)) (λ n. refl))
 
-split_same : (version : FileVersion) (place : ListPlace) (i : ℕ) (ds : Items)
-    → split_key version place i (each_item (pruned Part) ds) ≡ (split_key version place i ds >>= λ s. Ok (s.0, each_item (pruned Part) s.1))
+-- a row with the parts after it, and with those parts pruned
+abbrev with_rest : Items → Row → Result (Row × Items) FileFault
+with_rest rest row = Ok (row, rest)
+
+abbrev pruned_rest : Row × Items → Result (Row × Items) FileFault
+pruned_rest s = Ok (s.0, each_item (pruned Part) s.1)
+
+split_same : (version : FileVersion) (place : ListPlace) (i : ℕ) (ds : Items) → split_key version place i (each_item (pruned Part) ds) ≡ (split_key version place i ds >>= pruned_rest)
 split_same One place i no_items = refl
-split_same One place i (item id rest) = both _ _ (plain_same place i id) (λ row. refl) ∙ sym (in_turn (plain_in place i id) (λ row. Ok (row, rest)) (λ s. Ok (s.0, each_item (pruned Part) s.1)))
+split_same One place i (item id rest) = both _ _ (plain_same place i id) (λ row. refl) ∙ sym (in_turn (plain_in place i id) (with_rest rest) pruned_rest)
 split_same Two place i no_items = refl
 split_same Two place i (item table no_items) = refl
 split_same Two place i (item table (item id rest)) =
-    both _ _ (full_same place i table id) (λ row. refl) ∙ sym (in_turn (full_in place i table id) (λ row. Ok (row, rest)) (λ s. Ok (s.0, each_item (pruned Part) s.1)))
+    both _ _ (full_same place i table id) (λ row. refl) ∙ sym (in_turn (full_in place i table id) (with_rest rest) pruned_rest)
 
 -- ---- entries
 
 module _ (version : FileVersion) (place : ListPlace) (i : ℕ) where
   sized_same : (b : Bool) (ds : Items)
       → (required (path.Member place i) (if b then Some (each_item (pruned Part) ds) else None) >>= split_key version place i)
-      ≡ ((required (path.Member place i) (if b then Some ds else None) >>= split_key version place i) >>= λ s. Ok (s.0, each_item (pruned Part) s.1))
+      ≡ ((required (path.Member place i) (if b then Some ds else None) >>= split_key version place i) >>= pruned_rest)
   sized_same true ds = split_same version place i ds
   sized_same false ds = refl
 
-  member_same : (n : ℕ) (o : Option Items) → member_in n version place i (option_map (each_item (pruned Part)) o) ≡ (member_in n version place i o >>= λ s. Ok (s.0, each_item (pruned Part) s.1))
+  member_same : (n : ℕ) (o : Option Items) → member_in n version place i (option_map (each_item (pruned Part)) o) ≡ (member_in n version place i o >>= pruned_rest)
   member_same n None = refl
   member_same n (Some ds) =
       ap (λ k. required (path.Member place i) (if k == key_parts version + n then Some (each_item (pruned Part) ds) else None) >>= split_key version place i) (count_each (pruned Part) ds)
@@ -84,7 +90,7 @@ entry_same {X = X} n read version place same i d =
     let go : Row × Items → Result (Row × X) FileFault = λ split. read version place i split.1 >>= λ x. Ok (split.0, x) in
     ap (λ o. member_in n version place i o >>= go) (array_each Entry Part refl (λ _. refl) (λ _. refl) d)
     ∙ ap (λ r. r >>= go) (member_same version place i n (as_array d))
-    ∙ in_turn (member_in n version place i (as_array d)) (λ s. Ok (s.0, each_item (pruned Part) s.1)) go
+    ∙ in_turn (member_in n version place i (as_array d)) pruned_rest go
     ∙ after (member_in n version place i (as_array d)) _ _ (λ s. both _ _ (same i s.1) (λ x. refl))
 
 one_same : {X : Type 0} (read : Data → Option X) → ((d : Data) → read (pruned Part d) ≡ read d) → (version : FileVersion) (place : ListPlace) (i : ℕ) (ds : Items)

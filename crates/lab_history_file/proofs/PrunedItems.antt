@@ -1,5 +1,5 @@
 -- Values, lists and objects that were pruned.
-use Rattle.std.{proofs.{Common.{◌≡◌, ℕ, zero, suc, ◌+◌, ◌≤◌, ◌&&◌, Bool, true, false, List, [], ◌∷◌, ◌++◌, Option, Some, None, option_map, option_and_then, Result, Ok, Err, Ordering, Less, Equal, Greater, refl, sym, ap, ◌∙◌, arith, unwrap_or, nat_cmp, bytes_eq}, lemmas.{Map.Lookups.{exact_bytes}, Bool.{lt-ltb}}}, specs.{Ordering.{match_ordering}, Cmp.Lexicographic.{slice_cmp}}}
+use Rattle.std.{proofs.{Common.{◌≡◌, ℕ, zero, suc, ◌+◌, ◌≤◌, ◌&&◌, Bool, true, false, List, [], ◌∷◌, ◌++◌, Option, Some, None, option_map, option_and_then, Result, Ok, Err, if◌then◌else◌, Ordering, Less, Equal, Greater, refl, sym, ap, ◌∙◌, arith, unwrap_or, nat_cmp, bytes_eq}, lemmas.{Map.Lookups.{exact_bytes}, Bool.{lt-ltb}}}, specs.{Ordering.{match_ordering}, Cmp.Lexicographic.{slice_cmp}}}
 use Rattle.serde_json.specs.{Data.{Data, null, boolean, number, string, array, object, Items, no_items, item, Members, no_members, member}, Find.{as_array, as_number, as_str, get_item, get_member}}
 use Rattle.lab_history.specs.{Faults.{◌>>=◌, required}, declared.{fault.FileFault.{FileFault}, path.Path.{Path}}}
 use Rattle.lab_history_file.specs.{Lift.{each_item}, Member.{count}, Entries.{items_from}, Format.{at_key, are_keys}, Pruned.{item_shape, member_shape, has_members, takes, fits, pruned, pruned_list, pruned_items, pruned_item, pruned_object, pruned_members}}
@@ -15,6 +15,9 @@ module _ {A B : Type 0} where
 
   pub both : {r s : Result A FileFault} (f g : A → Result B FileFault) → r ≡ s → ((x : A) → f x ≡ g x) → (r >>= f) ≡ (s >>= g)
   both {s = s} f g e h = ap (λ q. q >>= f) e ∙ after s f g h
+
+  pub stopped : {r : Result A FileFault} (f : A → Result B FileFault) (e : FileFault) → r ≡ Err e → (r >>= f) ≡ Err e
+  stopped f e is = ap (λ q. q >>= f) is
 
 pub in_turn : {A B C : Type 0} (r : Result A FileFault) (f : A → Result B FileFault) (g : B → Result C FileFault) → ((r >>= f) >>= g) ≡ (r >>= λ x. f x >>= g)
 in_turn (Ok x) f g = refl

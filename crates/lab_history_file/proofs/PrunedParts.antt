@@ -1,15 +1,15 @@
 -- What is read of a value that was pruned is what is read of the value.
 use Rattle.std.proofs.{Common.{◌≡◌, ℕ, ◌+◌, ◌≤◌, nat_lt, Bool, true, false, List, [], length, Option, Some, None, option_map, option_and_then, Result, Ok, if◌then◌else◌, codes, refl, sym, ap, ◌∙◌, arith, ltb-false}, lemmas.Bool.{lt-ltb}}
-use Rattle.std.specs.Prelude.{⊤}
 use Rattle.std.specs.Str.{bytes_eq}
 use Rattle.serde_json.specs.{Data.{Data, null, boolean, number, string, array, object, Items, Members}, Find.{as_number, as_u64, as_array, as_str}}
-use Rattle.lab_history.specs.{Faults.{◌>>=◌, required, refused_if}, HistoryRules.{operations}, History.{History}, Limits.{max_transactions, max_operations}, declared.{fault.FileFault.{FileFault}, transaction.Txn.{Txn}, operation.Op.{Op}}}
+use Rattle.lab_history.specs.{Faults.{◌>>=◌, required, refused_if}, HistoryRules.{operations}, History.{History}, Limits.{max_transactions, max_operations}, declared.{fault.FileFault.{FileFault}, transaction.{Txn.{Txn}, Outcome.{Outcome}}}}
 use Rattle.lab_history.specs.declared.fault.FileFault.TheVariants as fault
 use Rattle.lab_history.specs.declared.fault.Limit.TheVariants as limit
 use Rattle.lab_history.specs.declared.path.Path.{Path}
 use Rattle.lab_history.specs.declared.path.Path.TheVariants as path
 use Rattle.lab_history.specs.declared.path.ListPlace.TheVariants as list
 use Rattle.lab_history_file.specs.Keys.{root_keys, txn_keys, op_keys}
+use Rattle.lab_history_file.specs.Lift.{each_item}
 use Rattle.lab_history_file.specs.Member.{count}
 use Rattle.lab_history_file.specs.Entries.{txn_in_number, items_from, values_in, writes_in, view_in, installed_in}
 use Rattle.lab_history_file.specs.Format.{at_key, are_keys, has_keys, keyed, op_in, op_behind, outcome_named, txn_in, txns_in, format_in, numbered_version, version_in, parts_of_version, parts_in}
@@ -17,7 +17,7 @@ use Rattle.lab_history_file.specs.Pruned.{pruned, pruned_items, pruned_members}
 use Rattle.lab_history_file.specs.declared.file_version.FileVersion.{FileVersion}
 use Rattle.lab_history_file.specs.declared.reading.shape.Shape.{Shape}
 use Rattle.lab_history_file.specs.declared.reading.shape.Shape.TheVariants.{Whole, Transactions, Transaction, Operations, Operation, Entries}
-use Rattle.lab_history_file.proofs.PrunedItems.{after, both, count_each, items_each, required_each, pruned_few, pruned_count, number_same, text_same, array_each, keys_same, at_pruned}
+use Rattle.lab_history_file.proofs.PrunedItems.{after, both, stopped, count_each, items_each, required_each, pruned_few, pruned_count, number_same, text_same, array_each, keys_same, at_pruned}
 use Rattle.lab_history_file.proofs.PrunedEntries.{whole_same, values_same, writes_same, view_same, installed_same}
 
 keyed_same : (shape : Shape) (place : Path) (keys : List (List ℕ)) (ms : Members) → keyed place keys (object (pruned_members shape ms)) ≡ keyed place keys (object ms)
@@ -38,7 +38,7 @@ module _ (version : FileVersion) (txn by i : ℕ) where
   -- an operation with other keys was replaced by `true`
   fitting_op : (b : Bool) (ms : Members) → are_keys op_keys ms ≡ b → op_in version txn by i (if b then object (pruned_members Operation ms) else boolean true) ≡ op_in version txn by i (object ms)
   fitting_op true ms e = members_op ms
-  fitting_op false ms e = sym (both {s = required (path.Operation txn i) None} _ (λ (_ : ⊤). op_in version txn by i (boolean true)) (ap (λ b. required (path.Operation txn i) (if b then Some tt else None)) e) (λ _. refl))
+  fitting_op false ms e = sym (stopped _ _ (ap (λ b. required (path.Operation txn i) (if b then Some tt else None)) e))
 
   op_same : (d : Data) → op_in version txn by i (pruned Operation d) ≡ op_in version txn by i d
   op_same null = refl
@@ -52,20 +52,26 @@ module _ (version : FileVersion) (txn by i : ℕ) where
 -- ---- transactions
 
 module _ (version : FileVersion) (before : List Txn) (i : ℕ) where
+  -- a transaction, from its operations on
+  abbrev from_ops : ℕ → Outcome → Items → Result Txn FileFault
+  from_ops by outcome items =
+      refused_if (nat_lt max_operations (length (operations before) + count items)) (fault.OverLimit limit.Operations) >>= λ _.
+      items_from (op_behind version i by) [] 0 items >>= λ ops.
+      Ok (record { no = by; outcome = outcome; ops = ops })
+
+  ops_same : (by : ℕ) (outcome : Outcome) (ds : Items) → from_ops by outcome (each_item (pruned Operation) ds) ≡ from_ops by outcome ds
+  ops_same by outcome ds =
+      both _ _ (ap (λ n. refused_if (nat_lt max_operations (length (operations before) + n)) (fault.OverLimit limit.Operations)) (count_each (pruned Operation) ds)) (λ _.
+      both _ _ (items_each (pruned Operation) (op_behind version i by) (λ _ at d. op_same version i by at d) [] 0 ds) (λ ops. refl))
+
   members_txn : (ms : Members) → txn_in version before i (object (pruned_members Transaction ms)) ≡ txn_in version before i (object ms)
   members_txn ms =
       both _ _ (keyed_same Transaction (path.Transaction i) txn_keys ms) (λ _.
-      both _ _ (ap (required (path.Number i)) (ap txn_in_number (at_pruned Transaction (codes "no") ms) ∙ whole_same Operations 1 1000000 (at_key (codes "no") (object ms)))) (λ number.
+      both _ _ (ap (required (path.Number i)) (ap txn_in_number (at_pruned Transaction (codes "no") ms) ∙ whole_same Operations 1 1000000 (at_key (codes "no") (object ms)))) (λ by.
       after _ _ _ (λ _.
       both _ _ (ap (λ o. required (path.Outcome i) (option_and_then outcome_named o)) (ap as_str (at_pruned Transaction (codes "outcome") ms) ∙ text_same Operations (at_key (codes "outcome") (object ms)))) (λ outcome.
-      ap (λ o. required (path.Operations i) o >>= λ items.
-          refused_if (nat_lt max_operations (length (operations before) + count items)) (fault.OverLimit limit.Operations) >>= λ _.
-          items_from (op_behind version i number) [] 0 items >>= λ ops.
-          Ok (record { no = number; outcome = outcome; ops = ops }))
-          (ap as_array (at_pruned Transaction (codes "ops") ms) ∙ array_each Operations Operation refl (λ _. refl) (λ _. refl) (at_key (codes "ops") (object ms)))
-      ∙ required_each (path.Operations i) (pruned Operation) (as_array (at_key (codes "ops") (object ms))) _ _ (λ ds.
-          both _ _ (ap (λ n. refused_if (nat_lt max_operations (length (operations before) + n)) (fault.OverLimit limit.Operations)) (count_each (pruned Operation) ds)) (λ _.
-          both _ _ (items_each (pruned Operation) (op_behind version i number) (λ _ at d. op_same version i number at d) [] 0 ds) (λ ops. refl)))))))
+      ap (λ o. required (path.Operations i) o >>= from_ops by outcome) (ap as_array (at_pruned Transaction (codes "ops") ms) ∙ array_each Operations Operation refl (λ _. refl) (λ _. refl) (at_key (codes "ops") (object ms)))
+      ∙ required_each (path.Operations i) (pruned Operation) (as_array (at_key (codes "ops") (object ms))) (from_ops by outcome) (from_ops by outcome) (ops_same by outcome)))))
 
   txn_same : (d : Data) → txn_in version before i (pruned Transaction d) ≡ txn_in version before i d
   txn_same null = refl
