@@ -55,6 +55,7 @@ mod AfterReads
 mod WaitsAfter
 pub mod Overlaid
 pub mod OneRecording
+mod CountedLogs
 mod Indexed
 mod LeastTaken
 pub mod TakenRows

@@ -31,5 +31,7 @@ pub mod RecordingLaws
 pub mod RecordedLog
 pub mod Gathered
 pub mod OverLimit
+pub mod EntryCount
+pub mod Told
 pub mod Taken
 pub mod StatementsRun

@@ -27,11 +27,11 @@ pub struct GatheredTxn {
 
 /// What the events so far say of transactions.
 #[derive(Drop)]
-struct Gathering {
+pub struct Gathering {
     /// For each session the number of its active transaction, if any.
-    active: PerSession<Option<TxnNo>>,
+    pub active: PerSession<Option<TxnNo>>,
     /// The transactions, by rising number.
-    txns: Vec<GatheredTxn>,
+    pub txns: Vec<GatheredTxn>,
 }
 
 /// The transactions of these events, by rising number. NoMemory where an allocation was refused.
@@ -113,14 +113,14 @@ pub fn number_after(outcome: &Outcome, by: Option<TxnNo>) -> Option<TxnNo>
 }
 
 /// The place of a transaction, where the first has number 1.
-fn place_of(number: TxnNo) -> usize
+pub fn place_of(number: TxnNo) -> usize
     ensures { result ≡ number - 1 }
 {
     number.number() as usize - 1
 }
 
 /// Adds what an event did to the transaction that its session had active.
-fn add_event(
+pub fn add_event(
     alloc: Global,
     txns: &mut Vec<GatheredTxn>,
     event: &LogEvent,
