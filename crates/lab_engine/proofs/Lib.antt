@@ -56,6 +56,7 @@ mod WaitsAfter
 pub mod Overlaid
 pub mod OneRecording
 mod CountedLogs
+mod MovedEvents
 mod Indexed
 mod LeastTaken
 pub mod TakenRows

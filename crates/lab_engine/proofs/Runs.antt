@@ -18,7 +18,7 @@ length_more old new event is_new room = omega (arith, ap length is_new, length-a
 
 -- ---- a legal log is legal so far
 
-legal_later : (level : Level) (setup : Table) (later past : Past) → IsLegal level setup (later ++ past) → IsLegal level setup past
+pub legal_later : (level : Level) (setup : Table) (later past : Past) → IsLegal level setup (later ++ past) → IsLegal level setup past
 legal_later level setup [] past legal = legal
 legal_later level setup (event ∷ later) past legal = legal_later level setup later past legal.0
 
