@@ -1,5 +1,6 @@
 -- The entries that a legal log lists are those of the operations of its recording.
-use Rattle.lab_engine.{proofs.{Common.{active, ap, arith, Begun, changed, changed_by, Command, Committed, committed, drop, get_or, History, IsLegal, IsRecording, length, Level, List, Listed, LogEvent, map as each, map-append, new_txn, number_of, Op, op_entries, op_of, operations, Option, Outcome, Past, past_of, Permitted, Recorded, recorded_txns, refl, reverse-append, Run, Some, suc, sum, sym, Table, Txn, txns_after, with_ops, zero, ℕ, [], ◌++◌, ◌+◌, ◌-◌, ◌<◌, ◌∙◌, ◌∷◌, ◌≡◌}, GatheredNumbers.{recorded_length}, Numbers.{numbers_hold}, TxnsAfterEvents.{txns_goes}}, specs.EntryCount.{outcome_entries, log_entries}}
+use Rattle.lab_engine.{proofs.{Common.{active, ap, arith, Begun, changed, changed_by, Command, Committed, committed, drop, Err, get_or, History, IfOk, IsLegal, IsRecording, length, Level, List, Listed, LogEvent, map as each, map-append, new_txn, number_of, Ok, OnOk, Op, op_entries, op_of, operations, Option, Outcome, Past, past_of, Permitted, Recorded, recorded_txns, refl, Result, reverse-append, Run, Some, suc, sum, sym, Table, Txn, txns_after, with_ops, zero, ℕ, [], ◌++◌, ◌+◌, ◌-◌, ◌<◌, ◌∙◌, ◌∷◌, ◌≡◌, ◌≤◌}, GatheredNumbers.{recorded_length}, Numbers.{numbers_hold}, TxnsAfterEvents.{txns_goes}}, specs.{EntryCount.{outcome_entries, log_entries}, declared.recording.RecordFault.{RecordFault}}}
+use Rattle.lab_history.specs.HistoryRules.{Keeps}
 use Rattle.std.proofs.{Common.{drop-cons}, lemmas.List.Sums.{sum_by-cons, sum_by-append}}
 
 -- ---- transactions
@@ -87,3 +88,9 @@ log_entries_at log i event few is =
     let next : i + 1 ≡ suc i = omega arith in
     ap log_entries (drop-cons log i event few) ∙ ap (λ (e : LogEvent). log_entries (e ∷ drop (suc i) log)) (sym is) ∙ log_entries_cons event (drop (suc i) log)
     ∙ ap (λ k. outcome_entries event.outcome + log_entries (drop k log)) (sym next)
+
+-- so a log that has one lists few entries
+pub few_entries : (level : Level) (setup : Table) (log : List LogEvent) → IsLegal level setup (past_of log) → (r : Result History RecordFault) → IfOk r Keeps
+    → IfOk r (IsRecording setup (past_of log)) → OnOk r (log_entries log ≤ 200000)
+few_entries level setup log legal (Ok h) keeps recording = omega (arith, keeps.entries, recorded_entries level setup log h legal recording)
+few_entries level setup log legal (Err fault) keeps recording = tt
