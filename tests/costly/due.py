@@ -14,7 +14,9 @@ WITH_SKEW = re.compile(r"long_selects_no$|long_updates|long_on_each")
 MISLISTED = re.compile(r"mislisted")
 # Scripts in which nobody waits and every commit is answered, on each engine.
 PLAIN = re.compile(r"locked|validated")
-OVER_LIMIT = {"waiting_for_all": b"play: OverLimit entries\n"}
+OVER_LIMIT = {
+    "waiting_for_all": b"play: OverLimit entries\n", "grown": b"play: OverLimit entries\n", "late_rows": b"play: OverLimit ids\n",
+}
 
 
 def in_order(numbers: list[int]) -> bytes:

@@ -162,6 +162,21 @@ def overlapping_updates(part: int) -> bytes:
     return script([*lines, *(of(session, "commit") for session in range(1, 10))])
 
 
+def grown(part: int) -> bytes:
+    """T1 inserts rows up to the limit and writes all of them until no command is left; a history may not have so many entries."""
+    inserts = [of(1, f"insert into test (id, value) values ({row}, 1)") for row in range(401, 1_001)]
+    updates = [of(1, "update test set value = value + 1")] * (1_398 // part)
+    return script([setup(400), of(1, "begin"), *inserts, *updates])
+
+
+def late_rows(part: int) -> bytes:
+    """T1 writes all rows again and again, more entries than a history may have. Only then T2 inserts rows, the last of which
+    is one too many: up to the last command it is open which limit is named."""
+    updates = [of(1, "update test set value = value + 1")] * (1_396 // part)
+    inserts = [of(2, f"insert into test (id, value) values ({row}, 1)") for row in range(401, 1_002)]
+    return script([setup(400), of(1, "begin"), *updates, of(2, "begin"), *inserts])
+
+
 def long_serial(part: int) -> bytes:
     """One transaction after another, of long updates that match nothing."""
     updates = long_conditions(small_remainder, f"update test set value = value + {STEP} where ")
@@ -194,5 +209,7 @@ SCRIPTS: dict[str, Made] = {
     "alone": alone,
     "committed_by_turns": committed_by_turns,
     "overlapping_updates": overlapping_updates,
+    "grown": grown,
+    "late_rows": late_rows,
     "long_serial": long_serial,
 }
