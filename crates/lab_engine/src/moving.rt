@@ -79,18 +79,30 @@ fn into_op(event: LogEvent) -> Result<Op, LogEvent>
     ensures op { IfOk result (λ op. (by : Option ℕ) (txns : List Recorded) → plain.txns_after event.command event.outcome by txns ≡ plain.changed_by by (plain.with_ops (op ∷ [])) txns) }
     ensures back { IfErr result (λ same. same ≡ event) }
 {
-    match event {
-        LogEvent {
-            command: Command::Run(statement),
-            outcome: Outcome::Rows { view, rows, writes },
-            session: _,
-        } => Ok(Op {
-            statement,
-            view,
-            rows,
-            writes,
+    let LogEvent {
+        session,
+        command,
+        outcome,
+    } = event;
+    match outcome {
+        Outcome::Rows { view, rows, writes } => match command {
+            Command::Run(statement) => Ok(Op {
+                statement,
+                view,
+                rows,
+                writes,
+            }),
+            command => Err(LogEvent {
+                session,
+                command,
+                outcome: Outcome::Rows { view, rows, writes },
+            }),
+        },
+        outcome => Err(LogEvent {
+            session,
+            command,
+            outcome,
         }),
-        other => Err(other),
     }
 }
 
