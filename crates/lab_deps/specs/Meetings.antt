@@ -41,6 +41,11 @@ installs_next h n m row = is_next (place_in (installers h row) n) (place_in (ins
 abbrev pub turns : History → Statement → Row → ℕ → Bool
 turns h s row p = differ (matches s row (state_after h row (installers h row) (p - 1))) (matches s row (state_after h row (installers h row) p))
 
+-- whether the version at a place turns the row, where there is one
+abbrev pub turns_in : History → Statement → Row → Option ℕ → Bool
+turns_in h s row None = false
+turns_in h s row (Some p) = turns h s row p
+
 -- whether a reader of the version at a place, where 0 is the initial one, and the installer of that at another are tied in a way
 abbrev pub is_tied : History → Statement → Row → Kind → ℕ → ℕ → Bool
 is_tied h s row Write v p = false

@@ -1,12 +1,16 @@
 //! A statement that is asked of many versions of rows.
 
-ghost use Rattle.std.specs.Prelude.{◌≡◌, ℕ, ℤ, false, Some, slice_get, IfOk, IfSome};
+ghost use Rattle.std.specs.Prelude.{◌≡◌, ℕ, ℤ, true, false, not, Some, slice_get, IfOk, IfSome};
+ghost use Rattle.std.specs.List.{list_all};
 ghost use Rattle.lab_table.specs.Row.{Row};
 ghost use Rattle.lab_table.specs.Predicate.{holds};
 ghost use Rattle.lab_table.specs.Statement.{matches};
 ghost use Rattle.lab_table.specs.ValueTests.{IsBlind};
+ghost use Rattle.lab_deps.specs.Edges.{differ};
 
+use crate::reading::differ;
 use crate::rows::Listed;
+use crate::versions::Version;
 use lab_columns::{answers_for_rows, answers_for_values, names_id};
 use lab_table::{NoMemory, Pred, PredKind, RowName, Statement, StatementKind, Value};
 use std::alloc::Global;
@@ -77,6 +81,8 @@ impl<'a> Asked<'a> {
                 if is_short(pred) {
                     Ok(Asked::by_version(alloc, statement))
                 } else if names_id(pred) {
+                    Asked::by_row(alloc, statement, pred, listed.between(from, to), from)
+                } else if listed.values().len() > to.wrapping_sub(from) {
                     Asked::by_row(alloc, statement, pred, listed.between(from, to), from)
                 } else {
                     Asked::by_value(alloc, statement, pred, listed)
@@ -160,6 +166,59 @@ impl<'a> Asked<'a> {
             }
         }
         self.statement.matches(row, Some(value))
+    }
+
+    /// Whether answers are ready for all of these versions of a row, and all are the same as this one. The index is that of
+    /// the state before them.
+    pub fn all_answer(
+        &self,
+        row: RowName,
+        answer: bool,
+        index: usize,
+        versions: &[Version],
+    ) -> bool
+        ensures { result ≡ true → list_all (λ v. not (differ answer (matches self.now row v.value))) versions.now ≡ true }
+    {
+        if self.is_ready() && row.table == self.statement.table {
+            return self.all_answer_in_table(row, answer, index, versions);
+        }
+        false
+    }
+
+    /// The same for a row of the statement's table.
+    fn all_answer_in_table(
+        &self,
+        row: RowName,
+        answer: bool,
+        index: usize,
+        versions: &[Version],
+    ) -> bool
+        requires { row.table ≡ self.now.table }
+        ensures { result ≡ true → list_all (λ v. not (differ answer (matches self.now row v.value))) versions.now ≡ true }
+    {
+        let mut index = index;
+        for version in versions {
+            index = index.wrapping_add(1);
+            if !self.answers_so(row, answer, index, version.value) {
+                return false;
+            }
+        }
+        true
+    }
+
+    /// Whether the answer for a state is ready, and is this one.
+    #[inline(always)]
+    fn answers_so(&self, row: RowName, answer: bool, index: usize, state: Option<Value>) -> bool
+        requires { row.table ≡ self.now.table }
+        ensures { result ≡ true → not (differ answer (matches self.now row state)) ≡ true }
+    {
+        match state {
+            None => !differ(answer, false),
+            Some(value) => match self.answer(row, value, index) {
+                None => false,
+                Some(found) => !differ(answer, found),
+            },
+        }
     }
 
     /// The answer for a row of the statement's table with this value, if it is ready there.

@@ -16,15 +16,17 @@ ghost use Rattle.lab_deps.specs.Soundness.{Stands};
 ghost use Rattle.lab_deps.specs.declared.edge.Kind.{Kind as Way};
 ghost use Rattle.lab_deps.specs.declared.fault.LocalFault.TheVariants as fault;
 
+use crate::asked::Asked;
 use crate::collect::committed_ops;
 use crate::edge::{Edge, Kind};
 use crate::kinds::Kinds;
 use crate::meeting::{first_meeting, first_next};
 use crate::row::least;
+use crate::rows::Listed;
 use crate::scope::Scope;
 use crate::written::rows_written;
 use lab_history::{History, Op};
-use lab_table::{NoMemory, RowName, TxnNo};
+use lab_table::{NoMemory, RowName, Statement, TxnNo};
 use std::alloc::Global;
 
 /// The least of the edges of some kinds that are meant, from one transaction to another, between which there are edges of
@@ -143,26 +145,68 @@ fn least_meeting(
     ensures { IfOk result (IsLeastRow (Meeting history.now kind installer reader)) }
 {
     let rows = rows_written(alloc, history, installer)?;
-    Ok(least_among(history, kind, installer, reader, &rows))
+    let row = least_among(alloc, history, kind, installer, reader, &rows)?;
+    Ok(row)
 }
 
 /// The least of these rows at which a reader's operation is tied in a way to an installer.
 fn least_among(
+    alloc: Global,
     history: &History,
     kind: Kind,
     installer: TxnNo,
     reader: TxnNo,
     rows: &[RowName],
-) -> Option<RowName>
-    ensures { result ≡ least_of (λ op. first_row (meets history.now kind installer reader op) rows.now) None (committed_ops history.now reader) }
+) -> Result<Option<RowName>, NoMemory>
+    ensures { IfOk result (λ row. row ≡ least_of (λ op. first_row (meets history.now kind installer reader op) rows.now) None (committed_ops history.now reader)) }
 {
+    let listed = changes_of(alloc, history, kind, installer, rows)?;
     let ops = committed_ops(history, reader);
     let mut row = None;
     for op in ops {
-        row = least(
-            row,
-            first_meeting(history, rows, kind, installer, reader, op),
-        );
+        let statement = asked_of(alloc, kind, &op.statement, &listed)?;
+        let found = first_meeting(history, rows, kind, installer, reader, op, &statement);
+        row = least(row, found);
     }
-    row
+    Ok(row)
+}
+
+/// The states of rows before and after an installer's versions, where a kind of dependency is by what a statement matches;
+/// else none.
+fn changes_of(
+    alloc: Global,
+    history: &History,
+    kind: Kind,
+    installer: TxnNo,
+    rows: &[RowName],
+) -> Result<Listed, NoMemory> {
+    if is_of_predicate(kind) {
+        Listed::around(alloc, history, rows, installer)
+    } else {
+        Ok(Listed::new(alloc))
+    }
+}
+
+/// A statement that is asked of listed states now, where a kind of dependency is by what it matches.
+fn asked_of<'a>(
+    alloc: Global,
+    kind: Kind,
+    statement: &'a Statement,
+    listed: &'a Listed,
+) -> Result<Asked<'a>, NoMemory>
+    ensures { IfOk result (λ asked. asked ≡ statement.now) }
+{
+    if is_of_predicate(kind) {
+        Asked::of(alloc, statement, listed, 0, listed.len())
+    } else {
+        Ok(Asked::by_version(alloc, statement))
+    }
+}
+
+/// Whether a dependency of this kind is by what a statement matches.
+fn is_of_predicate(kind: Kind) -> bool {
+    match kind {
+        Kind::PredicateRead | Kind::PredicateAnti => true,
+        Kind::Write | Kind::ItemRead | Kind::ItemAnti => false,
+    }
 }

@@ -1,12 +1,14 @@
 //! What two transactions have to do with one another at rows that one of them wrote.
 
-ghost use Rattle.std.specs.Prelude.{◌≡◌, is_some};
+ghost use Rattle.std.specs.Prelude.{◌≡◌, ◌⊎◌, ◌&&◌, ℕ, Option, is_some};
 ghost use Rattle.std.specs.FinMap as map;
 ghost use Rattle.lab_history.specs.Version as version;
 ghost use Rattle.lab_history.specs.Version.{installers};
-ghost use Rattle.lab_deps.specs.Meetings.{installs_next, turns, is_tied, tied_in, looks_for, meets};
+ghost use Rattle.lab_table.specs.Statement.{may_match};
+ghost use Rattle.lab_deps.specs.Meetings.{installs_next, turns, turns_in, is_tied, tied_in, looks_for, meets};
 ghost use Rattle.lab_deps.specs.FirstOf.{first_entry, first_row};
 
+use crate::asked::Asked;
 use crate::edge::Kind;
 use crate::effect::state_after_near;
 use crate::lookup::Hints;
@@ -14,7 +16,7 @@ use crate::near::value_near;
 use crate::place::place_near;
 use crate::reading::differ;
 use lab_history::{Hint, History, Op, VersionName};
-use lab_table::{RowName, Statement, TxnNo};
+use lab_table::{RowName, TxnNo};
 
 /// The first of the rows that an operation wrote of which the second of two transactions installs the version after the
 /// one of the first.
@@ -63,7 +65,7 @@ fn installs_next(
     }
 }
 
-/// Where what rising rows have is looked for first.
+/// Where the look-ups for rising rows begin.
 #[derive(Clone, Copy)]
 struct Near {
     /// A row among those that the operation lists.
@@ -78,6 +80,8 @@ struct Near {
     before: Hints,
     /// The installer's version.
     after: Hints,
+    /// The index of the state before the installer's version among the listed states.
+    index: usize,
 }
 
 impl Near {
@@ -90,11 +94,13 @@ impl Near {
             installer: Hint::new(),
             before: Hints::new(),
             after: Hints::new(),
+            index: 0,
         }
     }
 }
 
-/// The first of these rows at which an operation of a reader is tied in a way to an installer.
+/// The first of these rows at which an operation of a reader is tied in a way to an installer. The statement's answers are
+/// looked for among those for the states before and after the installer's version of each row, in turn.
 pub fn first_meeting(
     history: &History,
     rows: &[RowName],
@@ -102,14 +108,26 @@ pub fn first_meeting(
     installer: TxnNo,
     reader: TxnNo,
     op: &Op,
+    statement: &Asked,
 ) -> Option<RowName>
+    requires { statement.now ≡ op.now.statement }
     ensures { result ≡ first_row (meets history.now kind installer reader op.now) rows.now }
 {
     let mut near = Near::new();
     for row in rows {
-        if meets(history, kind, installer, reader, op, *row, &mut near) {
+        if meets(
+            history,
+            kind,
+            installer,
+            reader,
+            op,
+            statement,
+            *row,
+            &mut near,
+        ) {
             return Some(*row);
         }
+        near.index = near.index.wrapping_add(2);
     }
     None
 }
@@ -121,30 +139,63 @@ fn meets(
     installer: TxnNo,
     reader: TxnNo,
     op: &Op,
+    statement: &Asked,
     row: RowName,
     near: &mut Near,
 ) -> bool
+    requires { statement.now ≡ op.now.statement }
     ensures { result ≡ meets history.now kind installer reader op.now row }
 {
-    if !looks_for(kind, op, row, &mut near.listed) {
-        return false;
-    }
-    let seen = viewed(op, row, &mut near.seen);
-    let seen = place_near(history, reader, row, seen, &mut near.place);
     let place = history.installer_place_near(row, installer, &mut near.installer);
-    tied_in(history, &op.statement, row, kind, seen, place, near)
+    if may_meet(history, kind, op, statement, row, place, near) {
+        let seen = viewed(op, row, &mut near.seen);
+        let seen = place_near(history, reader, row, seen, &mut near.place);
+        tied_in(history, statement, row, kind, seen, place, near)
+    } else {
+        false
+    }
 }
 
-/// Whether an operation has to look at a row for dependencies of a kind.
-fn looks_for(kind: Kind, op: &Op, row: RowName, near: &mut usize) -> bool
-    ensures { result ≡ looks_for kind op.now row }
+/// Whether a row's installer at a place has to be looked at for dependencies of a kind: where this is false, an operation
+/// isn't tied to it, whichever version it sees.
+fn may_meet(
+    history: &History,
+    kind: Kind,
+    op: &Op,
+    statement: &Asked,
+    row: RowName,
+    place: Option<usize>,
+    near: &mut Near,
+) -> bool
+    requires { statement.now ≡ op.now.statement }
+    ensures { (seen : Option ℕ) → (looks_for kind op.now row && tied_in history.now op.now.statement row kind seen place)
+        ≡ (result && tied_in history.now op.now.statement row kind seen place) }
 {
     match kind {
         Kind::Write => false,
-        Kind::ItemRead => lists(op, row, near),
-        Kind::PredicateRead => op.statement.may_match(row),
-        Kind::ItemAnti => lists(op, row, near),
-        Kind::PredicateAnti => op.statement.may_match(row),
+        Kind::ItemRead => lists(op, row, &mut near.listed),
+        Kind::PredicateRead => may_turn(history, op, statement, row, place, near),
+        Kind::ItemAnti => lists(op, row, &mut near.listed),
+        Kind::PredicateAnti => may_turn(history, op, statement, row, place, near),
+    }
+}
+
+/// Whether the version at a place turns the row, where answers are ready; else whether the statement may match the row.
+fn may_turn(
+    history: &History,
+    op: &Op,
+    statement: &Asked,
+    row: RowName,
+    place: Option<usize>,
+    near: &mut Near,
+) -> bool
+    requires { statement.now ≡ op.now.statement }
+    ensures { (result ≡ may_match op.now.statement row) ⊎ (result ≡ turns_in history.now op.now.statement row place) }
+{
+    if statement.is_ready() {
+        turns_in(history, statement, row, place, near)
+    } else {
+        op.statement.may_match(row)
     }
 }
 
@@ -170,7 +221,7 @@ fn viewed(op: &Op, row: RowName, near: &mut usize) -> VersionName
 /// two such places.
 fn tied_in(
     history: &History,
-    statement: &Statement,
+    statement: &Asked,
     row: RowName,
     kind: Kind,
     seen: Option<usize>,
@@ -192,7 +243,7 @@ fn tied_in(
 /// in a way.
 fn is_tied(
     history: &History,
-    statement: &Statement,
+    statement: &Asked,
     row: RowName,
     kind: Kind,
     seen: usize,
@@ -210,10 +261,26 @@ fn is_tied(
     }
 }
 
+/// Whether the version at a place turns the row; false where there is no place.
+fn turns_in(
+    history: &History,
+    statement: &Asked,
+    row: RowName,
+    place: Option<usize>,
+    near: &mut Near,
+) -> bool
+    ensures { result ≡ turns_in history.now statement.now row place }
+{
+    match place {
+        None => false,
+        Some(place) => turns(history, statement, row, place, near),
+    }
+}
+
 /// Whether exactly one of the version of a row at a place, counted from 1, and the one before matches a statement.
 fn turns(
     history: &History,
-    statement: &Statement,
+    statement: &Asked,
     row: RowName,
     place: usize,
     near: &mut Near,
@@ -225,13 +292,13 @@ fn turns(
     let before = state_after_near(history, row, installers, start, &mut near.before);
     let after = state_after_near(history, row, installers, place, &mut near.after);
     differ(
-        statement.matches(row, before),
-        statement.matches(row, after),
+        statement.matches(row, before, near.index),
+        statement.matches(row, after, near.index.wrapping_add(1)),
     )
 }
 
 /// The installers of a row, in order.
-fn installers(history: &History, row: RowName) -> &[TxnNo]
+pub fn installers(history: &History, row: RowName) -> &[TxnNo]
     ensures { result.now ≡ installers history.now row }
 {
     match history.installed().get(row) {

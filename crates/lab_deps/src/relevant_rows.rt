@@ -13,8 +13,8 @@ use crate::versions::Versions;
 use lab_history::Op;
 use lab_table::{RowName, place_of};
 
-/// Whether an operation is found to have nothing to do with a row with these versions, which it lists or doesn't, as is
-/// said: it doesn't, and they don't change whether its statement matches the row, or that may not match it at all.
+/// Whether an operation is found to have nothing to do with a row with these versions: it doesn't list the row, and either
+/// the versions don't change whether its statement matches, or the statement can't match the row at all.
 pub fn passes_by(
     op: &Op,
     asked: &Asked,
@@ -24,14 +24,17 @@ pub fn passes_by(
 ) -> bool
     requires listed { listed ≡ is_some (map.get op.now.rows row) }
     requires asked { asked.now ≡ op.now.statement }
-    ensures nothing { result ≡ true → (h : Kept) (n : ℕ) → found_at_row h n op.now (row, versions.now) ≡ [] }
-    ensures looks { result ≡ false → looks_at op.now row ≡ true }
+    ensures { result ≡ true → (h : Kept) (n : ℕ) → found_at_row h n op.now (row, versions.now) ≡ [] }
 {
     if listed {
         return false;
     }
     if versions.is_steady(asked, row) {
         return true;
+    }
+    if asked.is_ready() {
+        // The answers were asked for; the condition is long, and its test of the id alone costs as much as a walk.
+        return false;
     }
     !op.statement.may_match(row)
 }

@@ -4,10 +4,13 @@ ghost use Rattle.std.specs.Prelude.{◌≡◌, IfOk};
 ghost use Rattle.lab_deps.specs.EdgesByRow.{rows_of};
 ghost use Rattle.lab_deps.specs.Numbering.{HasPlaces};
 
+use crate::effect::state_after_near;
+use crate::lookup::Hints;
+use crate::meeting::installers;
 use crate::versions::{Versions, most_kept};
 use indexmap::IndexMap;
-use lab_history::History;
-use lab_table::{NoMemory, RowName, Value};
+use lab_history::{Hint, History};
+use lab_table::{NoMemory, RowName, TxnNo, Value};
 use std::alloc::Global;
 
 /// The rows that have installers, in their order, with their versions.
@@ -36,12 +39,37 @@ pub struct Listed {
 }
 
 impl Listed {
-    fn new(alloc: Global) -> Listed {
+    /// No states.
+    pub fn new(alloc: Global) -> Listed {
         Listed {
             rows: Vec::new(alloc),
             numbers: Vec::new(alloc),
             values: Vec::new(alloc),
         }
+    }
+
+    /// The states of rows before and after the version that a transaction installed of each, in turn.
+    pub fn around(
+        alloc: Global,
+        history: &History,
+        rows: &[RowName],
+        installer: TxnNo,
+    ) -> Result<Listed, NoMemory> {
+        let mut listed = Listed::new(alloc);
+        let mut near = Hint::new();
+        let mut first = Hints::new();
+        let mut second = Hints::new();
+        for row in rows {
+            let place = history.installer_place_near(*row, installer, &mut near).unwrap_or(0);
+            let installers = installers(history, *row);
+            let start = place.saturating_sub(1);
+            let before = state_after_near(history, *row, installers, start, &mut first);
+            let after = state_after_near(history, *row, installers, place, &mut second);
+            listed.add_state(*row, before)?;
+            listed.add_state(*row, after)?;
+        }
+        listed.number()?;
+        Ok(listed)
     }
 
     /// How many states there are.

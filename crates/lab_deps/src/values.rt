@@ -89,6 +89,9 @@ impl Values {
         if self.exact {
             return true;
         }
+        if statement.is_ready() {
+            return false;
+        }
         !statement.tests_values()
     }
 

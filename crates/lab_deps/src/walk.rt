@@ -27,7 +27,7 @@ pub fn turned_along(
 {
     found.clear();
     let first = statement.matches(row, before, index);
-    if are_steady(statement, row, first, index, versions) {
+    if statement.all_answer(row, first, index, versions) {
         return Ok(());
     }
     let mut index = index;
@@ -53,6 +53,9 @@ pub fn are_steady(
 ) -> bool
     ensures { result ≡ list_all (λ v. not (differ before (matches statement.now row v.value))) versions.now }
 {
+    if statement.all_answer(row, before, index, versions) {
+        return true;
+    }
     let mut index = index;
     for version in versions {
         index = index.wrapping_add(1);

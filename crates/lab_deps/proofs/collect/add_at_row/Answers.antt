@@ -15,7 +15,7 @@ passes_by-requires-clause-listed g c =
 
 pub returns-then-passes_by : goal.returns-then-passes_by
 returns-then-passes_by g c =
-    let none = c.passes_by.ensures.nothing c.if-passes_by.true c.args.history.now c.args.txn in
+    let none = c.passes_by.ensures c.if-passes_by.true c.args.history.now c.args.txn in
     subst (Grows (where_fits (FitsVersions c.args.versions.now.items) g.S.EdgeSink.handed) c.args.sink.now c.args.sink.now) (sym none) (grows_none (where_fits (FitsVersions c.args.versions.now.items) g.S.EdgeSink.handed) c.args.sink.now)
 
 pub returns : goal.returns
@@ -24,7 +24,7 @@ returns g c =
     let row = c.args.row in
     let listed : c.is_some-listed.result ≡ is_some (get op.rows row) =
     c.is_some-listed.ensures ∙ ap is_some (c.value_near-listing.ensures ∙ ap (find row_cmp row) c.entries.ensures ∙ sym (get-entries op.rows row)) in
-    let all = looked c.args.history.now c.args.txn op row c.args.versions.now (c.passes_by.ensures.looks c.if-passes_by.false) c.is_some-listed.result listed _
+    let all = looked c.args.history.now c.args.txn op row c.args.versions.now c.is_some-listed.result listed _
     (c.value_near-seen.ensures ∙ ap (find row_cmp row) c.entries-2.ensures ∙ sym (get-entries op.view row)) c.of-reading.result
     (c.of-reading.ensures ∙ ap (λ v. reading_at c.args.history.now row c.args.txn v c.is_some-listed.result) c.seen_in.ensures) in
     subst (Grows (where_fits (FitsVersions c.args.versions.now.items) g.S.EdgeSink.handed) c.args.sink.now c.add_reading.new.sink) all

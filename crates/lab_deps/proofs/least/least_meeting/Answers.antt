@@ -9,7 +9,7 @@ returns c =
     let a = c.args in
     let rows = c.deref.result.now in
     let same = sym c.deref.ensures.value in
-    subst (IsLeastRow (Meeting h a.kind a.installer a.reader)) (sym c.least_among.ensures)
+    subst (IsLeastRow (Meeting h a.kind a.installer a.reader)) (sym c.in_ok-row.ensures)
     (
     meeting_least h c.requires.placed a.kind a.installer a.reader c.requires.committed rows (subst (HasWritten h a.installer) same c.in_ok-rows.ensures.has)
     (subst (IsStrictlySortedBy row_cmp) same c.in_ok-rows.ensures.rises)

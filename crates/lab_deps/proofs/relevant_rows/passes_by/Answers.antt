@@ -4,12 +4,12 @@ use Rattle.lab_deps.specs.EdgesByRow.{is_steady}
 use Rattle.lab_deps.proofs.{SeenRows.{unlooked}, SteadyRows.{steady_row}}
 use Rattle.lab_deps.proofs.relevant_rows.passes_by.Goals as goal
 
-pub returns-then-is_steady-clause-nothing : goal.returns-then-is_steady-clause-nothing
-returns-then-is_steady-clause-nothing c = λ _ h n.
+pub returns-then-is_steady : goal.returns-then-is_steady
+returns-then-is_steady c = λ _ h n.
     steady_row h n c.args.op.now c.args.row c.args.versions.now (sym c.requires.listed ∙ c.if-listed.false) (subst (λ s. is_steady s c.args.row c.args.versions.now ≡ true) c.requires.asked (c.is_steady.ensures c.if-is_steady.true))
 
-pub returns-clause-nothing : goal.returns-clause-nothing
-returns-clause-nothing c = λ passed h n.
+pub returns : goal.returns
+returns c = λ passed h n.
     let op = c.args.op.now in
     let row = c.args.row in
     unlooked h n op row c.args.versions.now

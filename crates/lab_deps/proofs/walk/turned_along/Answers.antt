@@ -1,16 +1,16 @@
-use Rattle.std.proofs.{Common.{◌≡◌, ◌+◌, ◌∷◌, [], ◌++◌, not, Bool, cond, drop, sym, ap, ◌∙◌, subst, append_assoc, inl, inr}, lemmas.List.{append-nil, drop_all, drop_more}}
+use Rattle.std.proofs.{Common.{◌≡◌, ◌+◌, ◌∷◌, [], ◌++◌, not, Bool, true, cond, drop, sym, ap, ◌∙◌, subst, append_assoc, inl, inr}, lemmas.List.{append-nil, drop_all, drop_more}}
 use Rattle.std.specs.List.{list_all}
 use Rattle.lab_table.specs.Statement.{matches}
 use Rattle.lab_deps.{specs.{Edges.{differ}, Turns.{asked, states, turned}}, proofs.SteadyClasses.{steady_classes}}
 use Rattle.lab_deps.proofs.walk.turned_along.Goals as goal
 
-pub returns-then-are_steady : goal.returns-then-are_steady
-returns-then-are_steady c =
+pub returns-then-all_answer : goal.returns-then-all_answer
+returns-then-all_answer c =
     let f = matches c.args.statement.now c.args.row in
     let vs = c.args.versions.now in
     inr (c.clear.ensures.items,
       steady_classes f c.args.before vs
-      (subst (λ b. list_all (λ v. not (differ b (f v.value))) vs ≡ _) c.matches-first.ensures (sym c.are_steady.ensures ∙ c.if-are_steady.true)))
+      (subst (λ b. list_all (λ v. not (differ b (f v.value))) vs ≡ true) c.matches-first.ensures (c.all_answer.ensures c.if-all_answer.true)))
 
 pub loop-version-preserved : goal.loop-version-preserved
 loop-version-preserved c =

@@ -5,4 +5,4 @@ pub returns-then-self : goal.returns-then-self
 returns-then-self c _ row inexact = absurd (false≢true (sym inexact ∙ c.if-self.true))
 
 pub returns : goal.returns
-returns c is row _ x y = c.tests_values.ensures.blind (not-true c.tests_values.result is) row x y
+returns c is row _ x y = c.tests_values.ensures (not-true c.tests_values.result is) row x y
