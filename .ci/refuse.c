@@ -1,17 +1,19 @@
-/* Refuses allocations of memory, and counts threads: preloaded into a program, it stands before the C library's malloc,
- * realloc and pthread_create.
+/* Refuses memory allocations, and counts threads. Preloaded into a program, it replaces the C library's malloc, realloc and
+ * pthread_create.
  *
  * In the environment:
  *   REFUSE_AT=N         refuses the program's N-th allocation, once
  *   REFUSE_COUNT=K      refuses K allocations in a row from that one on; 0: all from it on
  *   REFUSE_LOG=FILE     each refusal adds a byte to this file
- *   REFUSE_DELAY=SEED   holds threads up at random at their allocations, so that they meet in other orders
+ *   REFUSE_DELAY=SEED   delays threads at random at their allocations, so that their order varies
+ *   LARGEST=BYTES       ends the program with SIGABRT, and a line on standard error, if one block is larger
  *   THREADS_LOG=FILE    each thread that starts adds a byte to this file
- * A test asks for a refusal by blocks of odd sizes, which without this library are ordinary blocks:
- *   MARK + n bytes, n > 0   from now on the n-th allocation is refused, once; MARK bytes: none is
- *   ASK bytes               refused where an allocation was refused since the last mark */
+ *   WORKERS_LOG=FILE    each thread that makes WORK allocations adds a byte to this file
+ * A test requests a refusal with blocks of special sizes, which without this library are ordinary blocks:
+ *   MARK + n bytes, n > 0   from now on the n-th allocation is refused, once; MARK bytes: none
+ *   ASK bytes               refused if an allocation was refused since the last mark */
 
-/* What is used of the C library, as Linux has it: the kit's compiler comes without its headers. */
+/* The parts of Linux's C library used here: the kit's compiler comes without its headers. */
 #define NULL ((void *)0)
 #define RTLD_NEXT ((void *)-1l)
 #define ENOMEM 12
@@ -30,30 +32,34 @@ int close(int);
 int nanosleep(const struct timespec *, struct timespec *);
 int sched_yield(void);
 void _exit(int) __attribute__((noreturn));
+void abort(void) __attribute__((noreturn));
 #define errno (*__errno_location())
 
-/* Threads share the numbers below. */
+/* Threads share the variables below. */
 #define LOAD(x) __atomic_load_n(&(x), __ATOMIC_SEQ_CST)
 #define STORE(x, new) __atomic_store_n(&(x), new, __ATOMIC_SEQ_CST)
 #define REPLACE(x, old, new) __atomic_compare_exchange_n(&(x), &(old), new, 1, __ATOMIC_SEQ_CST, __ATOMIC_SEQ_CST)
 
 #define MARK 5000011ul
 #define ASK 5100003ul
-/* The longest that a thread is held up. */
+/* The longest delay of a thread. */
 #define NANOSECONDS 200000
+/* A thread that makes so many allocations does some work. */
+#define WORK 1000
 
 static void *(*next_malloc)(size_t);
 static void *(*next_realloc)(void *, size_t);
-/* A thread's handle is a number, and its attributes are handed on unread. */
+/* A thread's handle is a number, and its attributes are passed on. */
 typedef int (*creator)(unsigned long *, const void *, void *(*)(void *), void *);
 static creator next_create;
 static long to_last;  /* allocations up to the last refused one; 0: none is refused */
-static long in_a_row; /* so many of them are refused */
-static int endless;   /* there is no last one: it is refused again and again */
+static long in_a_row; /* the number of refused ones */
+static int endless;   /* there is no last one: all further ones are refused */
 static long refusals;
-static unsigned long draws; /* the state of the delays' generator; 0: nothing is held up */
+static unsigned long largest; /* 0: blocks of any size */
+static unsigned long draws; /* the state of the generator of delays; 0: no delays */
 
-/* Refuses so many allocations from the n-th on, or all from there on where `count` is 0. */
+/* Refuses `count` allocations from the n-th on, or all from there on if `count` is 0. */
 static void arm(long n, long count) {
     long more = count ? count : 1;
     STORE(to_last, 0);
@@ -68,11 +74,12 @@ __attribute__((constructor)) static void start(void) {
     next_realloc = (void *(*)(void *, size_t))dlsym(RTLD_NEXT, "realloc");
     next_create = (creator)dlsym(RTLD_NEXT, "pthread_create");
     if (at) arm(atol(at), count ? atol(count) : 1);
-    /* A factor sets small seeds far apart; a state of 0 would stay 0. */
+    if (getenv("LARGEST")) STORE(largest, strtoul(getenv("LARGEST"), NULL, 10));
+    /* A factor spreads small seeds; a state of 0 would stay 0. */
     if (seed) STORE(draws, (strtoul(seed, NULL, 10) * 0x9e3779b97f4a7c15ul) | 1ul);
 }
 
-/* Adds a byte to the file that a word of the environment names, if it does. */
+/* Adds a byte to the file that an environment variable names, if it is set. */
 static void note(const char *word) {
     const char *log = getenv(word);
     int file = log ? open(log, O_WRONLY | O_APPEND) : -1;
@@ -82,7 +89,22 @@ static void note(const char *word) {
     }
 }
 
-/* Counts an allocation, and says whether it is a refused one. */
+/* Ends the program if a block is larger than the largest allowed. */
+static void look_at(size_t size) {
+    static const char why[] = "refuse: a block is larger than LARGEST\n";
+    if (LOAD(largest) && size > LOAD(largest)) {
+        if (write(2, why, sizeof why - 1) < 0) _exit(99);
+        abort();
+    }
+}
+
+/* Counts the allocations of this thread, and notes that it works at the WORK-th. */
+static void count_work(void) {
+    static __thread long made;
+    if (++made == WORK) note("WORKERS_LOG");
+}
+
+/* Counts an allocation, and returns whether to refuse it. */
 static int is_refused(void) {
     long left = LOAD(to_last);
     while (left > 0) {
@@ -109,7 +131,7 @@ static unsigned long draw(void) {
     return next;
 }
 
-/* Now and then lets other threads run, or waits a little. */
+/* Sometimes lets other threads run, or waits a little. */
 static void hold_up(void) {
     unsigned long drawn;
     int error = errno;
@@ -132,12 +154,16 @@ void *malloc(size_t size) {
         return next_malloc(16);
     }
     if (size == ASK) return LOAD(refusals) ? NULL : next_malloc(16);
+    look_at(size);
+    count_work();
     hold_up();
     return is_refused() ? NULL : next_malloc(size);
 }
 
 void *realloc(void *block, size_t size) {
     if (!next_realloc) start();
+    look_at(size);
+    count_work();
     hold_up();
     return is_refused() ? NULL : next_realloc(block, size);
 }

@@ -1,8 +1,8 @@
-"""What the scripts here share: the program, and building others.
+"""Shared by the scripts here: the path of the program, and building other programs.
 
-Programs of the bench are NAME.rattle here. They are no crates of crates.txt, so each is proved and built in a folder of
-its own, over the libraries of the product; those without rt's stamp of an earlier build, as the gate leaves them, are
-proved again first."""
+The programs of the bench are the files NAME.rattle here. They aren't in crates.txt, so each is proved and built in a
+separate folder, over the libraries of the product. Libraries without rt's stamp of an earlier build, as the gate leaves
+them, are proved again first."""
 import os
 import shutil
 import subprocess
@@ -12,7 +12,7 @@ TOP = os.path.dirname(os.path.dirname(os.path.realpath(__file__)))
 
 
 def product():
-    """The path of the program itself, which is built first where none is built from the sources as they stand."""
+    """The path of the program, which is built first if none was built from the present sources."""
     subprocess.run([f"{TOP}/hermitage_lab", "--help"], stdin=subprocess.DEVNULL, stdout=subprocess.DEVNULL, check=True)
     return subprocess.run([f"{TOP}/programs/find"], stdout=subprocess.PIPE, text=True, check=True).stdout.strip()
 
@@ -21,7 +21,7 @@ PROGRAM = product()
 
 
 def below(names, over):
-    """These crates and all that are below them."""
+    """These crates and all their dependencies."""
     found = set(names)
     for name in names:
         found |= below([it for it in over[name].split() if it in over], over)
@@ -29,10 +29,10 @@ def below(names, over):
 
 
 def build(name, crates, kit=""):
-    """Proves and builds a program over hard links of these libraries of the product, and these of the kit. Answers its
+    """Proves and builds a program over hard links of these libraries of the product, and these of the kit. Returns its
     path."""
     with open(f"{TOP}/crates.txt", encoding="ascii") as it:
-        over = dict(line.strip().split(":", 1) for line in it if ":" in line)
+        over = dict(line.strip().split(":", 1) for line in it if ":" in line and not line.startswith("#"))
     room = f"{TOP}/crates/hermitage_lab/out/bench/{name}"
     own, used = f"{room}/crates/{name}", below(crates, over)
     os.makedirs(f"{own}/src", exist_ok=True)

@@ -1,12 +1,12 @@
-"""The shapes of bench/histories.py whose writers set all values to 0 or to 1, which each select looks for."""
+"""The shapes of bench/histories.py whose writers set all values to 0 or to 1, which the selects test."""
 from picks import numbers
 from recorder import IDS, Recorder, everything, named, seen_at_first, zeros
 
 
 def flipped(part, is_no, writers, rows, readers, selects, condition, readers_first=False):
-    """Writers that each set the value of so many rows from 0 to 1, or back, and readers of so many selects each, between
-    the writers or before them all. A condition gives the test of the n-th select: its text, and what it is of a row and
-    its value. In the no the last writer sees a row as it was at first."""
+    """This many writers that each set the value of this many rows from 0 to 1, or back, and readers of this many selects
+    each, between the writers or before them all. `condition` gives the test of the n-th select: its text, and the test
+    itself for a row and its value. In the no, the last writer sees a row as it was at first."""
     writers, readers, ids, place = writers // part, readers // part, range(1, rows + 1), 0
     count = writers + readers
     it = Recorder(zeros(rows), seen_at_first(is_no, count if readers_first else count - 1, named([1])))
@@ -49,7 +49,7 @@ def flips(part, is_no):
 
 
 def bounds(part, is_no):
-    """The same, each select with a bound of its own."""
+    """The same, each select with its own bound."""
     return flipped(part, is_no, 500, 10, 500, 10, by_value_below)
 
 
@@ -61,10 +61,10 @@ def shuffled(part, is_no):
 
 
 def unlike(part, is_no):
-    """9,380 selects, no two alike, that list nothing, and behind them 330 writers of 100 rows."""
+    """9,380 selects, no two alike, that return nothing, and after them 330 writers of 100 rows."""
     return flipped(part, is_no, 330, 100, 670, 14, one_below, readers_first=True)
 
 
 def hostile(part, is_no):
-    """934 selects that list nothing, and behind them 66 writers of 1,000 rows: 62 million dependencies by row."""
+    """934 selects that return nothing, and after them 66 writers of 1,000 rows: 62 million dependencies by row."""
     return flipped(part, is_no, 66, IDS, 934, 1, one, readers_first=True)

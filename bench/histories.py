@@ -1,8 +1,8 @@
 """The histories that bench/judge measures, made by rule: shapes, each as a yes and as a no, at two sizes.
 
-A shape is called with the part of the limits that it takes, 1 for all or 2 for half, and with whether it is to be a no.
-The transactions of a yes run one after another. In a no some of them see rows as they were at first, whoever has written
-them since, so that dependencies lead round."""
+A shape's function gets the divisor of the limits, 1 for all or 2 for half, and whether the history must be a no. The
+transactions of a yes run one after another. In a no, some of them see rows as they were at first, although others have
+written them since, so the dependencies form cycles."""
 from functools import partial
 
 from flips import bounds, flips, hostile, shuffled, unlike
@@ -29,7 +29,7 @@ def last_digits(rows, table="test"):
 
 
 def chain(part, is_no):
-    """1,000 updates of one row, each in a transaction of its own. In the no the last one misses all others."""
+    """1,000 updates of one row, each in its own transaction. In the no, the last one misses all others."""
     count = TRANSACTIONS // part
     it = Recorder(table_of({1: 10}), seen_at_first(is_no, count, named([1])))
     for _ in range(count):
@@ -40,8 +40,8 @@ def chain(part, is_no):
 
 
 def ring(part, is_no):
-    """1,000 transactions, each of which reads the row that the one before it wrote, and writes one of its own; the last
-    one reads a row besides that the first one wrote. In the no it sees that row as it was at first."""
+    """1,000 transactions, each of which reads the row that the one before it wrote, and writes another one; the last one
+    also reads a row that the first one wrote. In the no, it sees that row as it was at first."""
     count = TRANSACTIONS // part
     it = Recorder(zeros(count), seen_at_first(is_no, count, named([count])))
     for number in range(1, count + 1):
@@ -59,7 +59,7 @@ def ring(part, is_no):
 
 
 def rounds(writers, rows, part, is_no):
-    """Writers that each update all rows, and a reader behind them. In the no that sees a row as it was at first."""
+    """Writers that each update all rows, and a reader after them. In the no, it sees a row as it was at first."""
     count, every = writers // part, range(1, rows + 1)
     it = Recorder(zeros(rows), seen_at_first(is_no, count + 1, named([2])))
     for _ in range(count):
@@ -74,7 +74,7 @@ def rounds(writers, rows, part, is_no):
 
 
 def lost(part, is_no):
-    """1,000 updates of 66 rows each. In the no the last one misses what all others made of the last row."""
+    """1,000 updates of 66 rows each. In the no, the last one misses all others' changes of the last row."""
     count, rows = TRANSACTIONS // part, 66
     it = Recorder(zeros(rows), seen_at_first(is_no, count, named([rows])))
     for _ in range(count):
@@ -85,8 +85,8 @@ def lost(part, is_no):
 
 
 def points(part, is_no):
-    """1,000 transactions of ten operations on one row each, of 1,000. In the no the last one sees all rows as they were at
-    first."""
+    """1,000 transactions of ten operations on one row each, of 1,000. In the no, the last one sees all rows as they were
+    at first."""
     count, initial = TRANSACTIONS // part, last_digits(IDS)
     it, pick = Recorder(initial, seen_at_first(is_no, count, initial)), numbers()
     for _ in range(count):
@@ -99,7 +99,7 @@ def points(part, is_no):
 
 
 def tables(part, is_no):
-    """The same over four tables with long names, of 250 rows each: each operation on a row of one of them."""
+    """The same over four tables with long names, of 250 rows each; each operation uses a row of one table."""
     count, rows = TRANSACTIONS // part, IDS // len(TABLES)
     initial = {row: value for name in TABLES for row, value in last_digits(rows, name).items()}
     it, pick = Recorder(initial, seen_at_first(is_no, count, initial)), numbers()
@@ -113,8 +113,8 @@ def tables(part, is_no):
 
 
 def ranges(part, is_no):
-    """1,000 transactions, each of nine selects by ranges of ids and an update of a row. In the no all of them see the rows
-    as they were at first, so that there is write skew all over; as no version is listed, ranges are twice as wide."""
+    """1,000 transactions, each of nine selects by ranges of ids and an update of a row. In the no, all of them see the
+    rows as they were at first, so write skew is everywhere; since views are empty, ranges are twice as wide."""
     count, span = TRANSACTIONS // part, 20 if is_no else 10
     initial = zeros(IDS)
     it, pick = Recorder(initial, dict.fromkeys(range(1, count + 1), initial) if is_no else {}), numbers()
@@ -130,8 +130,8 @@ def ranges(part, is_no):
 
 
 def wide(part, is_no):
-    """200,000 entries: updates of a tenth of 1,000 rows each, and selects of all rows. In the no the last one sees a row as
-    it was at first."""
+    """200,000 entries: updates of a tenth of 1,000 rows each, and selects of all rows. In the no, the last one sees a row
+    as it was at first."""
     every, selects = range(1, IDS + 1), 96 // part
     it = Recorder(last_digits(IDS), seen_at_first(is_no, 10 + selects, named([1])))
     for last in range(10):
@@ -147,8 +147,8 @@ def wide(part, is_no):
 
 
 def reborn(part, is_no):
-    """10,000 deletes and inserts of the same rows; a third of the transactions aborts. In the no the last one that commits
-    sees all rows as they were at first."""
+    """10,000 deletes and inserts of the same rows; a third of the transactions aborts. In the no, the last one that
+    commits sees all rows as they were at first."""
     count, initial = TRANSACTIONS // part, table_of({row: row for row in range(1, 11)})
     last = max(number for number in range(count) if number % 3)
     it, pick = Recorder(initial, seen_at_first(is_no, last + 1, initial)), numbers()
@@ -165,7 +165,7 @@ def reborn(part, is_no):
 
 
 def worst(part, is_no):
-    """500 transactions that update ten rows, and between them 500 of ten selects whose predicates differ. In the no the
+    """500 transactions that update ten rows, and between them 500 of ten selects whose predicates differ. In the no, the
     last update sees a row as it was at first."""
     rows, count = range(1, 11), TRANSACTIONS // part
     it = Recorder(table_of({row: row for row in rows}), seen_at_first(is_no, count - 1, named([1])))
@@ -183,8 +183,8 @@ def worst(part, is_no):
 
 
 def lists(part, is_no):
-    """9,600 selects, each by a long list of numbers of its own. In the no an update of two rows stands before them, and
-    what reads one of them new and one as it was at first behind them."""
+    """9,600 selects, each with its own long list of numbers. In the no, an update of two rows comes before them, and
+    after them a transaction reads one of these rows new and one as it was at first."""
     count = 960 // part
     initial = table_of({row: row for row in range(1, IDS + 1)})
     it, pick = Recorder(initial, seen_at_first(is_no, count + 2, named([2]))), numbers()
@@ -210,8 +210,8 @@ def lists(part, is_no):
 
 
 def selects(part, is_no):
-    """9,200 selects by a range of values over 1,000 rows, each of which lists twenty, an update of two rows, and what reads
-    these. In the no that sees one of the two as it was at first."""
+    """9,200 selects by a range of values over 1,000 rows, each of which returns twenty, an update of two rows, and a
+    reader of these. In the no, it sees one of the two as it was at first."""
     count, every = 920 // part, range(1, IDS + 1)
     initial = table_of({row: row * 7_919 % IDS for row in every})
     it, pick = Recorder(initial, seen_at_first(is_no, count + 2, named([2]))), numbers()
@@ -246,7 +246,7 @@ SHAPES = {shape.__name__: (shape, 1) for shape in IN_VERSION_1} | {
     "rounds_999": (partial(rounds, 999, 60), 2),
     "lost": (lost, 2),
 }
-# Each history by its name: what makes it, and of which version its file is.
+# Each history by its name: its function, and the version of its file.
 HISTORIES = {
     shape + ("_no" if is_no else "") + ("_half" if part == 2 else ""): (partial(make, part, is_no), version)
     for shape, (make, version) in SHAPES.items()

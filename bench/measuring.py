@@ -1,4 +1,4 @@
-"""What the scripts that measure histories share: choosing and making them, and running a program on one."""
+"""Shared by the scripts that measure histories: selecting and making them, and running a program on one."""
 import multiprocessing
 import os
 import subprocess
@@ -8,7 +8,7 @@ from histories import HISTORIES, write
 
 
 def run(words, file, output):
-    """The processor milliseconds and the MiB that one run of a program takes."""
+    """The processor milliseconds and the MiB of one run of a program."""
     with open(file, "rb") as given, open(output, "wb") as taken:
         started = subprocess.Popen(words, stdin=given, stdout=taken)
         _, status, used = os.wait4(started.pid, 0)
@@ -19,7 +19,7 @@ def run(words, file, output):
 
 
 def chosen(names):
-    """The histories of these names, and those whose names go on behind one; all of them where there is no name."""
+    """The histories of these names, and those whose names continue one; all of them without names."""
     found = [it for it in HISTORIES if not names or any(it == name or it.startswith(f"{name}_") for name in names)]
     if not found:
         sys.exit(f"bench: no history {' '.join(names)}; there are {' '.join(HISTORIES)}")
@@ -27,8 +27,7 @@ def chosen(names):
 
 
 def made(name, file):
-    """Writes a history, in a process of its own, so that this one stays small: a child's peak counts from its parent's
-    size."""
+    """Writes a history, in a separate process, so that this one stays small: a child's peak starts at its parent's size."""
     maker = multiprocessing.Process(target=write, args=(name, file))
     maker.start()
     maker.join()

@@ -1,4 +1,4 @@
-//! Reads a file into a value of serde_json, and says whether it is an object.
+//! Reads a file into a value of serde_json, and prints whether it is an object.
 
 fn main() {
     let path = std::env::args().nth(1).expect("the path of a file");

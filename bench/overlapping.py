@@ -1,5 +1,5 @@
-"""The histories that bench/shrink measures: transactions by the rules of each engine at the limits, with an update that is
-lost and write skew, and records with a fault."""
+"""The histories that bench/shrink measures: transactions by the rules of each engine at the limits, with a lost update
+and with write skew, and records with a fault."""
 from functools import partial
 
 from picks import numbers
@@ -9,8 +9,8 @@ ROWS, SESSIONS = 100, 8
 
 
 class Stale(Recorder):
-    """Transactions that run one after another, as locks have it, but for some that see rows as they were before the one
-    right before them: `stale` has these rows by the transaction's number."""
+    """Transactions that run one after another, as with locks, except that some see rows as they were before the
+    transaction right before them: `stale` has these rows by the transaction's number."""
 
     def __init__(self, initial, stale):
         super().__init__(initial)
@@ -28,8 +28,8 @@ class Stale(Recorder):
 
 
 class Sessions:
-    """Transactions that take turns, at committed or on snapshots. `log` has each row's committed versions, the last one
-    last: how many transactions had committed then, the value, and the version's name."""
+    """Transactions that alternate, on committed or snapshot. `log` has each row's committed versions, the last one last:
+    how many transactions had committed then, the value, and the version's name."""
 
     def __init__(self, is_snapshot):
         self.is_snapshot, self.commits = is_snapshot, 0
@@ -48,7 +48,7 @@ class Sessions:
         return there[-1][1:]
 
     def run(self, txn, row, is_update):
-        """A select or an update of one row, which sees its own writes besides."""
+        """A select or an update of one row, which also sees its transaction's writes."""
         saw = {it: self.seen(txn, it) for it in {row, *txn["own"]}}
         view = [[*it, *name] for it, (_, name) in sorted(saw.items()) if name]
         value, place = saw[row][0], len(txn["ops"]) + 1
@@ -61,7 +61,7 @@ class Sessions:
             txn["own"][row] = value + 1, (txn["no"], place)
 
     def end(self, txn):
-        """Commits, or aborts on snapshots where another one has committed a version of a row since the begin."""
+        """Commits, or aborts on snapshot if another transaction has committed a version of a row since the begin."""
         is_late = self.is_snapshot and any(self.log[row][-1][0] > txn["since"] for row in txn["own"])
         txn["outcome"] = "aborted" if is_late else "committed"
         if not is_late:
@@ -71,7 +71,7 @@ class Sessions:
                 self.installed.setdefault(row, []).append(txn["no"])
 
     def history(self):
-        """As a recorder that writes a file."""
+        """The same as a recorder that writes a file."""
         made = Recorder({row: 0 for row in self.log})
         made.transactions = [{key: txn[key] for key in ("no", "outcome", "ops")} for txn in self.transactions]
         made.installed, made.entries = self.installed, self.entries
@@ -80,8 +80,8 @@ class Sessions:
 
 
 def side_by_side(is_snapshot, count, each):
-    """So many transactions of so many operations each, by eight sessions, over 100 rows; two in five are updates, each of a
-    row that no other one has pending."""
+    """This many transactions of this many operations each, by eight sessions, over 100 rows; two in five are updates,
+    each of a row of which no other transaction has a pending version."""
     it, pick, active, done = Sessions(is_snapshot), numbers(), [], 0
     while done < count:
         if len(active) < SESSIONS and done + len(active) < count:
@@ -99,8 +99,8 @@ def side_by_side(is_snapshot, count, each):
 
 
 def by_locks(stale, count, each):
-    """So many transactions, one after another; in the middle two that meet at rows 1 and 2, of which the second one sees
-    rows as they were before the first one: an update that is lost, or write skew."""
+    """This many transactions, one after another; in the middle two that interact at rows 1 and 2, of which the second
+    sees rows as they were before the first: a lost update, or write skew."""
     first = count // 2
     it, pick = Stale(zeros(ROWS), {first + 1: stale} if stale else {}), numbers()
     for number in range(1, count + 1):
@@ -110,7 +110,7 @@ def by_locks(stale, count, each):
             for row in (1, 2):
                 it.run(f"select * from test where id = {row}", [row], everything, None)
             if len(stale) == 1 and number > first:
-                # the update finds what the other one wrote
+                # the update matches the other one's write
                 it.stale = {}
             it.run(f"update test set value = value + 1 where id = {own}", [own], everything, lambda old: old + 1)
         for _ in range(each - len(it.operations)):
@@ -122,7 +122,7 @@ def by_locks(stale, count, each):
 
 
 def with_fault(kind, count, each):
-    """The same without stale rows, and one fault in the middle or at the end."""
+    """The same without stale rows, with one fault in the middle or at the end."""
     it = by_locks((), count, each)
     middle = it.transactions[count // 2]["ops"]
     if kind == "F1":

@@ -1,6 +1,6 @@
-//! Judges a history as a plain program does: reads the file into a value of serde_json, compares what each statement of a
-//! committed transaction lists and writes with what it saw, walks along the versions of each row for dependencies, and
-//! looks for cycles. It prints the first two words of each line of a report, and no order, place or cycle.
+//! A plain judge: reads the file into a value of serde_json, compares what each statement of a committed transaction
+//! returned and wrote with what it saw, walks along the versions of each row for dependencies, and looks for cycles. It
+//! prints the first two words of each line of a report, and no order, timestamp or cycle.
 
 use lab::grammar::Parser;
 use lab::history::{History, Names, Op, Txn};
@@ -37,7 +37,7 @@ impl Reader {
         })
     }
 
-    /// The row of a member, and what stands behind its name.
+    /// The row of a member, and the rest of the member.
     fn row<'a>(&mut self, member: &'a Value) -> (Row, &'a [Value]) {
         let parts = list(member);
         let (name, parts) = match parts[0].as_str() {
@@ -81,7 +81,7 @@ impl Reader {
         }
     }
 
-    /// A row, and the numbers of those who installed its versions.
+    /// A row, and the numbers of the transactions that installed its versions.
     fn installed(&mut self, member: &Value) -> (usize, Vec<usize>) {
         let (row, rest) = self.row(member);
         (

@@ -1,7 +1,7 @@
 //! Plays the script of standard input as `hermitage_lab run --engine ENGINE [--history]` does, without proofs. With
-//! `--history` its standard output is the same; without, it prints the log, and of the report the first two words of each
-//! line: no order, place or cycle. With `--log` it prints the log and judges nothing. Left out are the other options, the
-//! hints on standard error, and answers to wrong words.
+//! `--history`, its standard output is the same; without it, it prints the log and the first two words of each line of the
+//! report: no order, timestamp or cycle. With `--log`, it prints the log and judges nothing. Other options, hints and
+//! messages about wrong arguments are left out.
 
 use lab::engine::{Engine, Level};
 use lab::log::write_log;
@@ -14,7 +14,7 @@ use std::process::ExitCode;
 
 const FILE_BYTES: usize = 8 << 20;
 
-/// What is printed of a play.
+/// Which output of a play is printed.
 #[derive(Clone, Copy, PartialEq)]
 enum Form {
     Report,
@@ -32,7 +32,7 @@ fn level_of(engine: &str) -> Option<Level> {
     }
 }
 
-/// The engine that is asked for, and what of its play.
+/// The engine that was asked for, and the output.
 fn asked() -> Option<(Level, Form)> {
     let words: Vec<String> = std::env::args().skip(1).collect();
     let words: Vec<&str> = words.iter().map(String::as_str).collect();
@@ -44,7 +44,7 @@ fn asked() -> Option<(Level, Form)> {
     }
 }
 
-/// The history file of a play, or why there is none.
+/// The history file of a play, or the reason why there is none.
 fn file(engine: &Engine, tables: &[String]) -> Result<Vec<u8>, String> {
     match history_file(engine, tables) {
         Ok(bytes) if bytes.len() <= FILE_BYTES => Ok(bytes),
@@ -52,7 +52,7 @@ fn file(engine: &Engine, tables: &[String]) -> Result<Vec<u8>, String> {
     }
 }
 
-/// The play of a script, or why there is none.
+/// The play of a script, or the reason why there is none.
 fn played(script: &Script, level: Level) -> Result<Engine<'_>, String> {
     let engine = play(script, level).ok_or("play: Full")?;
     match over_limit(&engine) {
@@ -61,7 +61,7 @@ fn played(script: &Script, level: Level) -> Result<Engine<'_>, String> {
     }
 }
 
-/// What is printed, or the line of a fault.
+/// The output, or the line of a fault.
 fn answer(text: &[u8], level: Level, form: Form) -> Result<Vec<u8>, String> {
     let script = parse_script(text).map_err(|it| format!("line {}: {:?}", it.line, it.kind))?;
     let engine = played(&script, level)?;

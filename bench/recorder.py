@@ -1,6 +1,8 @@
-"""Makes histories: what transactions see, list and write that run one after another, or that see rows of before.
+"""Makes histories of transactions that run one after another, or that see rows as they were earlier: what they see, return
+and write.
 
-The file of a history is of version 1 or 2, as docs/FORMATS.md has them; over tables other than `test` it is of version 2."""
+The file of a history is of version 1 or 2, as docs/FORMATS.md defines them; over tables other than `test` it is of version
+2."""
 import json
 
 TRANSACTIONS = 1_000
@@ -38,9 +40,9 @@ def in_version(version, rows):
 
 
 class Recorder:
-    """A history of transactions that run one after another: what each operation saw, listed and wrote. Each operation is
-    over the rows of one table. `past` has, by numbers of transactions, rows that these see as they were at first, whoever
-    has written them since."""
+    """A history of transactions that run one after another: what each operation saw, returned and wrote. Each operation
+    uses rows of one table. `past` has, by numbers of transactions, rows that these see as they were at first, although
+    others have written them since."""
 
     def __init__(self, initial, past=None):
         self.initial = dict(initial)
@@ -48,7 +50,7 @@ class Recorder:
         self.installed = {}
         self.transactions = []
         self.entries = 0
-        # what is committed: a row's value (None where it is absent) and the version's name, the initial one unnamed
+        # the committed state: a row's value (None if it is absent) and the version's name, None for the initial one
         self.states = {row: (value, None) for row, value in initial.items()}
 
     def begin(self):
@@ -61,8 +63,8 @@ class Recorder:
         return self.own.get(row) or self.first.get(row) or self.states.get(row, (None, None))
 
     def run(self, statement, touched, lists, new, table="test"):
-        """An operation that sees the rows of these numbers and its own. It lists and writes those that are there and
-        chosen by number and value, or writes an absent one where it lists none; `new` gives the value."""
+        """An operation that sees the rows of these numbers and its transaction's own. It returns and writes those that
+        are present and chosen by number and value, or writes an absent one if it returns none; `new` gives the value."""
         touched = named(sorted(touched), table)
         seen = {row: self.state(row[1], row[0]) for row in {*touched, *self.own}}
         view = [[*row, *name] for row, (_, name) in sorted(seen.items()) if name]
@@ -85,7 +87,7 @@ class Recorder:
         self.transactions.append({"no": number, "outcome": outcome, "ops": self.operations})
 
     def renumber(self, numbers):
-        """Gives each transaction the number that follows its own in this list's place, and puts them in that order."""
+        """Gives each transaction the number after its own position in this list, and puts them in that order."""
         to = dict(enumerate(numbers, 1))
         for txn in self.transactions:
             txn["no"] = to[txn["no"]]

@@ -1,4 +1,4 @@
-"""The scripts that bench/run and bench/native play, made by rule: sessions that take turns; and the engines."""
+"""The scripts that bench/run and bench/native play, made by rule: sessions that alternate; and the engines."""
 from picks import numbers
 
 ENGINES = ("locking", "committed", "snapshot", "optimistic")
@@ -12,7 +12,7 @@ def setup(rows):
 
 
 def script(rows, statement, length):
-    """Sessions that take turns, each in transactions of so many statements; two in three commit."""
+    """Sessions that alternate, each in transactions of this many statements; two in three commit."""
     inside, lines, pick = [0] * SESSIONS, [], numbers()
     while len(lines) < COMMANDS:
         session = len(lines) % SESSIONS
@@ -28,7 +28,7 @@ def script(rows, statement, length):
 
 
 def point(updates):
-    """A read of one row, or one time in so many an update of it."""
+    """A read of one row, or one time in this many an update of it."""
 
     def statement(pick, rows):
         row = next(pick) % rows + 1
@@ -40,15 +40,15 @@ def point(updates):
 
 
 def wide(pick, rows):
-    """A select by value, now and then an update of a few rows."""
+    """A select by value, sometimes an update of a few rows."""
     if next(pick) % 64:
         return f"select * from test where value % 7 = {next(pick) % 7}"
     return f"update test set value = value + 1 where value % 97 = {next(pick) % 97}"
 
 
 def held(waiting, rows=380):
-    """One session holds most rows of a setup, and so many wait for the last of them by a condition; two others meanwhile
-    read other rows, one by one, and where nobody waits update them, in transactions of ten statements."""
+    """One session holds most rows of a setup, and this many wait for the last of them by a condition. Two others
+    meanwhile read other rows, one by one, and update those for which nobody waits, in transactions of ten statements."""
     last = rows - 80
     lines = [setup(rows), "begin; -- T1", f"update test set value = value + 1 where id <= {last}; -- T1"]
     for session in range(2, 2 + waiting):

@@ -1,4 +1,4 @@
-"""Bundles of consecutive files, each the work of one task. What is said of them goes by numbers, and gets names here."""
+"""Bundles of consecutive files, each the work of one task. Results refer to files by number; names are restored here."""
 import json
 import os
 import pickle
@@ -7,30 +7,30 @@ import zlib
 from collections import deque
 from concurrent.futures import ThreadPoolExecutor
 
-FILES, BYTES = 512, 4_000_000  # of a bundle: it is full when it has as many
-AHEAD = 4  # bundles that are packed before they are asked for
-MOST_BYTES = 8 * 1024 * 1024  # of a history; the program refuses one of a byte more, whatever stands behind
-SMALL = 1 << 16  # bytes of most files, which are read without room for the longest
-SHOWN = 200  # bytes of a name, on standard error
+FILES, BYTES = 512, 4_000_000  # a bundle with this many is full
+AHEAD = 4  # bundles that are packed in advance
+MOST_BYTES = 8 * 1024 * 1024  # the longest history; the program refuses a longer one after one more byte
+SMALL = 1 << 16  # most files are smaller, and are read without a buffer for the longest
+SHOWN = 200  # bytes of a name on standard error
 HEAD, MEMBER, TOLD = (
     re.compile(pattern, re.M) for pattern in (rb"^== (\d+)$", rb'"(file|first)":"(\d+)"', rb"^(\d+): (.*)$")
 )
 
 
 def shown(name):
-    """A name as the program has it on standard error."""
+    """A name as the program prints it on standard error."""
     printable = re.sub(rb"[^ -~]", b"?", name)
     return printable if len(printable) <= SHOWN else printable[:SHOWN] + b".."
 
 
 def quoted(name):
-    """A name as a string of JSON, as the program writes it."""
+    """A name as a JSON string, as the program writes it."""
     return json.dumps(name.decode(), ensure_ascii=False).encode()
 
 
 class Bundle:
-    """Consecutive files: their names, and what workers get of each: its text, its path, or None where it can't be read,
-    which is said in `reasons`."""
+    """Consecutive files: their names, and what workers get for each: its text, its path, or None if it can't be read;
+    `reasons` says why."""
 
     def __init__(self, names, files, reasons):
         self.names, self.files, self.reasons, self.packed = names, files, reasons, None
@@ -40,18 +40,18 @@ class Bundle:
         return self
 
     def singles(self):
-        """Bundles of one file each."""
+        """Yields bundles of one file each."""
         for place, (name, file) in enumerate(zip(self.names, pickle.loads(zlib.decompress(self.packed)))):
             reasons = {0: self.reasons[place]} if place in self.reasons else {}
             yield Bundle([name], [file], reasons).pack()
 
     def named(self, out):
-        """What the program wrote, with the names of the files in place of their numbers."""
+        """The program's output, with the files' numbers replaced by their names."""
         out = HEAD.sub(lambda found: b"== " + self.names[int(found[1])], out)
         return MEMBER.sub(lambda found: b'"%s":%s' % (found[1], quoted(self.names[int(found[2])])), out)
 
     def told(self, err):
-        """What the program wrote to standard error; why a file can't be read is said as it was seen here."""
+        """The program's standard error, with names; the reason for an unreadable file is the one found here."""
         return TOLD.sub(lambda found: self.line(int(found[1]), found[2]), err)
 
     def line(self, place, text):
@@ -68,7 +68,7 @@ def by_text(name):
 
 
 def by_path(name):
-    """The path of a file, and its size as far as it is known here: workers may have files that aren't."""
+    """The path of a file, and its size, or 0 if it exists only on the workers."""
     try:
         size = os.path.getsize(name)
     except OSError:
@@ -77,7 +77,7 @@ def by_path(name):
 
 
 def reason(why):
-    """Why a file can't be read, in the program's words."""
+    """Why a file can't be read, as the program prints it."""
     if isinstance(why, ValueError):
         return b"it can't be opened: file name contained an unexpected NUL byte"
     if isinstance(why, IsADirectoryError):
@@ -86,8 +86,7 @@ def reason(why):
 
 
 def bundles(names, look, least):
-    """The bundles of these files, in their order, at least so many where there are as many files. `look` is by_text or
-    by_path."""
+    """The bundles of these files, in order: at least `least`, if there are as many files. `look` is by_text or by_path."""
     most = min(FILES, -(-len(names) // least))
     taken, files, reasons, size = [], [], {}, 0
     for name in names:
@@ -107,7 +106,7 @@ def bundles(names, look, least):
 
 
 def packed(made):
-    """The same bundles, packed: some ahead, each in a thread, since that takes longer than all else that is done here."""
+    """The same bundles, packed: some in advance, in threads, since packing takes longer than everything else here."""
     with ThreadPoolExecutor(AHEAD) as pool:
         begun = deque()
         for bundle in made:

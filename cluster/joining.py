@@ -1,14 +1,14 @@
-"""What `chain` says of consecutive bundles of a run's parts, joined by the program itself."""
+"""The results of `chain` for consecutive bundles of a run's parts, joined by the program itself."""
 import os
 import subprocess
 
 from words import Stop
 
-MOST = 100  # answers that are kept; joining is associative, so many are as good as one
+MOST = 100  # results that are kept; joining is associative, so they can be joined at any time
 
 
 class Joining:
-    """The answers so far, in files of a folder."""
+    """The results so far, in files of a folder."""
 
     def __init__(self, program, room):
         self.program, self.room, self.paths, self.count = program, room, [], 0
@@ -20,7 +20,7 @@ class Joining:
             file.write(answer)
 
     def add(self, answer):
-        """Adds the answer of the next bundle."""
+        """Adds the result of the next bundle."""
         if len(self.paths) == MOST:
             joined = self.joined(["--json"]).stdout
             for path in self.paths:
@@ -30,14 +30,14 @@ class Joining:
         self.keep(answer)
 
     def joined(self, words):
-        """How the program ends that joins them, by these words; where there are none, it has a run without parts."""
+        """Runs the program that joins the results, with these arguments. Without results, it gets a run without parts."""
         ended = self.ran(*words, *(["--join", *self.paths] if self.paths else ["--files-from", os.devnull]))
         if ended.returncode not in range(4):
             raise Stop(f"the program that joins answers ended with {ended.returncode}: {ended.stderr.decode()}")
         return ended
 
     def unread(self):
-        """The answer of a part that can't be read: nobody has a file of this name there."""
+        """The result for an unreadable part: no file in the folder has this name."""
         return self.ran("--json", "0").stdout.splitlines(keepends=True)[-1]
 
     def ran(self, *words):

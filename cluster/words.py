@@ -1,4 +1,4 @@
-"""The words of cluster/judge, the names that they list, and how it ends."""
+"""The arguments of cluster/judge, the names that they list, and its exit statuses."""
 import argparse
 import os
 import subprocess
@@ -8,21 +8,20 @@ NAME = "cluster/judge"
 TOP = os.path.dirname(os.path.dirname(os.path.realpath(__file__)))
 LEVELS = "PL-1", "PL-2", "PL-2.99", "PL-3", "SI"
 FAILED, REFUSED, UNJUDGED, INTERRUPTED = 3, 5, 6, 130
-ABOUT = """Has the workers of a Dask cluster judge history files, and prints what `hermitage_lab batch` prints of them.
+ABOUT = """Judges history files on the workers of a Dask cluster, and prints what `hermitage_lab batch` prints for them.
 
-Each worker is given the program once, and then bundles of files, one after another. Reports stand in the order of the
-names, and the status is the greatest of all files'. With --parts the files are the parts of one run in their order, and
-what is printed is what `hermitage_lab chain` prints. docs/RECORDING.md, "Many files, many machines", says how to start
-a cluster.
+Each worker gets the program once, and then bundles of files, one after another. Reports are in the order of the names,
+and the exit status is the highest of all files. With --parts, the files are the parts of one run, in order, and the
+output is that of `hermitage_lab chain`. docs/RECORDING.md, "Many files, many machines", says how to start a cluster.
 """
 EPILOG = """examples:
   cluster/judge --scheduler tcp://HOST:8786 histories/*.json > reports
   find histories -name '*.json' -print0 | sort -z | cluster/judge --scheduler tcp://HOST:8786 --files-from - -0
   cluster/judge --scheduler tcp://HOST:8786 --parts --require PL-3 parts/part*.json
 
-exit status: 0 to 3 as of batch or chain, the greatest of all files'; 3 also where the scheduler or all workers are
-gone, and what was printed is the beginning of the whole then. 5 the command line was refused. 6 a file wasn't judged,
-`file: unjudged`: the workers that had it died, or the program failed on it there. Standard error says which, and why.
+exit status: 0 to 3 as for batch or chain, the highest of all files; also 3 if the scheduler or all workers are gone: the
+output is then only the beginning of the whole. 5 the command line was refused. 6 a file wasn't judged, `file: unjudged`:
+the workers that had it died, or the program failed on it. Standard error has the files and the reasons.
 """
 
 
@@ -32,7 +31,7 @@ class Stop(Exception):
 
 class Parser(argparse.ArgumentParser):
     def error(self, message):
-        """What is wrong with the words, in one line."""
+        """Prints what is wrong with the arguments, in one line, and exits."""
         self.exit(REFUSED, f"{self.prog}: {message}\n")
 
 
@@ -46,24 +45,24 @@ def seconds(number):
 def parser():
     as_written = argparse.RawDescriptionHelpFormatter
     made = Parser(NAME, description=ABOUT, epilog=EPILOG, formatter_class=as_written, allow_abbrev=False)
-    made.add_argument("--scheduler", metavar="ADDRESS", required=True, help="of the cluster, as tcp://HOST:8786")
+    made.add_argument("--scheduler", metavar="ADDRESS", required=True, help="the cluster's scheduler, such as tcp://HOST:8786")
     made.add_argument("--parts", action="store_true", help="the files are the parts of one run")
-    made.add_argument("--json", action="store_true", help="as batch or chain has it")
-    made.add_argument("--require", metavar="LEVEL", choices=LEVELS, help="ends with 1 where it isn't met")
+    made.add_argument("--json", action="store_true", help="print JSON, as batch or chain does")
+    made.add_argument("--require", metavar="LEVEL", choices=LEVELS, help="exit with status 1 if it isn't met")
     made.add_argument("--shared", action="store_true", help="workers read the files themselves, by their absolute names")
-    made.add_argument("--progress", action="store_true", help="says how far it is, also where that is no terminal")
-    made.add_argument("--program", metavar="PROGRAM", help="who judges (the one that programs/find names)")
-    made.add_argument("--program-there", metavar="PATH", help="where each worker has it already; it isn't sent then")
+    made.add_argument("--progress", action="store_true", help="show the progress even without a terminal")
+    made.add_argument("--program", metavar="PROGRAM", help="the program that judges (default: that of programs/find)")
+    made.add_argument("--program-there", metavar="PATH", help="each worker's own copy of the program; it isn't sent then")
     patience = "how long to wait for a scheduler, or for a worker (%(default).0f)"
     made.add_argument("--patience", metavar="SECONDS", type=seconds, default=60, help=patience)
     made.add_argument("--files-from", metavar="LIST", help="a file with the names, one a line; -: standard input")
-    made.add_argument("-0", "--null", action="store_true", help="the names of the list are parted by NUL")
+    made.add_argument("-0", "--null", action="store_true", help="the names in the list are separated by NUL")
     made.add_argument("files", metavar="FILE", nargs="*", help="a history file")
     return made
 
 
 def names_of(given):
-    """The names that were given, in bytes."""
+    """The given names, as bytes."""
     if given.files_from is None:
         found = [os.fsencode(name) for name in given.files]
     else:
@@ -81,7 +80,7 @@ def listed(path):
 
 
 def words():
-    """The words, in which `files` are the names in bytes, and `program` is there where it is sent or joins answers."""
+    """The arguments. `files` has the names as bytes; `program` is set if it is sent to workers or joins results here."""
     made = parser()
     given = made.parse_args()
     if bool(given.files) == (given.files_from is not None) or given.null and given.files_from is None:
@@ -98,9 +97,9 @@ def words():
 
 
 def found_program():
-    """The program that is built from the sources as they stand."""
+    """The program that is built from the current sources."""
     ran = subprocess.run([f"{TOP}/programs/find"], stdout=subprocess.PIPE, text=True, check=False)
     if ran.returncode:
-        # (which has said why)
+        # (It has printed the reason.)
         sys.exit(FAILED)
     return ran.stdout.strip()

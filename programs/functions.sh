@@ -1,5 +1,5 @@
-# Which program may be run, and what it is built from. For hermitage_lab, prove and programs/find, which set `top` to the
-# top of the repository before they source it.
+# Finds the program that may be run, and its sources. hermitage_lab, prove and programs/find set `top` to the top of the
+# repository and then source this file.
 # shellcheck shell=bash
 name=hermitage_lab
 out=$top/crates/$name/out
@@ -9,8 +9,8 @@ looked_up=$out/looked_up
 
 say() { echo "$name: $*" >&2; }
 
-# The lines that a folder's crates.txt has of the crates that a crate is built from, the program if none is named: lowest
-# first, its own last.
+# Prints the lines of a folder's crates.txt for a crate (the program if none is named) and its dependencies: lowest first,
+# its own last.
 crate_lines() {
     awk -v top="${2:-$name}" '
         function visit(crate, count, over, i) {
@@ -35,7 +35,7 @@ read_folders() {
     done < <(crate_lines "$1")
 }
 
-# The checksum of what the program is built from: of those lines, and of the names and checksums of those files.
+# Prints the checksum of the sources: of those lines, and of the names and checksums of those files.
 source_sum() {
     local folders
     read_folders "$1"
@@ -46,11 +46,11 @@ source_sum() {
     } | sha256sum | cut -d ' ' -f 1
 }
 
-# The file `checksums` that belongs beside a program, from its path and the checksum of its sources.
+# Prints the file `checksums` for a program, from its path and the checksum of its sources.
 checksums() { echo "$(sha256sum <"$1" | cut -d ' ' -f 1)  $name"$'\n'"$2  sources"; }
 
-# Whether neither a source nor one of these further files was changed since a file was written. A change is told by the
-# time that the system keeps for itself, which no copy of an older file sets back.
+# Returns whether neither a source nor one of these further files was changed since a file was written. It uses the time of
+# change that the system keeps, which copying an older file doesn't reset.
 is_newer() {
     local file=$1 folders
     shift
@@ -59,13 +59,13 @@ is_newer() {
     [ -z "$(find "$top/crates.txt" "${folders[@]}" "$@" -cnewer "$file" -print -quit 2>&1)" ]
 }
 
-# Whether the program of a folder has its checksum, and sources with this checksum, and runs here.
+# Returns whether the program in a folder has its checksum, and sources with this checksum, and runs here.
 is_of() {
     [ -x "$1/$name" ] && [ "$(cat "$1/checksums" 2>/dev/null)" = "$(checksums "$1/$name" "$2")" ] &&
         "$1/$name" --help </dev/null >/dev/null 2>&1
 }
 
-# Looks by checksums which program is built from the sources as they stand, and notes the time for the next call.
+# Checks by checksums which program is built from the present sources, and records the time for the next call.
 look_up() {
     local begun sum
     mkdir -p "$out" 2>/dev/null && begun=$(mktemp "$out/begun.XXXXXX" 2>/dev/null) || begun=
@@ -82,8 +82,8 @@ look_up() {
     [ -n "$program" ]
 }
 
-# Sets `program` to the one that was built here where no source is newer, else to that of programs/ where it was built
-# from these sources. Answers false where neither serves.
+# Sets `program` to the one that was built here if no source is newer, else to that of programs/ if it was built from these
+# sources. Returns false if neither can be used.
 find_program() {
     program=$out/$name
     [ ! -x "$program" ] || ! is_newer "$program" || return 0

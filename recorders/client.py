@@ -1,6 +1,6 @@
-"""A connection to a server through the database's own client program, which is asked one question after another.
+"""A connection to a server through the database's own client program, which runs one query after another.
 
-The client finds the server as its user is used to, and Python needs no driver.
+The client finds the server as usual, and Python needs no driver.
 """
 import os
 import re
@@ -11,11 +11,11 @@ from recording import Unreachable
 
 CHUNK = 65_536
 NUMBER = re.compile(r"-?[0-9]+")
-SHORT = 4  # characters of a text that is kept
+SHORT = 4  # characters of the longest cached text
 
 
 class Values(dict):
-    """What texts of answers stand for. Short ones come again and again, and are looked at once."""
+    """The values of texts in results. Short texts recur often, so they are cached."""
 
     def __missing__(self, text):
         found = int(text) if NUMBER.fullmatch(text) else text
@@ -25,13 +25,13 @@ class Values(dict):
 
 
 class Client:
-    """A client that runs, in a session of its own, so that what interrupts the recorder doesn't end it first. Threads
-    that ask at once wait for each other; who asks several questions in a row holds `lock`."""
+    """A running client, in its own process session, so that an interrupt of the recorder doesn't end it first. Threads
+    that query it at the same time wait for each other; `lock` keeps several queries together."""
 
-    PROGRAM = ()  # the program with its words
-    BETWEEN, NULL = "|", ""  # what stands between two values of an answer, and for one that isn't there
-    END, DONE = "", b""  # what is asked behind a question, and what its answer ends with
-    LOST = re.compile(rb"$^")  # what is said where the connection is lost, and the client goes on
+    PROGRAM = ()  # the program with its arguments
+    BETWEEN, NULL = "|", ""  # the separator of values in a result, and the text of a null
+    END, DONE = "", b""  # what is sent after a query, and the end of its result
+    LOST = re.compile(rb"$^")  # the message of a client that goes on after losing its connection
 
     id = None  # the connection's number at the server, once it is known
 
@@ -44,13 +44,13 @@ class Client:
             raise Unreachable(f"{self.PROGRAM[0]} can't be run: {error.strerror}") from None
 
     def ask(self, question):
-        """The rows of an answer, each a list of numbers, texts and None; Refused."""
+        """The rows of a result, each a list of numbers, texts and None; raises Refused."""
         with self.lock:
             try:
                 self.process.stdin.write(f"{question};\n{self.END}".encode())
                 self.process.stdin.flush()
             except OSError:
-                pass  # (what the client said last says why)
+                pass  # (the client's last message has the reason)
             read = b"\n"
             while not read.endswith(self.DONE):
                 more = os.read(self.process.stdout.fileno(), CHUNK)
@@ -60,11 +60,11 @@ class Client:
         return [list(map(self.values.__getitem__, line.split(self.BETWEEN))) for line in self.answered(read.decode())]
 
     def answered(self, text):
-        """The lines of an answer that have rows; Refused."""
+        """The lines of a result that have rows; raises Refused."""
         raise NotImplementedError
 
     def last_said(self, text):
-        # (a line that goes on from the one before begins with a tab)
+        # (A continuation line begins with a tab.)
         lines = [line for line in text.splitlines() if line[:1].strip()]
         return lines[-1] if lines else "the connection is lost"
 

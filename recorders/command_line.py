@@ -1,4 +1,4 @@
-"""The words of a recorder, and how it ends."""
+"""The arguments of a recorder, and its exit statuses."""
 import argparse
 import os
 import signal
@@ -18,28 +18,28 @@ PATIENCE = 30
 
 class Parser(argparse.ArgumentParser):
     def error(self, message):
-        """What is wrong with the words, in one line."""
+        """Prints what is wrong with the arguments, in one line, and exits."""
         self.exit(REFUSED, f"{self.prog}: {message}\n")
 
 
 def words_of(name, about, epilog, make):
-    """The words of a recorder; `make` makes its database, of the words and a script."""
+    """The argument parser of a recorder; `make(arguments, script)` creates its database."""
     as_written = argparse.RawDescriptionHelpFormatter
     parser = Parser(prog=name, description=about, epilog=epilog, formatter_class=as_written, allow_abbrev=False)
     parser.set_defaults(make=make)
     levels = list(make.LEVELS)
-    level = "of each transaction: " + ", ".join(levels)
+    level = "the level of each transaction: " + ", ".join(levels)
     parser.add_argument(
         "--level", metavar="LEVEL", required=len(levels) > 1, default=levels[0], choices=levels, help=level
     )
-    parser.add_argument("--log", action="store_true", help="say on standard error what each line of the script came to")
-    patience = "how long to wait where all sessions wait for somebody else (%(default)s)"
+    parser.add_argument("--log", action="store_true", help="print the result of each line of the script on standard error")
+    patience = "how long to wait if all sessions wait for a session outside the script (%(default)s)"
     parser.add_argument("--patience", metavar="SECONDS", type=float, default=PATIENCE, help=patience)
     return parser
 
 
 def parser_of(path):
-    """The words of a recorder, of which this is the file."""
+    """The argument parser of the recorder in this file."""
     loader = SourceFileLoader("recorder", path)
     module = module_from_spec(spec_from_loader(loader.name, loader))
     loader.exec_module(module)
@@ -47,7 +47,7 @@ def parser_of(path):
 
 
 def recorder_of(parser, database):
-    """The words of a recorder, which is named or stands at a path."""
+    """The argument parser of a recorder, given by name or path."""
     path = database if os.path.dirname(database) else f"{HERE}/{database}"
     try:
         return parser_of(path)
@@ -61,7 +61,7 @@ def end(*_):
 
 @contextmanager
 def uninterrupted():
-    """What is put away is put away whole."""
+    """Ignores interrupts, so that cleaning up isn't interrupted."""
     before = {name: signal.signal(name, signal.SIG_IGN) for name in (signal.SIGINT, signal.SIGTERM)}
     yield
     for name, how in before.items():
@@ -73,7 +73,7 @@ def warn(what):
 
 
 def recorded(words, text, say=warn):
-    """The text of the history of a script. What the database has of it is put away."""
+    """The text of the history of a script. Removes everything that was created in the database."""
     given = script.read(text)
     database = words.make(words, given)
     try:
@@ -85,7 +85,7 @@ def recorded(words, text, say=warn):
 
 
 def run(parser):
-    """Records a run of the script on standard input, and ends as `ending` says."""
+    """Records a run of the script on standard input; `ending` has the exit statuses."""
     words = parser.parse_args()
     with ending(parser, words.make.ERRORS):
         sys.stdout.write(recorded(words, sys.stdin.buffer.read(script.READ_BYTES)) + "\n")
@@ -94,7 +94,7 @@ def run(parser):
 
 @contextmanager
 def ending(parser, errors):
-    """Ends with 0, or with 2 or 3 and one line on standard error."""
+    """Exits with 0, or with 2 or 3 and one line on standard error."""
     signal.signal(signal.SIGTERM, end)
     try:
         yield
@@ -103,7 +103,7 @@ def ending(parser, errors):
     except (Unreachable, *errors) as why:
         parser.exit(FAILED, f"{parser.prog}: {why}\n")
     except OSError as error:
-        # (nothing more can be written, and Python would try to)
+        # (Standard output is closed, and Python would try to flush it.)
         os.dup2(os.open(os.devnull, os.O_WRONLY), sys.stdout.fileno())
         where = f"{error.filename}: " if error.filename else ""
         parser.exit(FAILED, f"{parser.prog}: {where}{error.strerror}\n")

@@ -1,40 +1,76 @@
-"""What recorders share: a database that plays scripts, and its sessions, whose statements are carried out in threads.
+"""What recorders share: a database that runs scripts, and its sessions, whose statements run in threads.
 
-A recorder is a dialect, a class over Database that has (docs/RECORDING.md, "A recorder for another database"):
+A recorder is a dialect: a class derived from Database, with the members below. `tables.py` has what SQL databases share,
+`served.py` what servers share, and `client.py` the pipes to a server's command-line client; a blocking Python driver can
+replace it. `toy` is a complete example in 48 lines. Different sessions may call at the same time, each from its thread.
 
-    NAME, version()                 what it is called, and its version as it says it
-    LEVELS                          its levels, each with what its manual promises
-    make_tables()                   makes the tables of the script, with the rows of its setup
-    rows()                          what is committed: a value for each row, and a row is its table and its id
-    connect()                       a connection, for one session
-    begin(connection)               begins a transaction at the level
-    do(connection, txn, statement)  carries out a statement; the operation that it was, or Refused
-    waits(connection)               whether the statement of a connection waits for another transaction
-    place(connection, txn)          the place of a transaction's commit, while all that it wrote is locked
-    commit(connection), rollback(connection)
-    close()                         puts away what was made
+    NAME, version()     the title of a table; the version is the one that the database reports
+    LEVELS              for each level, what the manual promises: PL-1, PL-2, PL-2.99, SI or PL-3. recorders/cases
+                        compares its table with it
+    make_tables()       creates the tables, with the rows of `script.setup`. Everything is committed before the first
+                        session connects
+    rows()              the committed rows: a value for each table and id, without deleted rows. It is called when no
+                        transaction is open
+    connect()           a connection for one session. Another connection sees its uncommitted changes only as far as the
+                        level allows
+    begin(connection)   begins a transaction at `words.level`. It doesn't wait
+    do(connection, txn, statement)
+                        runs a statement; returns operation_of(txn, statement, listed, seen), or raises Refused. It may
+                        wait as long as the database lets it: it runs in the session's own thread
+    waits(connection)   whether the session's statement waits for another transaction: True only if the statement can't
+                        go on before another transaction ends. If it is True while the statement is about to return, the
+                        next line runs too early. It is called from another thread, some 500 times a second, so it needs
+                        its own connection
+    place(connection, txn)
+                        draws the commit number of a transaction that wrote something: in the transaction, after its last
+                        write, while its writes are locked. Of two transactions that wrote one row, the one that commits
+                        first has the lower number
+    commit(connection)  commits; raises Refused if the database refuses. The outcome is what the database reports
+    rollback(connection)
+                        rolls back, also if the database has already done so
+    clear()             removes the names of versions, and deleted rows: what is committed counts as initial from then on.
+                        Rows and values stay, and no later statement sees an older version. Only recorders/load calls it,
+                        when no transaction is open
+    close()             removes what was created, also if sessions wait or were interrupted
 
-and, where a transaction has a snapshot that can be read from outside, OF_SNAPSHOTS and snapshot(connection); and, for
-recorders/load, clear(). Calls for two sessions may come at once, each from its session's thread.
+What `do` must guarantee:
+
+    listed              has an entry for each row that the statement returned or matched, and for the row of an insert: the
+                        id, the old value, the two numbers of the old version (None, None for the initial one), and the
+                        new value or None. All of it comes from the statement itself; if the statement waited for a row, it
+                        is what the statement found after the wait
+    seen                has the version (None for the initial one) of each other row that the statement may match, present
+                        or deleted, as the statement saw it. Read it in the statement (mariadb), in its transaction if that
+                        has one snapshot (sqlite), or in its snapshot (postgres: `snapshot(connection)`, called at the
+                        levels of OF_SNAPSHOTS). The base class adds the transaction's own writes and its snapshot
+    the version's name  txn.next_version() goes into the row with the value, in the same statement. If the statement is
+                        refused, nothing of it remains
+    nothing else        it takes no lock and reads no row that the statement alone wouldn't. The recorder's documentation
+                        lists the exceptions
+    no guesses          if it can't know something, it sets `remark` of the operation, which is printed on standard error,
+                        or raises Untold, which leaves the run out
+
+If the database doesn't block but reports that it is locked, as SQLite does, `do` raises Waits, and is called again when
+another transaction has ended. Unreachable is raised if the database doesn't respond.
 """
 import threading
 import time
 
 from recording import Refused, Waits
 
-LOOK = 0.002  # seconds until a statement that isn't answered is looked at
+LOOK = 0.002  # seconds between two checks of a running statement
 
 
 class Database:
     """The tables of a script in a database, and its dialect."""
 
     NAME = ""
-    LEVELS = {}  # by its name what the manual promises: PL-1, PL-2, PL-2.99, SI or PL-3
+    LEVELS = {}  # for each level, what the manual promises: PL-1, PL-2, PL-2.99, SI or PL-3
     # The levels at which a transaction has one snapshot, which is taken with its first statement.
     OF_SNAPSHOTS = ()
-    # Whether a transaction of which a statement was refused stays open, and the database refuses what comes then.
+    # Whether a transaction stays open after a refused statement, and the database refuses its further statements.
     STAYS_OPEN = False
-    ERRORS = ()  # exceptions of a driver that say that the database doesn't answer
+    ERRORS = ()  # a driver's exceptions for a database that doesn't respond
 
     def __init__(self, words, script):
         self.words, self.script = words, script
@@ -47,23 +83,23 @@ class Database:
         return Session(self)
 
     def snapshot(self, connection):
-        """The versions of all rows in the snapshot of a transaction that is about to give its first statement."""
+        """The versions of all rows in the snapshot of a transaction that is about to run its first statement."""
         raise NotImplementedError
 
     def waits(self, _):
-        """A database that lets nobody wait has none; its `do` raises Waits."""
+        """False for a database that never blocks; its `do` raises Waits instead."""
         return False
 
     def clear(self):
-        """Takes away what names versions, while no transaction is open: what is committed counts as initial then."""
+        """Removes the names of versions, while no transaction is open: what is committed then counts as initial."""
         raise NotImplementedError
 
     def close(self):
-        """Puts away what was made, also where connections wait or were interrupted."""
+        """Removes what was created, even if connections wait or were interrupted."""
 
 
 class Session:
-    """A session's connection, and the statement that it was given."""
+    """A session's connection, and its current statement."""
 
     def __init__(self, database):
         self.database, self.connection = database, database.connect()
@@ -73,12 +109,12 @@ class Session:
         self.database.begin(self.connection)
 
     def start(self, txn, statement):
-        """Gives a statement, and doesn't wait for it."""
+        """Starts a statement, and doesn't wait for it."""
         self.given, self.thread = (txn, statement), None
 
     def is_answered(self):
-        """Returns once the statement is answered (true), or is seen to wait (false). One that is to be tried again is
-        tried each time."""
+        """Returns True once the statement has ended, or False once it is seen to wait. A statement that raised Waits is
+        retried by each call."""
         if not self.thread:
             self.thread = threading.Thread(target=self.try_given, daemon=True)
             self.thread.start()
@@ -94,7 +130,7 @@ class Session:
         return self.thread.is_alive()
 
     def try_given(self):
-        """What comes of the statement in its thread is told by `operation`, whatever it is."""
+        """Runs the statement in its thread; `operation` returns or raises the outcome."""
         self.op = self.failure = None
         try:
             self.op = self.tried(*self.given)
@@ -102,13 +138,14 @@ class Session:
             self.failure = why
 
     def operation(self, *_):
-        """The operation that was answered; Refused where the statement was."""
+        """The operation of the statement; raises Refused if the statement was refused."""
         if self.failure:
             raise self.failure
         return self.op
 
     def carry_out(self, txn, statement):
-        """The operation of a statement, however long it has to wait; Refused. For who has a thread for each session."""
+        """Runs a statement, however long it waits, and returns its operation; raises Refused. For callers that have a
+        thread for each session."""
         while True:
             try:
                 return self.tried(txn, statement)
@@ -116,7 +153,7 @@ class Session:
                 time.sleep(LOOK)
 
     def tried(self, txn, statement):
-        """A script's transaction ends where one of its statements is refused."""
+        """Runs a statement. If it is refused, the transaction is aborted."""
         database = self.database
         self.look_if_open(txn)
         try:
@@ -134,8 +171,8 @@ class Session:
             raise Refused("the transaction was rolled back")
 
     def commit(self, txn):
-        """The place in the order of commits, or None if nothing was written; Refused. The place is drawn while all that
-        the transaction wrote is locked, so of two who wrote one row the first draws first."""
+        """Commits; returns the commit number, or None if nothing was written; raises Refused. The number is drawn while
+        the transaction's writes are locked, so of two transactions that wrote one row, the first draws first."""
         self.look_if_open(txn)
         place = self.database.place(self.connection, txn) if txn.own and not txn.is_refused else None
         try:

@@ -1,7 +1,7 @@
-"""A load: sessions that run the transactions of a mix side by side, each in a thread, and the parts of what they did.
+"""A load: concurrent sessions that run the transactions of a mix, each in a thread, and the parts of the recording.
 
-Transactions begin while the part has room. When it is nearly full none begins; once nobody is in one, the rows are
-read, the columns are cleared, and the next part begins.
+Transactions begin while the part has room. When it is nearly full, no new one begins. Once no transaction is open, the
+rows are read, the version columns are cleared, and the next part begins.
 """
 import random
 import threading
@@ -14,15 +14,15 @@ from recording import ROWS as IDS
 from script import VALUES
 from statement import TEST
 
-LOOK, STOPPING = 0.1, 2  # seconds between two looks at the clock; and until sessions of a run that failed have stopped
-OF_ENTRY, OF_OPERATION = 30, 100  # bytes, at most, of a view's entry and of an operation beside its text
-# A part is nearly full at half of a history's limits: transactions that are open then still end in it.
+LOOK, STOPPING = 0.1, 2  # seconds between two looks at the clock; seconds for the sessions of a failed run to stop
+OF_ENTRY, OF_OPERATION = 30, 100  # the most bytes of an entry, and of an operation without its text and entries
+# A part is nearly full at half of a history's limits, since the open transactions still end in it.
 NEARLY = 2
 
 
 class Ids:
-    """The ids of rows that come and go. One that is gone doesn't come back in its part: some databases take a key that
-    is born again for another row, which a history can't say."""
+    """The ids of rows that are inserted and deleted. A deleted one isn't inserted again in the same part: for some
+    databases that is another row, which a history can't express."""
 
     def __init__(self, rows, count):
         self.all = range(count + 1, IDS + 1)
@@ -31,13 +31,13 @@ class Ids:
         self.had_some = bool(self.absent)
 
     def new(self, draw):
-        """An id that is absent. Where none was from the beginning, an insert is refused."""
+        """An absent id. If the part began without one, any id: the insert is then refused."""
         id = self.absent.pop() if self.absent else draw.choice(self.all)
         self.present.append(id)
         return id
 
     def old(self, draw):
-        """An id that is likely there, once; or any one."""
+        """An id that is probably present, each only once; if there is none, any id."""
         if not self.present:
             return draw.choice(self.all)
         place = draw.randrange(len(self.present))
@@ -47,7 +47,7 @@ class Ids:
 
 @dataclass
 class Part:
-    """What was done since the last cut, and how much of a history it fills."""
+    """The recording since the last cut, and how much of a history it fills."""
 
     initial: dict
     ids: Ids
@@ -56,7 +56,7 @@ class Part:
     operations: int = 0
     entries: int = 0
     bytes: int = 0
-    untold: str = None  # why no history says what happened
+    untold: str = None  # why a history can't express what happened
 
     def count(self, txn):
         for op in txn.ops:
@@ -76,21 +76,21 @@ class Part:
         )
 
     def text(self, end):
-        """The file of its history; Untold."""
+        """The text of its history file; raises Untold."""
         if self.untold:
             raise Untold(self.untold)
         return text_of(history(self.initial, self.transactions, end))
 
 
 def needed(op, own):
-    """An operation whose view has the rows that its statement may match, and those that its transaction wrote."""
+    """Reduces an operation's view to the rows that its statement may match and those that its transaction wrote."""
     ids = op.statement.among(id for _, id in op.view)
     op.view = {row: version for row, version in op.view.items() if row in own or row[1] in ids}
     return op
 
 
 class Load:
-    """The sessions and their part. What they share is changed under one lock."""
+    """The sessions and their current part. One lock protects what they share."""
 
     def __init__(self, database, kinds, given, patience):
         self.database, self.mix, self.given, self.patience = database, kinds, given, patience
@@ -111,7 +111,7 @@ class Load:
         return self.ends_early or time.monotonic() >= self.until
 
     def parts(self, tell):
-        """Each part, with the rows at its end. `tell` is called now and then, while the sessions run."""
+        """Yields each part with its final rows. `tell` is called now and then, while the sessions run."""
         sessions = [self.database.session() for _ in range(self.given.sessions)]
         self.begun = time.monotonic()
         self.until = self.begun + self.given.seconds
@@ -127,7 +127,7 @@ class Load:
             self.stop()
 
     def wait_for_cut(self, tell):
-        """Waits until the part is nearly full or time is up, and then until nobody is in a transaction."""
+        """Waits until the part is nearly full or the time is up, and then until no transaction is open."""
         while not (self.is_cutting or self.failure or self.is_time_up()):
             tell(self)
             self.changed.wait(LOOK)
@@ -148,7 +148,7 @@ class Load:
         return done, end
 
     def stop(self):
-        """Sees sessions stop before the database is put away; those that can't are ended with it."""
+        """Waits for sessions to stop before the database is closed; those that can't stop are ended with it."""
         with self.changed:
             self.is_over = True
             self.changed.notify_all()
@@ -168,7 +168,7 @@ class Load:
                 self.changed.notify_all()
 
     def begun_by(self, number):
-        """The next transaction of a session, once it may begin; None when the run is over."""
+        """The next transaction of a session, once it may begin; None if the run is over."""
         with self.changed:
             self.changed.wait_for(lambda: self.is_over or not self.is_cutting)
             if self.is_over:
@@ -188,13 +188,13 @@ class Load:
             self.look_if_full()
 
     def look_if_full(self):
-        """(It is told when it is full, and nobody is in a transaction.)"""
+        """Notifies the main thread if the part is nearly full and no transaction is open."""
         self.is_cutting = self.is_cutting or self.part.is_full()
         if self.is_cutting and not self.open:
             self.changed.notify_all()
 
     def run_transaction(self, session, txn, draw):
-        """Runs a transaction of the mix. One that is refused stays aborted; what can't be told spoils the part."""
+        """Runs a transaction of the mix. If it is refused, it stays aborted. Untold spoils the whole part."""
         session.begin(txn)
         try:
             self.run_statements(session, txn, draw)
@@ -223,12 +223,12 @@ class Load:
                 numbers["next"] = min(next(iter(op.rows.values()), 0) + 1, VALUES[1])
 
     def numbers(self, draw):
-        """What names of the mix stand for in one transaction."""
+        """The numbers for the names of the mix, in one transaction."""
         a, b = sorted(draw.sample(range(1, self.given.rows + 1), 2))
         return {"a": a, "b": b, "digit": draw.randrange(10), "next": 1}
 
     def spare_ids(self, text, numbers, draw):
-        """The ids of rows that come and go, which are given out where a statement is the first to name one."""
+        """Ids for `$new` and `$old`, given out when the first statement of the transaction names them."""
         names = [name for name in ("new", "old") if name in text and name not in numbers]
         if not names:
             return {}

@@ -1,6 +1,6 @@
-"""A mix: kinds of transactions with their weights, and the statements of each, in which names stand for numbers.
+"""A mix: kinds of transactions with their weights, and the statements of each, in which names are replaced by numbers.
 
-docs/RECORDING.md, "A load, recorded in parts", has the form.
+docs/RECORDING.md, "A load, recorded in parts", describes it.
 """
 from dataclasses import dataclass
 from string import Template
@@ -16,7 +16,7 @@ DEFAULT = """\
 2: insert into test (id, value) values ($new, $digit)
 3: select * from test where id = $old; delete from test where id = $old
 """
-# The least and the greatest numbers that names stand for.
+# The smallest and the largest numbers for names.
 LEAST = {"a": 1, "b": 2, "new": 3, "old": 3, "digit": 0, "next": VALUES[0]}
 GREATEST = {"a": 899, "b": 900, "new": 1000, "old": 1000, "digit": 9, "next": VALUES[1]}
 STATEMENTS = 20  # of one transaction
@@ -29,7 +29,7 @@ class Kind:
 
 
 class Mix:
-    """Kinds of transactions, one of which is drawn by their weights."""
+    """Kinds of transactions, drawn by their weights."""
 
     def __init__(self, kinds):
         self.kinds, self.weights = kinds, [kind.weight for kind in kinds]
@@ -39,7 +39,7 @@ class Mix:
 
 
 def with_numbers(text, numbers):
-    """The statement of a text, with numbers in the place of names."""
+    """The statement of a text whose names are replaced by numbers."""
     try:
         statement = statement_of(Template(text).substitute(numbers))
     except (KeyError, ValueError):
@@ -63,7 +63,7 @@ def kind_of(line):
 
 
 def read(text):
-    """The mix of a text; Fault."""
+    """The mix of a text; raises Fault."""
     kinds, number = [], 0
     for number, line in enumerate(text.splitlines(), 1):
         line = line.partition("--")[0].strip()

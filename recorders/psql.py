@@ -7,7 +7,7 @@ SUCCESS = "00000"
 
 class Psql(Client):
     PROGRAM = "psql", "-X", "-A", "-t", "-F", "|", "-w", "-v", "VERBOSITY=terse"
-    # The state, and the message if it is an error.
+    # Prints the SQL state, and the message of an error.
     END = r"\echo ! :SQLSTATE" "\n" r"\echo :LAST_ERROR_MESSAGE" "\n" r"\echo ." "\n"
     DONE = b"\n.\n"
 

@@ -1,13 +1,13 @@
-"""Plays a script on a database, its sessions line by line, and writes the history of what came of it.
+"""Runs a script on a database, line by line, and writes the history of the run.
 
-The database gives each session a connection of its own (`database`), and its answers are all that a history has: rows,
-written values, versions, who waits, and who is refused.
+Each session has its own connection (`database`). Everything in the history comes from the database's results: rows,
+written values, versions, and which statements wait or are refused.
 """
 import json
 import time
 from dataclasses import dataclass, field
 
-PAUSE = 0.005  # seconds between two looks at who waits
+PAUSE = 0.005  # seconds between two checks of waiting sessions
 TRANSACTIONS, OPERATIONS, ROWS, ENTRIES, BYTES = 1000, 10_000, 1000, 200_000, 8_388_608
 
 
@@ -16,26 +16,26 @@ class Refused(Exception):
 
 
 class Untold(Exception):
-    """What happened can't be told by a history, or can't be known: the run is left out."""
+    """A history can't express what happened, or it can't be known: the run is left out."""
 
 
 class Unreachable(Exception):
-    """The database doesn't answer."""
+    """The database doesn't respond."""
 
 
 class Waits(Exception):
-    """The database lets nobody wait: the statement is to be tried again when another transaction has ended."""
+    """The database doesn't block: the statement has to be retried when another transaction has ended."""
 
 
 @dataclass
 class Operation:
-    """What a statement did. A version is the numbers of a transaction and an operation, and None for the initial one."""
+    """What a statement did. A version is a transaction number and an operation number, or None for the initial one."""
 
     statement: object
     view: dict  # a version for each row
     rows: dict  # a value for each row
     writes: dict  # a value for each row, or None
-    remark: str = ""  # what a user has to know of it
+    remark: str = ""  # a warning for the user
 
     def members(self):
         return {
@@ -48,7 +48,7 @@ class Operation:
 
 @dataclass
 class Transaction:
-    """A transaction counts as aborted until its commit was answered."""
+    """A transaction counts as aborted until its commit has succeeded."""
 
     no: int
     session: int
@@ -56,23 +56,23 @@ class Transaction:
     place: int = None  # in the order of commits
     ops: list = field(default_factory=list)
     own: dict = field(default_factory=dict)  # the last version of each row that it wrote
-    snapshot: dict = None  # a version for each row, where it has a snapshot of its own
+    snapshot: dict = None  # a version for each row, if the transaction has a snapshot
     is_refused: bool = False
 
     def next_version(self):
         return self.no, len(self.ops) + 1
 
     def take(self, op):
-        """Takes an operation as its next one."""
+        """Appends an operation."""
         self.own.update(dict.fromkeys(op.writes, self.next_version()))
         self.ops.append(op)
 
 
 def operation_of(txn, statement, listed, seen):
-    """The operation of a statement that listed these rows, and looked at these versions. Of a row that it listed there
-    are the id, of the version that it found there value and name, and last the value that it left. The rest it saw as
-    its transaction's snapshot has it, if there is one, and as the transaction wrote it. A view has the rows of the
-    statement's table, and of other tables those that the transaction wrote."""
+    """The operation of a statement that returned these rows and looked at these versions. An entry of `listed` has the
+    id, the old value, the name of the old version and the new value. All other rows were seen as in the transaction's
+    snapshot, if it has one, and as the transaction wrote them. A view has the rows of the statement's table, and the
+    rows of other tables that the transaction wrote."""
     found, known = {}, {**(txn.snapshot or {}), **txn.own, **seen}
     for id, value, no, op, left in listed:
         if (statement.table, id) in found:
@@ -87,7 +87,7 @@ def operation_of(txn, statement, listed, seen):
 
 
 class Play:
-    """The play of a script: lines are given in their order, and those of a session that waits wait with it."""
+    """The run of a script: lines are run in order, and the lines of a waiting session wait with it."""
 
     def __init__(self, script, database, is_logged, patience, warn):
         self.database, self.is_logged, self.patience, self.warn = database, is_logged, patience, warn
@@ -107,14 +107,14 @@ class Play:
             self.roll_back(session, "the script has ended")
 
     def next(self):
-        """The first line of a session that doesn't wait."""
+        """Removes and returns the first line of a session that doesn't wait."""
         for place, command in enumerate(self.pending):
             if command.session not in self.waiting:
                 return self.pending.pop(place)
         return None
 
     def settle(self):
-        """Takes answers, until each session that waits has been seen to."""
+        """Takes results until all remaining sessions wait."""
         before = None
         while before != len(self.waiting):
             before = len(self.waiting)
@@ -122,15 +122,15 @@ class Play:
                 self.at(command, self.take_answer)
 
     def at(self, command, call):
-        """Makes a call for a command, and says at which line the play ends where it does."""
+        """Calls `call` for a command; adds the script's line to an error that ends the run."""
         try:
             call(command)
         except (Untold, Unreachable) as what:
             raise type(what)(f"line {command.line}: {what}") from None
 
     def make_way(self):
-        """Nobody who doesn't wait has a line left: the least active session that doesn't is rolled back. Where all of
-        them wait, the database ends that, or somebody else is in the way."""
+        """Only waiting sessions have lines left. Rolls back the lowest-numbered active session that doesn't wait. If all
+        of them wait, the database resolves that, or a session outside the script blocks them."""
         free = sorted(set(self.active) - set(self.waiting))
         if free:
             self.roll_back(free[0], "others wait for it and it has no line left")
@@ -173,7 +173,7 @@ class Play:
         self.tell(command, f"begun {txn.no}")
 
     def take_answer(self, command):
-        """Takes the answer to a statement if it is there, which is an operation if the statement was carried out."""
+        """Takes the result of a statement if it has ended: an operation, unless it was refused."""
         session = self.sessions[command.session]
         if not session.is_answered():
             return
@@ -213,7 +213,7 @@ class Play:
 
 
 def installed(transactions):
-    """For each row the committed transactions that wrote it, in the order of their commits."""
+    """For each row, the committed transactions that wrote it, in commit order."""
     found = {}
     committed = [txn for txn in transactions if txn.outcome == "committed" and txn.own]
     for txn in sorted(committed, key=lambda txn: txn.place):
@@ -223,7 +223,7 @@ def installed(transactions):
 
 
 def history(initial, transactions, end):
-    """The file's object."""
+    """The object of the history file."""
     return {
         "format": "hermitage-history",
         "version": 2,
@@ -237,7 +237,7 @@ def history(initial, transactions, end):
 
 
 def text_of(whole):
-    """The file of a history that is within the limits of one."""
+    """The text of a history file; raises Untold if it exceeds the limits."""
     ops = [op for txn in whole["transactions"] for op in txn["ops"]]
     entries = [entry for op in ops for key in ("view", "rows", "writes") for entry in op[key]]
     members = entries + whole["initial"] + whole["installed"] + whole["end"]
@@ -256,8 +256,8 @@ def text_of(whole):
 
 
 def record(script, database, is_logged, patience, warn):
-    """Plays a script on a database that has the tables of its setup, and gives the text of the history. What a user has
-    to know is told by `warn`, line by line."""
+    """Runs a script on a database that has the tables of its setup; returns the text of the history. Warnings for the
+    user are passed to `warn`, line by line."""
     initial = database.rows()
     play = Play(script, database, is_logged, patience, warn)
     play.run()

@@ -1,4 +1,4 @@
-"""Runs the statements of a history again on SQLite, and compares what they list, write and leave with the record."""
+"""Runs the statements of a history again on SQLite, and compares what they return, write and leave with the recording."""
 import json
 import re
 import sqlite3
@@ -9,7 +9,7 @@ COLUMNS = "id integer primary key, value integer not null check (value between -
 
 
 class Differs(Exception):
-    """A run that isn't the recorded one."""
+    """The run differs from the recording."""
 
 
 class NothingToReplay(Exception):
@@ -17,7 +17,7 @@ class NothingToReplay(Exception):
 
 
 class Tables:
-    """The tables of a history as they stand, in a database of SQLite's own in memory."""
+    """The current tables of a history, in a separate SQLite database in memory."""
 
     def __init__(self, rows, names):
         self.connection = sqlite3.connect(":memory:", isolation_level=None)
@@ -40,14 +40,14 @@ class Tables:
         return {row: value for name in self.names for row, value in self.listed(name).items()}
 
     def install(self, writes):
-        """Leaves the rows as they were written: a value, or None for one that is absent from then on."""
+        """Stores written rows: a value, or None for a deleted row."""
         for (name, id), value in writes.items():
             self.connection.execute(f'delete from "{name}" where id = {id}')
             if value is not None:
                 self.connection.execute(f'insert into "{name}" values ({id}, {value})')
 
     def run(self, statement):
-        """What a statement lists and what it writes, each a value for each row."""
+        """Runs a statement; returns the returned rows and the written rows, each with its value."""
         name = statement.table
         if statement.kind == "insert":
             self.connection.execute(f'insert into "{name}" values ({statement.row[0]}, {statement.row[1]})')
@@ -64,7 +64,7 @@ class Tables:
 
 
 class History:
-    """What a file of either version has of committed transactions, by rows that are a table and an id."""
+    """The committed transactions of a file of either version; a row is a table and an id."""
 
     def __init__(self, text):
         try:
@@ -80,7 +80,7 @@ class History:
         self.tables = sorted({name for name, _ in rows} | {statement.table for statement in statements})
 
     def valued(self, members):
-        """A value for each row, or None."""
+        """The value, or None, of each row."""
         found = {}
         for *name, value in members:
             table, id = ("test", *name) if self.is_old else name
@@ -94,7 +94,7 @@ class History:
         return Tables(self.initial, self.tables)
 
     def run(self, no, tables):
-        """Runs a transaction's statements, and gives what it left of each row that it wrote."""
+        """Runs a transaction's statements; returns the last value of each row that it wrote."""
         left = {}
         for place, (statement, rows, writes) in enumerate(self.operations[no], 1):
             where = f"T{no} op {place} {statement.printed()}"
@@ -119,14 +119,14 @@ def shown(row, values):
 
 
 def same(what, found, recorded):
-    """Names the least row at which what was found isn't what was recorded."""
+    """Raises Differs with the smallest row that isn't as recorded."""
     for row in sorted(found.keys() | recorded.keys()):
         if found.get(row, ()) != recorded.get(row, ()):
             raise Differs(f"{what}: SQLite has {shown(row, found)}, the record {shown(row, recorded)}")
 
 
 def replay_order(history, order):
-    """The committed transactions one after another."""
+    """Runs the committed transactions one after another."""
     each_once(history, order)
     tables = history.beginning()
     for no in order:
@@ -135,7 +135,7 @@ def replay_order(history, order):
 
 
 def replay_places(history, places):
-    """The committed transactions by their starts and commits: `places` has a pair for each."""
+    """Runs the committed transactions by their starts and commits; `places` has both for each transaction."""
     each_once(history, [no for no, _ in places])
     points = sorted([(start, "start", no) for no, (start, _) in places] + [(end, "commit", no) for no, (_, end) in places])
     if len({place for place, _, _ in points}) < len(points) or any(end <= start for _, (start, end) in places):
@@ -159,7 +159,7 @@ def each_once(history, numbers):
 
 
 def verdict(report, name):
-    """What stands behind the yes of a verdict; None where it is a no."""
+    """The text after the `yes` of a verdict; None for a `no`."""
     found = re.search(rf"^{name}: (no |yes(?= |$))(.*)$", report, re.M)
     if not found:
         raise NothingToReplay(f"the report doesn't say whether it is {name}")
@@ -167,7 +167,7 @@ def verdict(report, name):
 
 
 def replays(text, report):
-    """A line for each verdict that is a yes, as it is replayed."""
+    """Replays each verdict that is a "yes", and yields a line for it."""
     history = History(text)
     order, places = verdict(report, "serializable"), verdict(report, "snapshot")
     if order is None and places is None:

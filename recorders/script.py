@@ -1,6 +1,6 @@
 """Reads a script: its setup, and the commands of its sessions (docs/FORMATS.md, "A script").
 
-`read` is the grammar of FORMATS, with its limits and its faults in their order.
+`read` follows the grammar of FORMATS, with its limits and the order of its faults.
 """
 import re
 from dataclasses import dataclass
@@ -21,25 +21,25 @@ SESSION = re.compile(rb"[ \t]*[Tt]([1-9])(?![A-Za-z0-9_])")
 
 
 class Fault(Exception):
-    """What a text that is no script is refused with: a line and a kind."""
+    """Why a text is not a script: a line and a kind of fault."""
 
     def __init__(self, line, kind):
         super().__init__(f"line {line}: {kind}")
 
 
 class Wrong(Exception):
-    """A kind of fault, in the line that is being read."""
+    """A kind of fault, in the current line."""
 
 
 @dataclass(frozen=True)
 class Script:
-    setup: dict  # a value for each row, and a row is its table and its id
+    setup: dict  # a value for each row; a row is a table and an id
     commands: tuple
     tables: tuple
 
 
 class Reader:
-    """Reads the tokens of one line after another, and keeps what is known of the whole script."""
+    """Reads the tokens of one line after another, and keeps the state of the whole script."""
 
     def __init__(self):
         self.tokens, self.begun, self.at = [], 0, 0
@@ -52,11 +52,11 @@ class Reader:
         return self.tokens[self.at] if self.at < len(self.tokens) else ""
 
     def unexpected(self):
-        """The fault of a token that can't stand here."""
+        """The fault of an unexpected token."""
         return Wrong("BadPredicate" if "where" in self.tokens[self.begun : self.at] else "UnknownStatement")
 
     def have(self, *texts):
-        """Takes the next token if it is one of these, and tells whether it was."""
+        """Takes the next token if it is one of these; returns whether it was."""
         if self.peek() not in texts or not self.peek():
             return False
         self.at += 1
@@ -118,7 +118,7 @@ class Reader:
         self.setup = rows
 
     def end(self, is_too_long):
-        """Takes what ends the setup or a statement: a `;`, or the end of the line."""
+        """Takes the end of the setup or of a statement: a `;` or the end of the line."""
         if self.peek() not in (";", ""):
             raise self.unexpected()
         if is_too_long:
@@ -144,7 +144,7 @@ class Reader:
         return id, value
 
     def read_statements(self):
-        """A line's commands, without the session, which is looked for last."""
+        """A line's commands, without the session, which is read last."""
         found = []
         while not found or self.peek():
             self.begun = self.at
@@ -155,7 +155,7 @@ class Reader:
         return [command for command in found if command]
 
     def command(self):
-        """The kind and the statement of a command, or None where there is none to give."""
+        """The kind and the statement of a command, or None for `set transaction`."""
         kind = self.one_of("begin", "commit", "abort", "rollback", "set", "select", "update", "insert", "delete")
         if kind == "set":
             self.want("transaction", "isolation", "level")
@@ -199,7 +199,7 @@ class Reader:
         return self.joined("or", lambda open: self.joined("and", self.negated, open), 0)
 
     def joined(self, word, part, open):
-        """Parts that a connective joins, grouped to the left; `open` counts the parentheses and nots that are open."""
+        """Parts joined by a connective, left-associative; `open` counts the open parentheses and `not`s."""
         tree = part(open)
         while self.have(word):
             tree = word, tree, part(open)
@@ -257,7 +257,7 @@ def take(reader, number, text):
 
 
 def lines_of(text):
-    """The lines of a text: a newline ends one, with a carriage return before it, and the last one may do without."""
+    """The lines of a text. Each ends with a newline, optionally after a carriage return; the last one needs none."""
     *whole, last = text.split(b"\n")
     return [line[:-1] if line.endswith(b"\r") else line for line in whole] + ([last] if last else [])
 
@@ -276,7 +276,7 @@ def read(text):
 
 
 def statement_of(text):
-    """The statement of a text that has one and nothing else, as a history's operations have it."""
+    """The statement of a text that has exactly one, as in a history's operations."""
     reader = Reader()
     reader.take_line(text)
     kind, statement = reader.command() or ("set", None)

@@ -1,19 +1,19 @@
-"""What dialects of servers share: a schema of the recorder's own, and clients that are ended before it is dropped."""
+"""What dialects of servers share: a separate schema, and clients that are ended before it is dropped."""
 import os
 import time
 
 from recording import Refused, Unreachable
 from tables import Tables
 
-DROPPING = 10  # seconds in which the schema has to go
+DROPPING = 10  # seconds to wait for the schema to be dropped
 
 
 class Served(Tables):
-    """The tables in a schema of their own, and connections by the server's client, a Client with its number as `id`."""
+    """The tables in a separate schema, and connections by the server's client, a Client with its number as `id`."""
 
-    CLIENT, OPTIONS = None, ()  # the class of its clients, and the words that are theirs
-    ENDING = ""  # what ends a connection
-    DROPPING = ()  # what is asked to drop the schema
+    CLIENT, OPTIONS = None, ()  # the class of its clients, and their options
+    ENDING = ""  # the SQL that ends a connection
+    DROPPING = ()  # the SQL statements that drop the schema
 
     def __init__(self, words, script):
         self.schema = f"hermitage_lab_{os.getpid()}_{time.time_ns()}"
@@ -32,7 +32,7 @@ class Served(Tables):
         super().make_tables()
 
     def close(self):
-        """Ends all connections, those that wait or were interrupted too, and drops the schema over another one."""
+        """Ends all connections, even waiting and interrupted ones, and drops the schema over a new one."""
         others = [client for client in self.connections if client.id]
         self.looker = self.connect()
         try:
@@ -50,11 +50,11 @@ class Served(Tables):
         try:
             self.ask(self.looker, self.ENDING.format(id=client.id))
         except Refused:
-            pass  # (it has ended)
+            pass  # (it has already ended)
 
 
 def add_options(parser, options):
-    """The words by which a server is found."""
+    """Adds the options of a server's connection."""
     for name, (metavar, about) in options.items():
         parser.add_argument(f"--{name}", metavar=metavar, help=about)
     return parser

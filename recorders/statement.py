@@ -1,4 +1,4 @@
-"""Statements of a script: their printed form, which a history has of them, and their condition in SQL."""
+"""Statements of a script: their printed form, which a history has, and their condition in SQL."""
 import math
 import operator
 from dataclasses import dataclass
@@ -11,12 +11,12 @@ COMPARED = {
 
 @dataclass(frozen=True)
 class Statement:
-    """A statement of one table; `where` is its condition as a tree, or None where it has none."""
+    """A statement on one table; `where` is its condition as a tree, or None."""
 
     kind: str
     table: str
     where: tuple = None
-    change: tuple = None  # of an update: a sign and a number, or no sign and the number that it sets
+    change: tuple = None  # of an update: a sign and a number; an empty sign means that it sets the number
     row: tuple = None  # of an insert: the id and the value
 
     def printed(self):
@@ -30,43 +30,43 @@ class Statement:
         return f"delete from {self.table}{where}"
 
     def result(self):
-        """What an update sets the value to, as a script has it and SQL too."""
+        """The new value of an update, as an expression in both a script and SQL."""
         sign, number = self.change
         return f"value {sign} {number}" if sign else str(number)
 
     def condition(self):
-        """The rows that it matches, in SQL."""
+        """Its condition in SQL."""
         return in_sql(self.where) if self.where else "true"
 
     def matches(self, id, value):
-        """Whether it matches a row; an insert matches one of its id."""
+        """Whether it matches a row; an insert matches the row with its id."""
         if self.row:
             return id == self.row[0]
         return not self.where or holds(self.where, {"id": id, "value": value})
 
     def left(self, value):
-        """The value that it leaves of a row that it matches: None where that is gone, or where nothing is written."""
+        """The new value of a row that it matches: None if the row is deleted, or if nothing is written."""
         if not self.change:
             return None
         sign, number = self.change
         return value + (-number if sign == "-" else number) if sign else number
 
     def among(self, ids):
-        """Those of some ids whose rows it may match, whatever their values are."""
+        """The ids, of those given, whose rows it may match, whatever their values."""
         if self.row:
             return {self.row[0]}.intersection(ids)
         found = self.where and of_ids(self.where)
         return {id for id in ids if holds(found, {"id": id})} if found else set(ids)
 
     def ids(self):
-        """A condition in SQL on ids alone, which every row that it matches meets."""
+        """A condition in SQL on ids only, which holds for every row that it matches."""
         found = self.where and of_ids(self.where)
         return in_sql(found) if found else "true"
 
 
 @dataclass(frozen=True)
 class Command:
-    """What one session is to do: `begin`, `commit`, `abort`, or a statement."""
+    """A command of one session: `begin`, `commit`, `abort`, or a statement."""
 
     line: int
     session: int
@@ -78,7 +78,7 @@ class Command:
 
 
 def printed(tree):
-    """A condition in its printed form: parentheses stand only where it needs them."""
+    """A condition in its printed form, with only the necessary parentheses."""
     kind, *parts = tree
     if kind == "not":
         return f"not {enclosed(parts[0], ('and', 'or'))}"
@@ -100,7 +100,7 @@ def printed_atom(kind, column, *parts):
 
 
 def in_sql(tree):
-    """A condition in SQL, which has no list that holds nothing."""
+    """A condition in SQL, which has no empty lists."""
     kind, *parts = tree
     if kind == "not":
         return f"(not {in_sql(parts[0])})"
@@ -110,7 +110,7 @@ def in_sql(tree):
 
 
 def holds(tree, row):
-    """Whether a row meets a condition, as SQL has it: the sign of a remainder is that of the number."""
+    """Whether a row meets a condition, as in SQL: a remainder has the sign of the dividend."""
     kind, *parts = tree
     if kind == "not":
         return not holds(parts[0], row)
@@ -123,13 +123,13 @@ def holds(tree, row):
 
 
 def columns(tree):
-    """The columns that a condition asks."""
+    """The columns in a condition."""
     kind, *parts = tree
     return set().union(*map(columns, parts)) if kind in ("not", "and", "or") else {parts[0]}
 
 
 def of_ids(tree):
-    """A condition on ids alone that holds wherever this one does; None where that would be any row."""
+    """A condition on ids only that is implied by this one; None if that doesn't restrict ids."""
     kind, *parts = tree
     if kind in ("and", "or"):
         found = [part for part in map(of_ids, parts) if part]

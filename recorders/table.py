@@ -1,7 +1,7 @@
-"""A table of texts, printed by itself, in Markdown, or as a picture."""
+"""A table of texts, as plain text, in Markdown, or as an SVG picture."""
 from xml.sax.saxutils import escape
 
-GAP, ACROSS, DOWN, MARGIN = 2, 6.8, 16, 16  # of columns in characters; of a character, a line and the edge in pixels
+GAP, ACROSS, DOWN, MARGIN = 2, 6.8, 16, 16  # characters between columns; pixels of a character, a line and the margin
 
 
 def widths(lines):
@@ -19,7 +19,7 @@ def as_markdown(title, lines):
 
 
 def as_svg(title, lines):
-    """Columns stand where their characters would, and the head and the last line are bold."""
+    """Aligns columns as in plain text; the head and the last line are bold."""
     starts, at = [], MARGIN
     for width in widths(lines):
         starts.append(at)

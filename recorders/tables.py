@@ -1,10 +1,10 @@
-"""What dialects of SQL share: the tables, whose rows have the names of their versions, and the statements over them.
+"""What SQL dialects share: the tables, whose rows have the names of their versions, and the statements on them.
 
-Every row has a version beside its value, in five columns: `txn` and `op` name it, and `old_value`, `old_txn` and
-`old_op` are what it replaced. An update fills them from the right side of its own `set`, where the database has the row that the
-statement is about to change, also where it waited for that row and looked at it again. An insert and a select have
-nothing to replace; a delete leaves a note of its version, which stands for the absent row. What a statement saw of the
-rows that it didn't list is asked otherwise, and the dialect says how (docs/RECORDING.md, "Recorders").
+Every row has a value and five more columns: `txn` and `op` name its version, and `old_value`, `old_txn` and `old_op`
+describe the version that it replaced. An update fills these from the right side of its `set`, where the database has the
+row that is about to change, even if the update waited for the row and checked it again. An insert and a select replace
+nothing. A delete stores a note with its version, which represents the absent row. How the versions of rows that a
+statement didn't return are found depends on the dialect (docs/RECORDING.md, "Recorders").
 """
 from database import Database
 from recording import Refused, Unreachable
@@ -23,16 +23,16 @@ def version(no, op):
 
 
 def change_of(statement, name):
-    """What an update sets, or a delete where rows that are gone stay. What is replaced comes first, for databases that
-    set one column after the other."""
+    """The `set` of an update, or of a delete that marks rows as gone. The old values come first, for databases that
+    assign from left to right."""
     no, op = name
     left = statement.result() if statement.change else "value"
     return f"old_value = value, old_txn = txn, old_op = op, value = {left}, txn = {no}, op = {op}"
 
 
 def write_of(statement, table, name):
-    """A statement in SQL. It gives the rows that it lists: id, and of the version that it found there value and name;
-    and last the value that it leaves."""
+    """A statement in SQL. For each row that it returns: the id, the old value, the name of the old version, and the new
+    value."""
     no, op = name
     where = f"where {statement.condition()}"
     if statement.kind == "select":
@@ -47,18 +47,18 @@ def write_of(statement, table, name):
 
 
 class Tables(Database):
-    """The tables of a script, and a connection that looks at them from outside all transactions. Its dialect has also
+    """The tables of a script, and a connection that reads them outside all transactions. Its dialect also has
 
-    ask(connection, question)       the rows of an answer, each of numbers, texts and None; Refused
-    ROOM                            what stands before a table's name
-    PLACE                           the type of a key that rises by itself
-    DRAWING                         what draws a place
-    VERSION                         what gives the version in SQL
+    ask(connection, question)       the rows of a result, each of numbers, texts and None; raises Refused
+    ROOM                            the prefix of table names
+    PLACE                           the type of an ascending generated key
+    DRAWING                         the SQL that draws a commit number
+    VERSION                         the SQL expression for the server's version
     """
 
     ROOM, PLACE, VERSION, COLUMNS = "", "integer primary key", "version()", COLUMNS
     DRAWING = "insert into {room}commit1 (txn) values ({no}) returning place"
-    PRESENT = "true"  # the rows that a user of the table would see
+    PRESENT = "true"  # the condition of rows that aren't gone
 
     def __init__(self, words, script):
         super().__init__(words, script)
@@ -69,7 +69,7 @@ class Tables(Database):
         return connection.ask(question)
 
     def asked(self, connection, question):
-        """An answer to the recorder's own question, which the database isn't expected to refuse."""
+        """The result of the recorder's own query, which the database isn't expected to refuse."""
         try:
             return self.ask(connection, question)
         except Refused as why:
@@ -83,7 +83,7 @@ class Tables(Database):
             self.look(f"create table {self.table(name)} ({self.COLUMNS})")
         for (name, id), value in self.script.setup.items():
             self.look(f"insert into {self.table(name)} (id, value) values ({id}, {value})")
-        # Names with a digit aren't those of a script's tables.
+        # The digit avoids clashes with a script's tables.
         numbers = "id integer, txn integer, op integer"
         self.look(f"create table {self.ROOM}gone1 (place {self.PLACE}, name varchar(16), {numbers})")
         self.look(f"create table {self.ROOM}commit1 (place {self.PLACE}, txn integer)")
@@ -108,9 +108,9 @@ class Tables(Database):
             self.look(f"delete from {self.ROOM}{name}")
 
     def seeing(self, statement=None):
-        """A question for the versions of all rows, present and gone, and which of them the statement matches. Of the
-        notes of a row the last one counts: it is gone again only after it was inserted again, which waits for who
-        deleted it before, so places rise with time."""
+        """A query for the versions of all rows, present and gone, and which of them the statement matches. The last note
+        of a row counts: between two deletes the row was inserted, which waited for the first of them, so the notes'
+        numbers rise with time."""
         notes = f"{self.ROOM}gone1"
         last = f"(select max(place) from {notes} other where other.name = one.name and other.id = one.id)"
         parts = [f"select 'seen', name, id, txn, op, 0, 0 from {notes} one where place = {last}"]
@@ -121,7 +121,7 @@ class Tables(Database):
         return " union all ".join(parts)
 
     def noting(self, statement, name, source):
-        """What notes the versions of a delete: `source` is a table of its ids."""
+        """The SQL that stores the notes of a delete; `source` is a table of its ids."""
         noted = f"select '{statement.table}', id, {name[0]}, {name[1]} from {source}"
         return f"insert into {self.ROOM}gone1 (name, id, txn, op) {noted}"
 
@@ -136,7 +136,8 @@ class Tables(Database):
 
 
 def seen_in(lines):
-    """The versions that a look gives, a row that is present before its notes; and the rows that match."""
+    """The versions in the result of `seeing`, where a present row takes precedence over its notes; and the rows that
+    match."""
     seen, matched = {}, set()
     for _, name, id, no, op, is_present, matches in lines:
         row = name, id

@@ -1,4 +1,5 @@
-"""Chromium without a window, asked over its own protocol by two pipes: the messages are JSON, each with a NUL behind it."""
+"""Headless Chromium, controlled over its own protocol through two pipes. The messages are JSON, each followed by a NUL
+byte."""
 import fcntl
 import json
 import os
@@ -17,7 +18,7 @@ class Browser:
 
     @staticmethod
     def found():
-        """The browser of this machine, or None."""
+        """The browser on this machine, or None."""
         path = next((path for path in map(shutil.which, NAMES) if path), None)
         return Browser(path) if path else None
 
@@ -89,7 +90,7 @@ class Browser:
             self.events.append(self.message())
 
     def go(self, address):
-        """Shows a page anew, and answers how many files were asked for."""
+        """Loads a page, and returns how many files were requested."""
         self.load("about:blank")
         self.load(address)
         self.evaluate("1")
@@ -97,7 +98,7 @@ class Browser:
         return sum(it.get("method") == "Network.requestWillBeSent" for it in self.events)
 
     def evaluate(self, text):
-        """What an expression comes to in the page."""
+        """The value of an expression in the page."""
         found = self.ask("Runtime.evaluate", expression=text, returnByValue=True)
         if "exceptionDetails" in found:
             raise ValueError(f"{text}: {found['exceptionDetails']['text']}")
@@ -110,7 +111,7 @@ class Browser:
         self.ask("Input.dispatchMouseEvent", type="mouseMoved", x=across, y=down)
 
     def point_at(self, selector):
-        """Puts the mouse on what a selector finds."""
+        """Moves the mouse over the element that a selector finds."""
         across, down = self.evaluate(f"""(() => {{
           const it = document.querySelector({json.dumps(selector)}); it.scrollIntoView({{block: 'center'}});
           const at = it.getBoundingClientRect(); return [at.left + 4, at.top + at.height / 2];

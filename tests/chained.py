@@ -1,6 +1,6 @@
-"""Runs in parts near the limits, answers about pieces of them, and what is due of them, from docs/FORMATS.md.
+"""Runs in parts near the limits, outputs about pieces of them, and the expected results, from docs/FORMATS.md.
 
-tests/made.py makes most histories; what is due of a run follows from the reports that are due of its parts."""
+tests/made.py makes most histories. The expected result for a run follows from the expected reports of its parts."""
 import collections
 import json
 import os
@@ -10,8 +10,8 @@ import made
 LINES = "serializable", "snapshot", *made.PHENOMENA
 LONG = 3  # parts at the limits
 MOST, OPERATIONS, ROWS = 1_000, 10, 1_000  # transactions of a part, operations of each, and rows
-MOST_BYTES, LISTED = 8_388_608, 100_000  # of an input, and names in a list of files
-NAME, PATH = 255, 4_095  # bytes of a file's name, and of a path to it
+MOST_BYTES, LISTED = 8_388_608, 100_000  # bytes of an input, and names in a list of files
+NAME, PATH = 255, 4_095  # bytes of a file name, and of a path to it
 TABLES = "a_table_of_words", "accounts_of_last", "stock", "test"
 
 
@@ -21,8 +21,8 @@ def written(value):
 
 
 def adding(before, transactions, operations, rows):
-    """A part in which transactions one after another add 1 to one row after another, each to different ones, of rows that
-    hold a value each; its file, and the value of the first row behind it."""
+    """A part whose transactions, one after another, add 1 to one row after another. Each uses different rows, all with
+    the same initial value. Returns its file, and the value of the first row after it."""
     value, seen, all_ops = [before] * (rows + 1), {}, []
     installed = [[] for _ in range(rows + 1)]
     for no in range(1, transactions + 1):
@@ -43,7 +43,7 @@ def adding(before, transactions, operations, rows):
 
 
 def adding_run(parts, transactions, operations, rows):
-    """The files of the parts of such a run. Each row comes as often as any other."""
+    """The files of the parts of such a run. Each row is used equally often."""
     value, files = 0, []
     for _ in range(parts):
         file, value = adding(value, transactions, operations, rows)
@@ -52,37 +52,37 @@ def adding_run(parts, transactions, operations, rows):
 
 
 def unchanged(entries):
-    """The file of a part without transactions, of these rows, each with its table's name."""
+    """The file of a part without transactions, with these rows, each with its table's name."""
     return written({"format": "hermitage-history", "version": 2, "initial": entries, "transactions": [], "installed": [],
                     "end": entries})
 
 
 def told(parts, lines, level):
-    """The eleven lines of a run: what they say but `yes` and `absent` stands in `lines`."""
+    """The eleven lines of a run. `lines` has those that aren't `yes` or `absent`."""
     said = [f"{name}: {lines.get(name, 'absent' if name in made.PHENOMENA else 'yes')}" for name in LINES]
     return "\n".join([f"=== parts {parts}", *said, f"level: {level}", ""]).encode()
 
 
 def everywhere(said):
-    """The lines of a run of which the same is said in each."""
+    """The lines of a run in which every line says the same."""
     return dict.fromkeys(LINES, said)
 
 
 def unjudged(parts, name):
-    """The eleven lines of a run of which the first part that was refused, or isn't there, has this name; no other shows
+    """The eleven lines of a run whose first refused or missing part has this name, and in which no other part shows
     anything."""
     return told(parts, everywhere(f"not judged {name}"), "not judged")
 
 
 def at_seam(parts, name, row):
-    """The eleven lines of a run that is a yes, but that the part of this name doesn't fit, by this row."""
+    """The eleven lines of a run that is a yes, except that the part of this name doesn't fit, at this row."""
     verdict = f"no {name}: seam row {row}"
     lines = everywhere(f"not judged {name}") | {"serializable": verdict, "snapshot": verdict}
     return told(parts, lines, "unsound")
 
 
 def of_part(name, said):
-    """What a line of a report says, as the line of a run says it of the part of this name."""
+    """The text of a report's line, as the run's line has it for the part of this name."""
     word, _, reason = said.partition(" ")
     if word in ("no", "present"):
         return f"{word} {name}: {reason}"
@@ -90,19 +90,19 @@ def of_part(name, said):
 
 
 def of_one(parts, name, report):
-    """The eleven lines of a run of which the part of this name has this report, and the others say yes."""
+    """The eleven lines of a run in which the part of this name has this report, and the others say yes."""
     said = dict(line.split(": ", 1) for line in report.decode().splitlines())
     level = said.pop("level")
     return told(parts, {line: of_part(name, of) for line, of in said.items()}, level)
 
 
 def missing(names):
-    """What is written of files that aren't there."""
+    """The output for missing files."""
     return b"".join(b"== %s\nfile: unreadable\n" % name.encode() for name in names)
 
 
 def answer(parts, first, initial, end):
-    """What `chain --json` writes of so many parts that are a yes. Rows have their tables' names."""
+    """The output of `chain --json` for this many parts, all a yes. Rows have their tables' names."""
     return written({
         "parts": parts, "first": first, "initial": initial, "end": end, "level": "PL-3",
         "serializable": {"verdict": "yes"}, "snapshot": {"verdict": "yes"},
@@ -111,21 +111,21 @@ def answer(parts, first, initial, end):
 
 
 def rows_of(value, rows):
-    """Rows of `test` with one value."""
+    """Rows of `test`, all with one value."""
     return [["test", row, value] for row in range(1, rows + 1)]
 
 
-# How a run is called, its input, what is due, and whether it has one worker.
+# The arguments of a run, its input, the expected output, and whether it has one worker.
 Run = collections.namedtuple("Run", "words text due status by_one", defaults=(0, False))
 
 
 def by_one_worker():
-    """Leaves a run one processor, and so one worker: where parts are short, the start of several takes most of the time."""
+    """Leaves a run one processor, and so one worker: with short parts, starting several workers takes most of the time."""
     os.sched_setaffinity(0, {min(os.sched_getaffinity(0))})
 
 
 def put(room, files):
-    """Puts files there, each with its name."""
+    """Writes files there under their names."""
     for name, file in files.items():
         os.makedirs(os.path.dirname(f"{room}/{name}"), exist_ok=True)
         with open(f"{room}/{name}", "wb") as new:
@@ -133,12 +133,12 @@ def put(room, files):
 
 
 def listed(names):
-    """The words and the input of a list."""
+    """The arguments and the input of a list of names."""
     return ["--files-from", "-"], "".join(f"{name}\n" for name in names).encode()
 
 
 def long_parts(room, rings):
-    """Runs whose parts have as many transactions and operations as may be; and whose first part is a ring."""
+    """Runs whose parts have the greatest number of transactions and operations, and runs whose first part is a ring."""
     files = adding_run(LONG, MOST, OPERATIONS, ROWS)
     names = [f"long{number}.json" for number in range(LONG)]
     put(room, dict(zip(names, files)))
@@ -155,7 +155,7 @@ def long_parts(room, rings):
 
 
 def wide_seams(room):
-    """Parts with as many rows as may be, of four tables, which differ at one row or more."""
+    """Parts with the greatest number of rows, of four tables, which differ at one row or more."""
     rows = [[table, 999_001 + row, row] for table in TABLES for row in range(ROWS // len(TABLES))]
     rows.sort()
     changed = {"last": [*rows[:-1], [*rows[-1][:2], -1]], "none": [], "all": [[*row[:2], -1] for row in rows],
@@ -167,17 +167,18 @@ def wide_seams(room):
         table, row, _ = rows[place]
         due = at_seam(20, f"{name}.json", f"{table} {row}".removeprefix("test "))
         yield Run(["chain", *["same.json"] * 19, f"{name}.json"], b"", due)
-        yield Run(["chain", "--json", "same.json", f"{name}.json"], b"", lambda out, it=changed[name]: is_answer(out, rows, it))
+        words = ["chain", "--json", "same.json", f"{name}.json"]
+        yield Run(words, b"", lambda ran, it=changed[name]: is_answer(ran.stdout, rows, it))
 
 
 def is_answer(out, initial, end):
-    """Whether the answer has these rows at its ends."""
+    """Whether the output has these rows at its ends."""
     said = json.loads(out)
     return (said["initial"], said["end"]) == (initial, end) and written(said) + b"\n" == out
 
 
 def refused_at_the_end(room):
-    """A part as long as may be that is refused at its last byte, or is a byte too long, between two others."""
+    """A part of maximal length that is refused at its last byte, or is one byte too long, between two others."""
     part = unchanged([["test", 1, 0]])
     put(room, {"part.json": part, "whole.json": part.rjust(MOST_BYTES), "cut.json": part[:-1].rjust(MOST_BYTES),
                "more.json": (part + b"x").rjust(MOST_BYTES), "long.json": part.rjust(MOST_BYTES + 1)})
@@ -188,7 +189,7 @@ def refused_at_the_end(room):
 
 
 def many_parts(room):
-    """Runs of many parts: named one by one, and in a list of many names, of which most name no file, or one in the middle."""
+    """Runs of many parts: named one by one, and in a list of many names, most of which or one of which name no file."""
     part, names = unchanged([["test", 1, 0]]), [f"p{number}.json" for number in range(MOST)]
     put(room, dict.fromkeys(names, part))
     yield Run(["chain", *names], b"", told(MOST, {}, "PL-3"))
@@ -205,7 +206,7 @@ def no_answer(names):
 
 
 def long_names(room):
-    """Parts whose names are as long as the system has them, and names that are longer, up to that of a whole list."""
+    """Parts whose names have the greatest length that the system allows, and longer names, up to that of a whole list."""
     deep, wide = ("d" * 39 + "/") * (PATH // 40) + "n" * (PATH % 40), "n" * NAME
     part = unchanged([["test", 1, 0]])
     put(room, {wide: part, "part.json": part, "no.json": unchanged([["test", 1, 7]])})
@@ -214,10 +215,23 @@ def long_names(room):
     for name in wide + "n", deep, "n" * 1_000_000, "n" * (MOST_BYTES - len("part.json\n") - 1):
         words, text = listed(["part.json", name])
         yield Run(["chain", *words], text, missing([name]) + unjudged(2, name), 3)
+    yield from long_lists()
+
+
+def long_lists():
+    """Runs with lists of names that are as long as allowed, and longer. None of the names is that of a file."""
+    count = MOST_BYTES // 4_096
+    names = [f"{number:04095}" for number in range(count)]
+    words, text = listed(names)
+    assert len(text) == MOST_BYTES
+    yield Run(["batch", *words], text, missing(names), 3)
+    yield Run(["chain", *words], text, missing(names) + unjudged(count, names[0]), 3)
+    for word, more in ("batch", "n"), ("chain", "\n"), ("batch", "part.json\n" * 100_000), ("chain", "part.json\n" * 100_000):
+        yield Run([word, *words], text + more.encode(), b"", 5)
 
 
 def many_answers(room):
-    """Answers about pieces with as many rows as may be, and one that stands where an input ends."""
+    """Outputs about pieces with the greatest number of rows, and one at the end of the longest input."""
     count, names = 100, []
     for number in range(count):
         names.append(f"answer{number}.json")
@@ -235,7 +249,7 @@ def many_answers(room):
 
 
 def inputs(room, rings):
-    """The name of each kind of input, and its runs; `rings` make histories whose dependencies lead round."""
+    """The name of each kind of input, and its runs. `rings` make histories with a cycle of dependencies."""
     yield "parts with as much as may be", long_parts(room, rings)
     yield f"seams of {ROWS} rows", wide_seams(room)
     yield "parts that are refused at their end", refused_at_the_end(room)

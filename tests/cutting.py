@@ -1,29 +1,30 @@
-"""What may be cut of a history, and whether one is a part of another, by the rules of docs/FORMATS.md, "A smaller history".
+"""The cuts that are possible in a history, and whether one history is a part of another, by the rules of docs/FORMATS.md, "A
+smaller history".
 
-A history is the value of a file of version 2. These bodies are plain and slow."""
+A history is the value of a file of version 2. These functions are simple and slow."""
 from itertools import islice, product
 
 LISTS = "view", "rows", "writes"
-MOST_WAYS = 10_000  # that operations are matched in, so that a wrong history of many alike ones takes no hours
+MOST_WAYS = 10_000  # so many ways to match operations are tried, so that a wrong history of many equal ones doesn't take hours
 
 
 def named(member):
-    """The row that a member of a list is about."""
+    """The row of a list's member."""
     return tuple(member[:2])
 
 
 def states(operations, row):
-    """The states in which operations left a row, None where it is absent, the last one last."""
+    """The states in which operations left a row, the last one last; None if it is absent."""
     return [member[2] for op in operations for member in op["writes"] if named(member) == row]
 
 
 def writer(operations, row):
-    """The last of some operations that wrote a row, None where none did."""
+    """The last of some operations that wrote a row, or None."""
     return next((op for op in reversed(operations) if states([op], row)), None)
 
 
 def left(operations, no, row):
-    """The state in which a transaction leaves a row by these operations of transactions; absent where it wrote none."""
+    """The state in which these operations of a transaction leave a row; absent if they don't write it."""
     op = writer(operations.get(no, ()), row)
     return op and states([op], row)[0]
 
@@ -44,13 +45,13 @@ def listed(rows):
 
 
 def without_operations(history, is_cut):
-    """A history without the operations that `is_cut` tells, by the transaction's number and the operation's."""
+    """A history without the operations for which `is_cut` holds, by the transaction's number and the operation's."""
     before = {txn["no"]: txn["ops"] for txn in history["transactions"]}
     kept = {no: [place for place in range(1, len(ops) + 1) if not is_cut(no, place)] for no, ops in before.items()}
     places = {(no, place): new for no, of in kept.items() for new, place in enumerate(of, 1)}
 
     def seen(view):
-        """A view, in which operations are counted anew, and those that are cut aren't seen."""
+        """A view with renumbered operations, and without those that are cut."""
         for *row, no, place in view:
             if (no, place) in places:
                 yield [*row, no, places[no, place]]
@@ -75,7 +76,7 @@ def without_operations(history, is_cut):
 
 
 def with_rows(history, is_kept):
-    """A history of which all lists are without the rows that aren't kept."""
+    """A history whose lists all lack the rows that aren't kept."""
     def of(members):
         return [member for member in members if is_kept(named(member))]
 
@@ -85,14 +86,14 @@ def with_rows(history, is_kept):
 
 
 def without_entry(history, cut):
-    """A history without an entry of a view, told by its transaction's number, its operation's and its row."""
+    """A history without an entry of a view, given by its transaction's number, its operation's and its row."""
     transactions = [txn | {"ops": [op | {"view": [it for it in op["view"] if (txn["no"], place, named(it)) != cut]}
                                    for place, op in enumerate(txn["ops"], 1)]} for txn in history["transactions"]]
     return history | {"transactions": transactions}
 
 
 def single_cuts(history):
-    """What each single cut leaves, with its name: of a transaction, an operation, a row, an entry of a view."""
+    """The results of all single cuts, with their names: of a transaction, an operation, a row, an entry of a view."""
     operations = [(txn["no"], place, op) for txn in history["transactions"] for place, op in enumerate(txn["ops"], 1)]
     cuts = [(f"T{txn['no']}", lambda no, place, of=txn["no"]: no == of) for txn in history["transactions"]]
     cuts += [(f"T{of} op {at}", lambda no, place, it=(of, at): (no, place) == it) for of, at, _ in operations]
@@ -111,7 +112,7 @@ def is_sublist(part, whole):
 
 
 class Comparison:
-    """A history beside the one of which it has to be a part."""
+    """A history, and another one of which it has to be a part."""
 
     def __init__(self, part, whole):
         self.part, self.whole = part, whole
@@ -119,7 +120,7 @@ class Comparison:
         self.ops, self.old = ({txn["no"]: txn["ops"] for txn in it["transactions"]} for it in (part, whole))
 
     def wrong(self):
-        """What isn't as it has to be; an empty text where it is a part."""
+        """The reason why it isn't a part; empty if it is."""
         heads, old = ([(txn["no"], txn["outcome"]) for txn in it["transactions"]] for it in (self.part, self.whole))
         if not is_sublist(heads, old):
             return f"the transactions {heads}"
@@ -139,8 +140,8 @@ class Comparison:
         return wrong
 
     def ways(self, ops, old, place=0, found=()):
-        """The places, in the whole's transaction, that a part's operations may have: they list the same of the rows that
-        the part has, and are in the same order."""
+        """The possible positions, in the whole's transaction, of a part's operations: they return the same for the rows
+        that the part has, in the same order."""
         if not ops:
             yield found
             return
@@ -149,13 +150,13 @@ class Comparison:
                 yield from self.ways(ops[1:], old, at + 1, (*found, at + 1))
 
     def is_of(self, op, old):
-        """Whether an operation is another one's, as far as the versions that it sees are their transactions'."""
+        """Whether an operation equals another one, apart from the operations' numbers in its view."""
         lists = all(op[key] == [it for it in old[key] if named(it) in self.rows] for key in ("rows", "writes"))
         seen, before = ([it[:3] for it in of["view"]] for of in (op, old))
         return lists and op["statement"] == old["statement"] and is_sublist(seen, before)
 
     def are_seen(self, places):
-        """Whether views name the versions that they did, where operations had these places."""
+        """Whether views name the same versions as before, if operations had these positions."""
         for no, ops in self.ops.items():
             for op, place in zip(ops, places[no]):
                 seen = {named(it): it[2:] for it in self.old[no][place - 1]["view"]}
@@ -164,13 +165,14 @@ class Comparison:
         return True
 
     def place_before(self, places, no, place):
-        """The place that an operation had; one that there is none has its own, if there was none either."""
+        """The former position of an operation. A nonexistent operation keeps its number, if it didn't exist before
+        either."""
         if 1 <= place <= len(self.ops.get(no, ())):
             return places[no][place - 1]
         return place if not 1 <= place <= len(self.old.get(no, ())) else None
 
     def wrong_at(self, places, row):
-        """What is wrong with the installers, the beginning and the end of a row."""
+        """The error in the installers, the initial state or the final state of a row."""
         by = by_row(self.whole["installed"]).get(row, [])
         stays = [no for no in by if states(self.ops.get(no, ()), row) or not states(self.old.get(no, ()), row)]
         if by_row(self.part["installed"]).get(row, []) != stays:

@@ -1,8 +1,8 @@
-"""A plainer body of `explain`: the sentences that are due of a sound history and its report, from docs/PICTURES.md.
+"""A reference implementation of `explain`: the expected sentences for a sound history and its report, from docs/PICTURES.md.
 
-Of the operations that may read at one end of a dependency it takes the first that saw the right version and, where a
-listed row makes the dependency, listed it. Whether a version changes what a condition finds isn't looked at, so no
-statement before may see the row without making the dependency."""
+Of the operations that may be the reading end of a dependency, it takes the first that saw the right version and, if the
+dependency is by a returned row, returned it. It doesn't test whether a version changes what a condition matches, so no
+earlier statement may see the row without causing the dependency."""
 import json
 import re
 
@@ -19,12 +19,12 @@ SNAPSHOT = (
     "A snapshot run: each transaction sees what had committed before its start, and its own writes; no row is written "
     "by two that overlap."
 )
-# The names that phenomena have, whatever their cycles; those of the others are nicknames of the cycles.
+# The names of phenomena that don't depend on the cycle; the others have nicknames by their cycles.
 TITLES = {
     "G0": "dirty write", "G1a": "aborted read", "G1b": "intermediate read", "G1c": "circular information flow",
     "G-single": None, "G2-item": None, "G2": None,
 }
-CYCLES = "G0", "G1c", "G-single", "G2-item", "G2"  # the phenomena that are present by a cycle
+CYCLES = "G0", "G1c", "G-single", "G2-item", "G2"  # phenomena that are present by a cycle
 LEVELS = {
     "below PL-1": "Below level PL-1, which forbids G0.",
     "PL-1": "Level PL-1. PL-2 (read committed) forbids G1a, G1b and G1c.",
@@ -33,11 +33,11 @@ LEVELS = {
     "PL-3": "Level PL-3 (serializable).",
 }
 LAST = "What each line says, and what a no doesn't: docs/REPORT.md."
-TOLD = 10  # transactions whose places are told
+TOLD = 10  # transactions whose timestamps are given
 
 
 def wrapped(text, lead=""):
-    """The lines of a sentence. What stands in square brackets at its end stays on one line."""
+    """The lines of a sentence. Text in square brackets at its end stays on one line."""
     front, bracket, back = text.partition(" [")
     first, *words = front.split(" ") + [f"[{back}"] * bool(bracket)
     lines = [lead + first]
@@ -50,7 +50,7 @@ def wrapped(text, lead=""):
 
 
 def standing(most, sentences):
-    """The lines of the first sentences that have so many together at most; of a longer one its first lines."""
+    """The first sentences that have at most this many lines together; of a longer first one, its first lines."""
     lines = []
     for sentence in sentences:
         room = most - len(lines)
@@ -61,24 +61,25 @@ def standing(most, sentences):
 
 
 def cut(most, sentences):
-    """What stands of sentences that have more lines, and last how many lines are left out."""
+    """The lines that remain of sentences that have more, and last how many are left out."""
     lines = standing(most - 1, sentences)
     return [*lines, f"  .. and {len(sum(sentences, [])) - len(lines)} lines more"]
 
 
 def capped(most, sentences):
-    """Sentences in so many lines at most."""
+    """Sentences in at most this many lines."""
     lines = sum(sentences, [])
     return lines if len(lines) <= most else cut(most, sentences)
 
 
 def dependencies(walk):
-    """The dependencies of a cycle as the report prints it: who comes first, of which kind, the row, and who comes next."""
+    """The dependencies of a cycle as the report prints it: the first transaction, the kind, the row, the second
+    transaction."""
     return re.findall(r"T(\d+) ([a-z-]+)\(([^)]*)\)(?= T(\d+))", walk)
 
 
 def most_particular(cycle):
-    """The most particular name that a cycle has."""
+    """The most specific name of a cycle."""
     kinds = [kind for _, kind, _, _ in cycle]
     antis = [kind for kind in kinds if kind.startswith("rw")]
     if not antis:
@@ -89,12 +90,12 @@ def most_particular(cycle):
 
 
 def row_of(name):
-    """The row of a printed name: its table, and its number."""
+    """The row of a printed name: its table and its number."""
     return ("test", int(name)) if " " not in name else (name.split()[0], int(name.split()[1]))
 
 
 class Explained:
-    """The explanation of a history, of which the report is known."""
+    """The explanation of a history whose report is known."""
 
     def __init__(self, history):
         whole = json.loads(history)
@@ -103,7 +104,7 @@ class Explained:
         self.installed = {tuple(entry[:2]): entry[2] for entry in whole["installed"]}
 
     def written(self, row, no, number):
-        """The value that an operation wrote to a row; None where it deleted the row, or wrote nothing."""
+        """The value that an operation wrote to a row; None if it deleted the row, or wrote nothing."""
         return next((it[2] for it in self.operations[no][number - 1]["writes"] if tuple(it[:2]) == row), None)
 
     def last_write(self, row, no):
@@ -111,16 +112,16 @@ class Explained:
         return next(it for it in numbers if any(tuple(w[:2]) == row for w in self.operations[no][it - 1]["writes"]))
 
     def version_seen(self, row, no, number):
-        """The transaction and the operation that wrote what an operation saw; None for the initial version."""
+        """The transaction and the operation that wrote the version that an operation saw; None for the initial version."""
         view = self.operations[no][number - 1]["view"]
         return next(((it[2], it[3]) for it in view if tuple(it[:2]) == row), None)
 
     def place_of(self, row, no):
-        """How many versions of a row are installed up to a transaction's own."""
+        """How many versions of a row are installed, up to a transaction's own."""
         return self.installed[row].index(no) + 1
 
     def first_reader(self, row, no, fits, lists):
-        """The first operation that saw a version at a place that fits, and listed the row where it has to."""
+        """The first operation that saw a version at a fitting position, and returned the row if it has to."""
         for number, it in enumerate(self.operations[no], 1):
             version = self.version_seen(row, no, number)
             if fits(self.place_of(row, version[0]) if version else 0):
@@ -138,7 +139,7 @@ class Explained:
         return f"{state(self.written(row, *version))} (the version of statement {version[1]} of T{version[0]})"
 
     def left_next(self, row, no, which):
-        """How a transaction left a row, as the second part of a sentence."""
+        """The state in which a transaction left a row, as the second half of a sentence."""
         writer = self.last_write(row, no)
         return f", and {self.operation(no, writer)} left it{state(self.written(row, no, writer))}, {which}"
 
@@ -191,19 +192,19 @@ class Explained:
         return [nickname for nickname, has in forms.items() if has]
 
     def name(self, phenomenon, walk):
-        """A phenomenon with its textbook name, or with the nicknames of the cycle by which it is present, if it is."""
+        """A phenomenon with its textbook name, or with the nicknames of the cycle by which it is present, if any."""
         words = TITLES[phenomenon] or (", ".join(self.nicknames(walk)) if walk else "")
         return f"{phenomenon} ({words})" if words else phenomenon
 
     def alone(self, phenomenon, found):
-        """The sentences of a phenomenon that is explained by itself."""
+        """The sentences for a phenomenon that is explained alone."""
         if found == "absent":
             return [wrapped(f"{self.name(phenomenon, None)}: absent.")]
         walk = found.removeprefix("present ")
         return [wrapped(f"{self.name(phenomenon, walk)}: present: {ROUND}"), *self.steps(walk)]
 
     def beside(self, phenomenon, found, of_serial):
-        """The lines of a phenomenon beside a serial verdict with this cycle."""
+        """The lines for a phenomenon beside a serial verdict with this cycle."""
         if found == "absent":
             return capped(3, self.alone(phenomenon, found))
         walk = found.removeprefix("present ")
@@ -237,14 +238,14 @@ def told_places(verdict):
 
 
 def told_beside(found, walk):
-    """The phenomenon whose cycle is told beside a serial verdict with this walk: the first that is present by a cycle, if
-    that is another one; None where there is none."""
+    """The phenomenon whose cycle is explained beside a serial verdict with this one: the first that is present by a
+    cycle, if that is another cycle; else None."""
     present = [name for name in CYCLES if found[name] not in ("absent", "not judged")]
     return present[0] if present and found[present[0]] != f"present {walk}" else None
 
 
 def explanation(history, report, phenomenon=None):
-    """What `explain` writes of a sound history with this report, or of one of its phenomena."""
+    """The output of `explain` for a sound history with this report, or for one of its phenomena."""
     explained = Explained(history)
     serial, snapshot, *found, level = (line.split(": ", 1)[1] for line in report.decode().splitlines())
     found = dict(zip(TITLES, found))

@@ -1,4 +1,4 @@
-"""What every test does: it takes its words, finds the program, runs it, counts what passed, and writes the last line."""
+"""What all tests share: arguments, finding and running the program, counting results, and the last line."""
 import argparse
 import os
 import subprocess
@@ -7,16 +7,18 @@ import sys
 TOP = os.path.dirname(os.path.dirname(os.path.realpath(__file__)))
 NAME = os.path.basename(sys.argv[0])
 SECONDS = 60
+# No call has to ask for more bytes at once: the preloaded library ends a program that does.
+LARGEST = 64 * 1_024 * 1_024
 
 
 def refuse(why):
-    """Says why there is nothing to try, and ends with status 2."""
+    """Prints why nothing can be tested, and exits with status 2."""
     print(f"{NAME}: {why}", file=sys.stderr)
     sys.exit(2)
 
 
 class Words(argparse.ArgumentParser):
-    """The words of a test. Its help is the test's docstring, in which the usage stands behind `usage: `."""
+    """The arguments of a test. Its help is the test's docstring, which has the usage after `usage: `."""
 
     def __init__(self, docstring):
         usage = docstring.partition("usage: ")[2].partition("\n\n")[0]
@@ -27,7 +29,7 @@ class Words(argparse.ArgumentParser):
 
 
 def find_program(named=None):
-    """The path of a program that is named, or else of the one that programs/find names."""
+    """The path of the given program, or else of the one that programs/find names."""
     if named is None:
         found = subprocess.run([f"{TOP}/programs/find"], stdout=subprocess.PIPE, text=True, check=False)
         if found.returncode:
@@ -40,14 +42,14 @@ def find_program(named=None):
 
 
 def program_of(docstring):
-    """The program of a test that takes no word but its name."""
+    """The program of a test that accepts only a program as an argument."""
     words = Words(docstring)
     words.add_argument("program", nargs="?")
     return find_program(words.parse_args().program)
 
 
 def library_and_program(docstring):
-    """The library that refuses allocations, .ci/refuse.c compiled, and the program of a test that takes both."""
+    """The library that refuses allocations, .ci/refuse.c compiled, and the program, for a test that accepts both."""
     words = Words(docstring)
     words.add_argument("library")
     words.add_argument("program", nargs="?")
@@ -58,7 +60,7 @@ def library_and_program(docstring):
 
 
 def run(words, text=b"", seconds=SECONDS, **how):
-    """Runs a command with a text on its standard input. Of one that doesn't end in time the exit status is None."""
+    """Runs a command with a text on its standard input. The exit status is None if it doesn't end in time."""
     try:
         return subprocess.run(words, input=text, capture_output=True, timeout=seconds, check=False, **how)
     except subprocess.TimeoutExpired as late:
@@ -72,7 +74,7 @@ class Tally:
         self.passed = self.failed = 0
 
     def note(self, is_right, *why):
-        """Counts a try, says why it failed, and answers whether it passed."""
+        """Counts a try, prints why it failed, and returns whether it passed."""
         if is_right:
             self.passed += 1
             return True
@@ -82,24 +84,36 @@ class Tally:
         return False
 
     def end(self, more=""):
-        """Writes the last line, and ends with status 1 where a try failed, or where none was made."""
+        """Writes the last line. Exit status 1 if a try failed, or if there was none."""
         print(f"{self.passed} passed, {self.failed} failed{more}")
         sys.exit(1 if self.failed or not self.passed else 0)
 
 
 class Progress:
-    """A line that says how far long work is, as `3 of 10 tests`, each time in place of the one before. Nothing is
-    written where standard error is no terminal."""
+    """A progress line, such as `3 of 10 tests`, each time in place of the one before. Nothing is written if standard
+    error isn't a terminal."""
 
     def __init__(self, count, what):
         self.count, self.what, self.is_told = count, what, sys.stderr.isatty()
 
     def tell(self, done):
-        """Says how much is done."""
+        """Shows how much is done."""
         if self.is_told:
             print(f"\r{done} of {self.count} {self.what}\x1b[K", end="", file=sys.stderr, flush=True)
 
     def clear(self):
-        """Takes the line away, so that another can be written."""
+        """Erases the line, so that another can be written."""
         if self.is_told:
             print("\r\x1b[K", end="", file=sys.stderr, flush=True)
+
+
+def addresses_of(words: list[str]) -> int:
+    """The kilobytes of address space that a run of the program may have: 256 MiB, and for each thread that it may start
+    128 MiB, as much as the C library sets aside for one."""
+    threads = 9 if "--free" in words else os.cpu_count() or 1 if words[:1] in (["batch"], ["chain"]) else 0
+    return 1_024 * (256 + 128 * threads)
+
+
+def within(words: list[str], kilobytes: int, seconds: int) -> list[str]:
+    """The words by which a command runs with so much address space and so many processor seconds at the most."""
+    return ["/bin/sh", "-c", 'ulimit -v "$0" && ulimit -t "$1" && shift && exec "$@"', str(kilobytes), str(seconds), *words]

@@ -1,26 +1,25 @@
-"""Histories of transactions that overlap, made at random: sound ones, whose dependencies lead round in every way, and ones
-with a fault of each kind that docs/REPORT.md has."""
+"""Random histories of overlapping transactions: sound ones, with every kind of cycle, and ones with a fault of each kind
+in docs/REPORT.md."""
 import copy
 
 from runs import listed
 
 HOMES = {"test": (1, 2, 3, 4), "stock": (1, 2)}
 ROWS = [(table, id) for table in sorted(HOMES) for id in HOMES[table]]
-NUMBERS = 3  # times as many numbers as transactions, of which theirs are drawn
+NUMBERS = 3  # times as many numbers as transactions, from which theirs are drawn
 
 
 class Version:
-    """What an operation left of a row: the version's name, None of the initial one, and the value."""
+    """The state in which an operation left a row: the version's name, None for the initial one, and the value."""
 
     def __init__(self, name, value):
         self.name, self.value, self.is_seen = name, value, False
 
 
 class Interleaving:
-    """Transactions whose operations take turns at random. A statement sees of a row any version that there is by then, of
-    whatever transaction that commits in the end, so that dependencies may lead round; or, where `is_serial`, one
-    transaction runs behind the other and sees the last versions. `astray` tells whose others may be seen besides:
-    "aborted", "intermediate"."""
+    """Transactions whose operations alternate at random. A statement sees any version of a row that exists by then, of a
+    transaction that commits in the end, so dependencies may form cycles. With `is_serial`, one transaction runs after the
+    other and sees the last versions. `astray` says which other versions may be seen too: "aborted", "intermediate"."""
 
     def __init__(self, draw, count, most, is_serial=False, astray=(), tables=("stock", "test")):
         self.draw, self.is_serial, self.astray = draw, is_serial, astray
@@ -40,15 +39,15 @@ class Interleaving:
                 pass
 
     def seen(self, no, row):
-        """The version of a row that a statement of a transaction sees."""
+        """The version of a row that a transaction's statement sees."""
         if row in self.own[no]:
             return self.own[no][row]
         there = self.versions[row]
         return there[-1] if self.is_serial or self.draw.random() < 0.4 else self.draw.choice(there)
 
     def statement(self, table):
-        """A statement of a table: its text, which rows it matches, what it makes of a value, and which numbers it needs to
-        see. One that matches none of all is an insert, and one that makes nothing a select."""
+        """A statement on a table: its text, the rows it matches, the new value, and the numbers that it needs to see. One
+        that matches no row at all is an insert, and one without a new value a select."""
         draw = self.draw
         id, every = draw.choice(HOMES[table]), set(HOMES[table])
         kind = draw.choice(("select", "select", "update", "update", "update", "insert", "delete"))
@@ -70,7 +69,7 @@ class Interleaving:
         return f"update {table} set value = {text}{where}", matches, change, ids
 
     def operate(self, no):
-        """Draws a statement, and runs it where it may run."""
+        """Draws a statement, and runs it if it may run."""
         table = self.draw.choice(self.rows)[0]
         text, matches, change, ids = self.statement(table)
         looked = set(self.rows) if self.draw.random() < 0.2 else {(table, id) for id in ids} | set(self.own[no])
@@ -85,7 +84,7 @@ class Interleaving:
         return True
 
     def is_fixed(self, no, row):
-        """Whether others have seen what a transaction made of a row, which may be its last version only."""
+        """Whether others have seen a transaction's version of a row, which may be its last one only."""
         return "intermediate" not in self.astray and row in self.own[no] and self.own[no][row].is_seen
 
     def run(self, no, text, saw, found, writes):
@@ -109,7 +108,7 @@ class Interleaving:
             self.versions[row].append(version)
 
     def installers(self, row):
-        """The committed writers of a row by their first writes, or in another order that fits to what each saw of it."""
+        """The committed writers of a row by their first writes, or in another order that fits what each saw of it."""
         order = list(self.writers[row])
         for place in range(len(order) - 1):
             first, second = order[place:place + 2]
@@ -133,12 +132,12 @@ def committed(history):
 
 
 def operations(history):
-    """The operations of committed transactions, each with its transaction's number and its own."""
+    """The operations of committed transactions, each with its transaction's number and its own number."""
     return [(txn["no"], place, op) for txn in committed(history) for place, op in enumerate(txn["ops"], 1)]
 
 
 def put(members, member):
-    """Puts a member in the place of one of the same row, or among the others."""
+    """Replaces the member of the same row, or inserts a new one in order."""
     members[:] = sorted([it for it in members if it[:2] != member[:2]] + [member], key=lambda it: it[:2])
 
 
@@ -151,14 +150,14 @@ def dangling(draw, history):
 
 
 def own_write_missed(draw, history):
-    """A statement doesn't see what its transaction wrote before."""
+    """A statement doesn't see an earlier write of its transaction."""
     seen = [(op, member) for no, _, op in operations(history) for member in op["view"] if member[2] == no]
     op, member = draw.choice(seen)
     op["view"].remove(member)
 
 
 def later_than_own(draw, history):
-    """Who saw another's version installs before that one."""
+    """A transaction that saw another's version installs before it."""
     installed = {tuple(row): by for *row, by in history["installed"]}
     pairs = [(by, seen[2], no) for no, _, op in operations(history) for seen in op["view"]
              for by in [installed.get(tuple(seen[:2]), [])] if seen[2] != no and {seen[2], no} <= set(by)]
@@ -168,7 +167,7 @@ def later_than_own(draw, history):
 
 
 def rows_differ(draw, history):
-    """A statement doesn't list what it finds: a row too few, one too many or another value."""
+    """A statement doesn't return what it finds: a row is missing, extra or has another value."""
     op = draw.choice([op for _, _, op in operations(history) if op["rows"]])
     member = draw.choice(op["rows"])
     how = draw.randrange(3)
@@ -181,7 +180,7 @@ def rows_differ(draw, history):
 
 
 def writes_differ(draw, history):
-    """A statement doesn't write what it makes of what it sees, where nobody sees what it wrote."""
+    """A statement doesn't write the right state, at a row whose new version nobody saw."""
     seen = [member for _, _, op in operations(history) for member in op["view"]]
     wrote = [member for no, place, op in operations(history) for member in op["writes"]
              if [*member[:2], no, place] not in seen]
@@ -202,7 +201,7 @@ def install_order(draw, history):
 
 
 def end_differs(draw, history):
-    """The end isn't what was left."""
+    """The final rows aren't what was left."""
     if history["end"] and draw.random() < 0.5:
         history["end"].remove(draw.choice(history["end"]))
     else:
@@ -213,7 +212,7 @@ PLANTED = (dangling, own_write_missed, later_than_own, rows_differ, writes_diffe
 
 
 def with_fault(draw, history, plant):
-    """A copy of a history in which a fault was planted; None where there is no place for it."""
+    """A copy of a history with a fault; None if there is no place for it."""
     changed = copy.deepcopy(history)
     try:
         plant(draw, changed)

@@ -1,12 +1,12 @@
-"""JSON Schema, as far as docs/history.schema.json and docs/report.schema.json go: which values are valid."""
+"""The part of JSON Schema that docs/history.schema.json and docs/report.schema.json use: which values are valid."""
 import re
 
-# Members of a schema that say nothing of a value.
+# Members of a schema that don't restrict a value.
 SILENT = {"$schema", "$id", "$comment", "$defs", "title", "description"}
 
 
 def is_whole(value):
-    """Whether a value is an integer of JSON Schema, to which 1.0 is one."""
+    """Whether a value is an integer for JSON Schema, which counts 1.0 as one."""
     return isinstance(value, int) and not isinstance(value, bool) or isinstance(value, float) and value.is_integer()
 
 
@@ -24,7 +24,7 @@ TYPES = {
 
 
 def is_same(value, other):
-    """Equality of JSON Schema, to which true isn't 1; the constants here are texts and numbers."""
+    """Equality of JSON Schema, for which true isn't 1; the constants here are texts and numbers."""
     return isinstance(value, bool) == isinstance(other, bool) and value == other
 
 
@@ -33,16 +33,16 @@ def of_type(types, value):
 
 
 def matches(pattern, value):
-    """A `$` of the schema is the end of the text; Python's would also be the place before a last newline."""
+    """A `$` of the schema is the end of the text; Python's also matches before a final newline."""
     return re.search(re.sub(r"\$$", r"\\Z", pattern), value) is not None
 
 
 def further(schema, value):
-    """The members of a list behind those that `prefixItems` has."""
+    """The members of a list after those that `prefixItems` has."""
     return range(len(schema.get("prefixItems", [])), len(value))
 
 
-# For each keyword: the values that it speaks of, and whether one meets it.
+# For each keyword: the values that it applies to, and whether one meets it.
 TESTS_OF = {
     "type": (lambda value: True, lambda said, value: of_type(said, value)),
     "const": (lambda value: True, lambda said, value: is_same(value, said)),
@@ -55,14 +55,14 @@ TESTS_OF = {
     "pattern": (TYPES["string"], matches),
     "required": (TYPES["object"], lambda said, value: all(key in value for key in said)),
 }
-# Those whose schemas stand for parts of a value.
+# Keywords whose schemas apply to parts of a value.
 PARTS = {"properties", "additionalProperties", "prefixItems", "items"}
-# Those whose schemas stand for the whole value.
+# Keywords whose schemas apply to the whole value.
 BRANCHES = {"if", "then", "else"}
 
 
 def parts(schema, value):
-    """The parts of a value that a schema speaks of, each with its key or place and its schema."""
+    """The parts of a value that a schema restricts, each with its key or position and its schema."""
     if isinstance(value, dict):
         known = schema.get("properties", {})
         for key, part in value.items():
@@ -74,7 +74,7 @@ def parts(schema, value):
 
 
 def branch(root, schema, value):
-    """What a schema says further of a value, by what its `if` says of it."""
+    """The further schemas for a value, by the result of `if`."""
     if "if" not in schema:
         return True
     return schema.get("else" if breach(root, schema["if"], value) else "then", True)
@@ -96,7 +96,7 @@ def breach(root, schema, value, path=""):
 
 
 def unknown_words(schema):
-    """Keywords of a schema that are not looked at here: they would be let pass unseen."""
+    """The keywords of a schema that this module doesn't support, and would otherwise ignore."""
     if isinstance(schema, bool):
         return set()
     unknown = set(schema) - set(TESTS_OF) - PARTS - BRANCHES - SILENT - {"$ref"}

@@ -1,8 +1,8 @@
-"""Histories made by rule whose dependencies lead round, and the report that is due of each.
+"""Histories made by rule with cycles of dependencies, and the expected report of each.
 
-A ring of N transactions leads from T1 to T2 and so on to TN, and from there back to T1; between other transactions there
-is no dependency. So each cycle that is due, of transactions or of their starts and commits, has all of them. All are
-rings but the skew, in which transactions miss what many others write. What is due is written from docs/FORMATS.md."""
+A ring of N transactions has dependencies from T1 to T2 and so on to TN, and from there back to T1, and no others. So each
+cycle, of transactions or of their starts and commits, contains all of them. All histories are rings except the skew, in
+which transactions miss what many others write. The expected results are written from docs/FORMATS.md."""
 import json
 
 PHENOMENA = "G0", "G1a", "G1b", "G1c", "G-single", "G2-item", "G2"
@@ -13,12 +13,12 @@ def of_test(members):
 
 
 def operation(statement, view=(), rows=(), writes=()):
-    """An operation on the table `test`, whose rows its lists name by their ids."""
+    """An operation on the table `test`; its lists name rows by their ids."""
     return {"statement": statement, "view": of_test(view), "rows": of_test(rows), "writes": of_test(writes)}
 
 
 def history(initial, transactions, installed, end):
-    """The file of a history of committed transactions, each a list of operations: they have the numbers 1, 2, .."""
+    """The file of a history of committed transactions, each a list of operations; they have the numbers 1, 2, .."""
     numbered = [{"no": no, "outcome": "committed", "ops": ops} for no, ops in enumerate(transactions, 1)]
     whole = {"format": "hermitage-history", "version": 2, "initial": of_test(initial), "transactions": numbered,
              "installed": of_test(installed), "end": of_test(end)}
@@ -26,7 +26,7 @@ def history(initial, transactions, installed, end):
 
 
 def skewing(selects):
-    """Write skew of two transactions, in each behind so many selects that list nothing."""
+    """Write skew of two transactions, each after this many selects that return nothing."""
     initial = [[1, 10], [2, 20]]
     idle = [operation("select * from test where id = 3")] * selects
     end = [[1, 11], [2, 21]]
@@ -39,7 +39,7 @@ def skewing(selects):
 
 
 def report(serial, snapshot, found, level):
-    """The ten lines: `found` has what is present of the phenomena."""
+    """The ten lines; `found` has the phenomena that are present."""
     lines = [f"serializable: {serial}", f"snapshot: {snapshot}"]
     lines += [f"{name}: present {found[name]}" if name in found else f"{name}: absent" for name in PHENOMENA]
     return "\n".join([*lines, f"level: {level}", ""]).encode()
@@ -53,7 +53,7 @@ def after_each_other(count):
 
 
 def before(no, count):
-    """The transaction from which a ring leads to this one."""
+    """The transaction before this one in a ring."""
     return no - 1 if no > 1 else count
 
 
@@ -62,29 +62,29 @@ def behind(no, count):
 
 
 def round_walk(count, dependency):
-    """The walk round a ring; `dependency` names the one that leads from a transaction to the next."""
+    """The cycle of a ring; `dependency` names the one from a transaction to the next."""
     return "".join(f"T{no} {dependency(no)} " for no in range(1, count + 1)) + "T1"
 
 
 def round_circle(count):
-    """The cycle where each commit has to come before the next transaction's start."""
+    """The cycle in which each commit must come before the next transaction's start."""
     return "no " + "".join(f"s{no} c{no} " for no in range(1, count + 1)) + "s1"
 
 
 def circle_from_commit(count):
-    """The cycle of a ring whose last transaction, and no other, has to start before the next one's commit."""
+    """The cycle of a ring in which only the last transaction must start before the next one's commit."""
     return "no c1 " + "".join(f"s{no} c{no} " for no in range(2, count)) + f"s{count} c1"
 
 
 def report_but_once(count, dependency):
-    """What is due of a ring with one anti-dependency, by a row that is listed, from the last transaction to the first."""
+    """The expected report of a ring with one anti-dependency, by a returned row, from the last transaction to the first."""
     walk = round_walk(count, dependency)
     return report(f"no {walk}", circle_from_commit(count), dict.fromkeys(("G-single", "G2-item", "G2"), walk), "PL-2")
 
 
 def places_of_readers(count):
-    """The places where each transaction has to start before the next one's commit: all but the first and the last commit
-    right behind their starts, and those two behind the last start."""
+    """The timestamps if each transaction must start before the next one's commit: all but the first and the last commit
+    right after their starts, and those two after the last start."""
     inner = "".join(f" T{no} {2 * no - 3}-{2 * no - 2}" for no in range(2, count))
     return f"yes T1 0-{2 * count - 2}{inner} T{count} {2 * count - 3}-{2 * count - 1}"
 
@@ -116,17 +116,17 @@ def overwriting(count):
 
 
 def update_all(seen):
-    """The operation that adds 1 to all rows. Of each row it sees the version of some transaction, and the value."""
+    """The operation that adds 1 to all rows, with the version and the value that it sees of each."""
     view = [[row, writer, 1] for row, (writer, _) in enumerate(seen, 1) if writer]
     old = [[row, value] for row, (_, value) in enumerate(seen, 1)]
     return operation("update test set value = value + 1", view, old, [[row, value + 1] for row, value in old])
 
 
 def overwriting_all(count, rows):
-    """Each updates all rows, two or more, behind the one before it, but the last one comes first at the last row: G0."""
+    """Each updates all rows, two or more, after the one before it, but the last one comes first at the last row: G0."""
     transactions = []
     for no in range(1, count + 1):
-        # Of each row: which transaction's version is seen, or none, and how many came before.
+        # For each row: which transaction's version is seen, or none, and how many came before.
         seen = [(no - 1, no - 1)] * (rows - 1) + [(0, 0) if no == count else (before(no, count), no)]
         transactions.append([update_all(seen)])
     order = list(range(1, count + 1))
@@ -137,7 +137,7 @@ def overwriting_all(count, rows):
 
 
 def overwriting_missed(count, rows):
-    """Each updates all rows, two or more, behind the one before it, but the last one misses what all others made of the
+    """Each updates all rows, two or more, after the one before it, but the last one misses all others' changes of the
     last row: G-single."""
     seen = [[(no - 1, no - 1)] * rows for no in range(1, count + 1)]
     seen[-1][-1] = 0, 0
@@ -148,7 +148,7 @@ def overwriting_missed(count, rows):
 
 
 def overwriting_then_reading(writers, rows):
-    """Each writer updates all rows, two or more, behind the one before it; a reader behind them sees row 1 as the last one
+    """Each writer updates all rows, two or more, after the one before it. A reader after them sees row 1 as the last one
     left it, and row 2 as it was at first: G-single."""
     transactions = [[update_all([(no - 1, no - 1)] * rows)] for no in range(1, writers + 1)]
     transactions.append([select(1, writers, [[1, writers, 1]]), select(2, 0, ())])
@@ -172,7 +172,7 @@ def reading(count):
 
 
 def missing(count):
-    """Each finds no row that the one before it deleted: G1c by what no statement lists."""
+    """Each finds no row that the one before it deleted: G1c by rows that no statement returns."""
     transactions = []
     for no in range(1, count + 1):
         last = before(no, count)
@@ -223,7 +223,7 @@ def finding_none(count):
 
 
 def select_range(first, span, rows):
-    """Selects so many of the rows as they were at first, from one on; behind the last of them comes the first."""
+    """Selects this many rows as they were at first, from this one on; the first row follows the last."""
     listed = sorted((first + place - 1) % rows + 1 for place in range(span))
     last = (first + span - 2) % rows + 1
     joined = "and" if first <= last else "or"
@@ -231,8 +231,8 @@ def select_range(first, span, rows):
 
 
 def places_of_skewed(count, reach):
-    """The places where each has to start before so many behind it commit: the first ones before any commit, then each
-    right before its own commit, and behind the last start the commits of those that it waited for."""
+    """The timestamps if each must start before this many after it commit: the first ones start before any commit, then
+    each right before its own commit, and after the last start come the remaining commits."""
     starts = [max(no - 1, 2 * no - reach - 2) for no in range(1, count + 1)]
     ends = [start + 1 for start in starts]
     ends[:reach] = range(starts[-1] + 1, starts[-1] + 1 + reach)
@@ -241,12 +241,12 @@ def places_of_skewed(count, reach):
 
 
 def skewed(count, selects, span):
-    """Each selects so many ranges of as many rows as there are transactions, from its own row on, and updates that; it
-    sees all as they were at first, and misses what the next `reach` transactions write: G2-item.
+    """Each selects so many ranges of as many rows as there are transactions, from its own row on, and updates that row. It
+    sees all rows as they were at first, and misses the writes of the next `reach` transactions: G2-item.
 
-    From T1 back to the least that misses it, and so on, is `reach` a step, until one is met that T1 misses. The same way,
-    which is one of the shortest and the only one with numbers so small, leads back from T2, the first that T1 misses. It
-    must be none of those itself, nor the least of them."""
+    Going back from T1 to the least transaction that misses it, and so on, takes steps of `reach`, until one is met that T1
+    misses. The same path, which is a shortest one and the only one with numbers so small, leads back from T2, the first that
+    T1 misses. It must be none of those itself, nor the least of them."""
     reach = selects * span - 1
     transactions = [
         [*(select_range((no + span * place - 1) % count + 1, span, count) for place in range(selects)), update(no, 1, 0)]

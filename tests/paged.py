@@ -1,8 +1,8 @@
-"""A plainer body of `page`: the page that is due of a history, from docs/PAGE.md.
+"""A reference implementation of `page`: makes the page that is expected for a history, as docs/PAGE.md describes it.
 
-The sentences are taken from what `explain` writes, whose lines are joined, and the picture is taken as it is; so of a
-history whose explanation is cut there is no page here (`Cut`). Texts that stand in fences of docs/PAGE.md are taken from
-there."""
+It takes its sentences from the output of `explain`, whose lines it joins, and the picture as it is. For a history whose
+explanation is shortened it makes no page and raises `Cut`. The fixed HTML and CSS are in tests/page.html; what each
+phenomenon means is read from the table in docs/PAGE.md."""
 import itertools
 import json
 import re
@@ -30,28 +30,24 @@ class Cut(Exception):
     """The explanation leaves something out."""
 
 
-def page_of_docs():
-    with open(f"{TOP}/docs/PAGE.md", encoding="utf-8") as file:
-        return file.read()
-
-
-def fences(kind, heading):
-    """The blocks of a kind below a heading of docs/PAGE.md."""
-    part = page_of_docs().partition(f"\n## {heading}\n")[2].partition("\n## ")[0]
-    blocks = re.findall(rf"^( *)```{kind}\n(.*?)^ *```$", part, re.S | re.M)
-    return ["".join(line[len(lead):] if line.strip() else line for line in text.splitlines(True)) for lead, text in blocks]
+def block_of(name):
+    """The block of tests/page.html with this name: the lines between its comment line and the next one."""
+    with open(f"{TOP}/tests/page.html", encoding="utf-8") as file:
+        text = file.read()
+    return re.split(r"^<!-- .* -->\n", text.partition(f"\n<!-- {name} -->\n")[2], maxsplit=1, flags=re.M)[0]
 
 
 def style():
-    first, last = fences("css", "The head")
+    first, last = block_of("style"), block_of("style, after the rules for steps")
     rules = ",\n".join(f":root:has(#s{s}:is(:hover,:focus-within,:target)) :is(.s{s},.p-{s})"
                        for s in range(MOST_STEPS + 1))
     return f"{first}{rules}{{outline:3px solid;outline-offset:-1px;stroke-width:5}}\n{last}"
 
 
 def meanings():
-    """What each phenomenon is, and the lowest level that forbids it."""
-    lines = re.findall(r"^\| (G[\w-]+) \| (.*) \| (.*) \|$", page_of_docs(), re.M)
+    """The meaning of each phenomenon and the lowest level that forbids it, by the table in docs/PAGE.md."""
+    with open(f"{TOP}/docs/PAGE.md", encoding="utf-8") as file:
+        lines = re.findall(r"^\| (G[\w-]+) \| (.*) \| (.*) \|$", file.read(), re.M)
     return {name: (meaning, level) for name, meaning, level in lines}
 
 
@@ -227,8 +223,8 @@ class Page:
         parts = [("Serializable", self.said["serializable"].split()[0]), ("Snapshot isolation", self.said["snapshot"].split()[0])]
         tiles = [(term, said, said == "no") for term, said in parts]
         tiles += [("Level", words, level != "PL-3"), ("Phenomena", names, bool(present))]
-        block = fences("html", "The head")[0]
-        links = re.search(r"<nav .*</nav>", page_of_docs())[0]
+        block = block_of("head")
+        links = block_of("links").rstrip("\n")
         block = re.sub(r'<li class="no">.*?</ul>', lambda _: "".join(
             f'<li{" class=" + chr(34) + "no" + chr(34) if bad else ""}>{term} <b>{said}</b></li>\n' for term, said, bad in tiles
         ) + "</ul>", block, flags=re.S)
@@ -242,7 +238,7 @@ class Page:
         return block.replace("{how many}", str(len(self.history.txns)), 1).replace("{how many}", str(committed), 1)
 
     def below(self, step):
-        """What stands below a step: its operations, and the versions of its row."""
+        """The text below a step: its operations, and the versions of its row."""
         (_, no, number, row, did), (_, other, last, _, then) = [it for it in self.questions if it[0] == step]
         places = [self.history.place_seen(row, txn, k) if what == "saw" else self.history.place(row, txn)
                   for txn, k, what in ((no, number, did), (other, last, then))]
@@ -261,7 +257,7 @@ class Page:
         if self.walk:
             more = len(self.walk) - MOST_STEPS
             behind = f'<p>{more} more steps aren\'t shown; <a href="#report">the report</a> names them.</p>\n' if more > 0 else ""
-            behind += fences("html", "Why")[2]
+            behind += block_of("dependency kinds")
         return (f'<section aria-labelledby="why">\n<h2 id="why">{heading}</h2>\n<div class="why">\n<div>\n'
                 f'<p id="s0" class="order" tabindex="0">{escaped(self.sentences[0])}</p>\n<ol class="steps">\n{items}</ol>\n'
                 f"{behind}</div>\n{self.figure()}</div>\n</section>\n")
@@ -269,12 +265,12 @@ class Page:
     def figure(self):
         if len(self.picture.encode()) > MOST_BYTES:
             return ("<p>The picture has more than 65,536 bytes and isn't here: <code>hermitage_lab picture</code> draws it.</p>\n")
-        figure = fences("html", "Why")[3].replace("{picture}", self.picture)
+        figure = block_of("picture").replace("{picture}", self.picture)
         count = len(self.columns()) if " transactions are drawn" not in self.picture else WIDE + 1
         return f"<details>\n<summary>The picture</summary>\n{figure}</details>\n" if count > WIDE else figure
 
     def found(self):
-        """What is found of each phenomenon: `explain`'s sentence, and of a cycle that it tells step by step which one it is."""
+        """The finding for each phenomenon: `explain`'s sentence, or the report's cycle where `explain` shows the cycle step by step."""
         for line in self.whole:
             if re.match(r"G[\w-]+( \(.*?\))?: ", line):
                 name, told = re.match(r"[\w-]+", line)[0], line.removesuffix(f": present: {ROUND}")
@@ -283,7 +279,7 @@ class Page:
 
     def levels(self):
         level = self.said["level"]
-        ladder, phenomena = fences("html", "Levels and phenomena")[1:]
+        ladder, phenomena = block_of("ladder"), block_of("phenomena")
         names = list(LEVELS)
         if level in names:
             for rank, rung in enumerate(names):
@@ -322,9 +318,9 @@ class Page:
                 f'{escaped(op["statement"])}{notes}</td><td class="m" data-l="saw">{cells[0]}</td><td class="m" data-l="listed">'
                 f'{cells[1]}</td><td class="m" data-l="wrote">{cells[2]}</td></tr>\n')
 
-    def table(self, heading, shown, count, lines):
-        """A table of docs/PAGE.md that has these lines."""
-        block = fences("html", heading)[0].replace("{how many are shown}", str(shown)).replace("{how many there are}", str(count))
+    def table(self, name, shown, count, lines):
+        """A table of tests/page.html with these lines in it."""
+        block = block_of(name).replace("{how many are shown}", str(shown)).replace("{how many there are}", str(count))
         return re.sub(r"</thead>\n.*</table>", lambda _: f"</thead>\n{lines}</table>", block, flags=re.S)
 
     def transactions_part(self):
@@ -337,7 +333,7 @@ class Page:
             if len(ops) > MOST_OPS:
                 lines += (f'<tr><td colspan="5">Of {len(ops)} statements the first eight are here, and those in question.</td></tr>\n')
             lines += "</tbody>\n"
-        return self.table("The transactions", len(self.shown), len(self.history.txns), lines)
+        return self.table("transactions", len(self.shown), len(self.history.txns), lines)
 
     def rows_part(self):
         history = self.history
@@ -348,15 +344,15 @@ class Page:
         lines = "".join(f'<tr{" class=" + chr(34) + "b" + chr(34) if row in self.rows else ""}><th scope="row" class="m">{name(row)}</th>'
                         f'<td class="m">{self.versions(row)}</td><td class="m" data-l="in the end">{state(history.end.get(row))}</td></tr>\n'
                         for row in self.rows + shown)
-        return self.table("The rows", len(self.rows) + len(shown), count, f"<tbody>\n{lines}</tbody>\n")
+        return self.table("rows", len(self.rows) + len(shown), count, f"<tbody>\n{lines}</tbody>\n")
 
     def check(self):
-        part, order, cycle, fault = fences("html", "Check it by hand")
+        order, cycle, fault = (block_of(f"check: {how}") for how in ("an order", "a cycle", "a fault or a read"))
         how = cycle if self.walk else order if self.told.startswith("yes") else fault if self.questions or not self.asked else ""
-        return part.replace("{how}\n", how)
+        return block_of("check").replace("{how}\n", how)
 
     def evidence(self):
-        block = fences("html", "The report and the history")[0]
+        block = block_of("report and history")
         file = self.history.written()
         if len(file.encode()) > MOST_BYTES:
             block = re.sub(r"<details>.*</details>", lambda _: "<p>It has more than 65,536 bytes of JSON, and isn't here: attach the file.</p>",

@@ -1,8 +1,8 @@
-"""A plainer body of the engines, and scripts that are made at random.
+"""A reference implementation of the engines, and random scripts.
 
-It keeps a setup and a log alone. Before each answer it goes through the log anew, from its beginning: who is active and
-waits, what each has run and written, what is committed. It looks for a cycle by trying all walks, the shorter ones first,
-and of one length the least first. And it looks up a history in the log when the play has ended."""
+It keeps only a setup and a log. Before each answer it goes through the log from its beginning: who is active and waits, what
+each has run and written, what is committed. It looks for a deadlock by trying all paths, shorter ones first, and among those
+of one length the least first. When the play has ended, it looks up the history in the log."""
 import json
 import random
 from dataclasses import dataclass, field, replace
@@ -12,10 +12,10 @@ SNAPSHOTS = "snapshot", "optimistic"
 SESSIONS = range(1, 10)
 LIMIT = 1_000_000_000
 TEST = "test"
-# A row is the name of its table and its number there. What a statement does to the row of a number, without a table's
-# name, it does to that of `test`.
+# A row is the name of its table and its number there. A statement acts on the row of a number of its table; without a table
+# name, of `test`.
 ONE_TABLE = {(TEST, 1): 10, (TEST, 2): 20, (TEST, 3): 30, (TEST, 4): 40}
-# The table in which the row of a number is most often asked for.
+# The table in which the row of a number is used most often.
 HOMES = {1: "stock", 2: TEST, 3: "s_old", 4: "zones", 5: "stock"}
 TABLES = sorted(set(HOMES.values()))
 FOUR_TABLES = {("s_old", 2): 21, ("s_old", 3): 30, ("stock", 1): 10, ("stock", 2): 22, (TEST, 1): 11, (TEST, 2): 20, ("zones", 4): 40}
@@ -36,20 +36,20 @@ class Statement:
         return self.table, self.number
 
     def matches(self, row, state):
-        """Whether a row in this state matches; no absent row does, none of another table, and to an insert only its own
-        row."""
+        """Whether a row in this state matches. An absent row, or one of another table, never does; an insert matches only
+        its own row."""
         if state is None or row[0] != self.table:
             return False
         return row == self.row if self.kind == "insert" else self.holds(row[1], state)
 
     def would_write(self, row, state):
-        """Whether it would write a row in this state, also where it would be refused."""
+        """Whether it would write a row in this state, even if it would be refused."""
         if self.kind == "insert":
             return row == self.row
         return self.kind != "select" and self.matches(row, state)
 
     def left(self, state):
-        """What it would leave of a row that it would write; a result out of range leaves none."""
+        """The state in which it would leave a row that it would write; None if the result is out of range."""
         if self.kind == "insert":
             return self.result
         if self.kind == "update" and state is not None and abs(self.result(state)) <= LIMIT:
@@ -78,11 +78,11 @@ def of_row(number):
 
 
 def on_table(table, statement):
-    """The same statement on another table, whose name stands where that of `test` did."""
+    """The same statement on another table instead of `test`."""
     return replace(statement, table=table, text=statement.text.replace(f" {TEST}", f" {table}", 1))
 
 
-# First those that name a row, of which longer cycles are made, then those that look at all rows.
+# First those that name a row, which make longer cycles, then those that look at all rows.
 POINTS = (
     select(*of_row(1)),
     update("value + 1", lambda v: v + 1, *of_row(1)),
@@ -128,7 +128,7 @@ def made(seed):
         ends = draw.random() < (0.5 if seed % 8 == 7 else 0.2)
         commands = draw.choice(ENDS) if ends else (draw.choice(statements),)
         if setup is FOUR_TABLES and not ends:
-            # (a row is asked for at home three times in four, so that sessions meet there)
+            # (a row is used in its main table three times in four, so that sessions interact)
             home = HOMES.get(commands[0].number)
             commands = (on_table(home if home and draw.random() < 0.75 else draw.choice(TABLES), *commands),)
         lines += [(session, command) for command in commands]
@@ -140,7 +140,7 @@ def text_of(command):
 
 
 def named(row):
-    """A row as it is told of: one of `test` by its number alone."""
+    """A row as it is printed: by its number alone if it is of `test`."""
     table, number = row
     return str(number) if table == TEST else f"{table} {number}"
 
@@ -168,7 +168,7 @@ class Txn:
 
 @dataclass(frozen=True)
 class Install:
-    """A version that a commit installed: of which row, by which transaction, and the row's state before and then."""
+    """A version that a commit installed: of which row, by which transaction, and the row's state before and after."""
 
     row: tuple
     by: int
@@ -178,7 +178,8 @@ class Install:
 
 @dataclass
 class Found:
-    """What a log tells. A version is a name and a state: None for an absent row; the name of an initial one is None."""
+    """The facts in a log. A version is a name and a state; the state of an absent row, and the name of an initial
+    version, is None."""
 
     active: dict
     waiting: dict
@@ -243,9 +244,9 @@ class Engine:
         return self.commit(found, txn) if command == "commit" else self.run(found, txn, command)
 
     def commit(self, found, txn):
-        """At snapshot and optimistic a commit is refused at the least row that another transaction installed since the
-        begin and that this one wrote; at optimistic also where one of its statements matches the row as it was before
-        that, or as it was then. The first who did so is named."""
+        """At snapshot and optimistic, a commit is refused at the least row that another transaction installed since the
+        begin and that this one wrote; at optimistic also if one of its statements matches the row as it was before that,
+        or after it. The first transaction that did so is named."""
         since = found.installed[txn.installed :] if self.level in SNAPSHOTS else []
         for row in sorted({it.row for it in since}):
             installs = [it for it in since if it.row == row]
@@ -262,7 +263,7 @@ class Engine:
         return {**(txn.begun_on if self.level in SNAPSHOTS else found.committed), **txn.own}
 
     def blocks(self, found, other, statement, row, state):
-        """Whether another transaction is in the way of a statement at a row, which it sees in this state."""
+        """Whether another transaction blocks a statement at a row, which the statement sees in this state."""
         pending = other.own.get(row)
         writes = statement.would_write(row, state)
         if self.level in SNAPSHOTS:
@@ -278,7 +279,7 @@ class Engine:
         return writes and any(ran.matches(row, state) or ran.matches(row, after) for ran in other.ran)
 
     def blockers(self, found, txn, statement):
-        """The sessions in the way of a transaction's statement."""
+        """The sessions that block a transaction's statement."""
         seen = self.seen(found, txn)
         rows = {*seen, *found.committed, *([statement.row] if statement.kind == "insert" else [])}
         rows.update(row for other in found.active.values() for row in other.own)
@@ -290,7 +291,7 @@ class Engine:
         ]
 
     def waits(self, found):
-        """Who waits for whom."""
+        """The sessions that each waiting session waits for."""
         return [
             (session, other)
             for session, statement in sorted(found.waiting.items())
@@ -305,7 +306,7 @@ class Engine:
         return ("refused", "Deadlock", " ".join(f"T{it}" for it in circle)) if circle else ("waits", on)
 
     def effect(self, seen, statement):
-        """What a statement does that nobody blocks: the view, the rows that it lists, and what it writes."""
+        """The effect of a statement that isn't blocked: the view, the rows that it returns, and what it writes."""
         states = {row: state for row, (_, state) in sorted(seen.items()) if state is not None}
         if statement.kind == "insert":
             if statement.row in states:
@@ -321,7 +322,7 @@ class Engine:
         return ("rows", {row: name for row, (name, _) in sorted(seen.items()) if name}, rows, writes)
 
     def retryable(self):
-        """The least session that waits for nobody, or stands on a cycle."""
+        """The least session that nobody blocks any more, or that is on a cycle."""
         found = self.found()
         waits = self.waits(found)
         for session in sorted(found.waiting):
@@ -331,7 +332,7 @@ class Engine:
 
 
 def circle_of(waits, session):
-    """The cycle of a session, if it stands on one."""
+    """The cycle of a session, if it is on one."""
     walks = [[session]]
     for _ in SESSIONS:
         for walk in walks:
@@ -342,7 +343,7 @@ def circle_of(waits, session):
 
 
 def played(level, setup, lines):
-    """The log of a play: a retry where one may go on, else the first line whose session doesn't wait, else the abort of
+    """The log of a play: a retry if one is possible, else the first line whose session doesn't wait, else the abort of
     the least session that is active and doesn't wait."""
     engine, left = Engine(level, setup), list(lines)
     while True:
@@ -379,7 +380,7 @@ def members(states):
 
 
 def history_text(setup, log):
-    """The file of the history that a log tells, looked up for each transaction."""
+    """The file of the history that a log describes, looked up for each transaction."""
     txns = []
     for place, (session, _, (kind, *_)) in enumerate(log):
         if kind == "begun":
@@ -401,7 +402,7 @@ def history_text(setup, log):
 
 
 def operations(rest, session):
-    """The operations of a session's transaction that has just begun, and how it ends."""
+    """The operations of a session's transaction that has just begun, and its end."""
     ops = []
     for other, command, (kind, *parts) in rest:
         if other != session:

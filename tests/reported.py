@@ -1,4 +1,4 @@
-"""Reports and refusals as lines and as JSON values, from one to the other as docs/FORMATS.md says it."""
+"""Converts reports and refusals between lines and JSON values, as docs/FORMATS.md defines both."""
 import json
 import re
 
@@ -50,7 +50,7 @@ def circle_of(text):
 
 
 def verdict_of(said, yes, cycle):
-    """What a verdict says, with what a yes and a cycle carry."""
+    """A verdict, with the order, timestamps or cycle of it."""
     word, _, rest = said.partition(" ")
     if word == "yes":
         return {"verdict": "yes", **yes(rest)}
@@ -73,7 +73,7 @@ def finding_of(said):
 
 
 def refusal_of(line):
-    """What is said in one line of a file, a script or a play, as `file: OverLimit entries` or `line 3: NoSession`."""
+    """The value of a line about a file, a script or a play, such as `file: OverLimit entries` or `line 3: NoSession`."""
     about, said = line.split(": ", 1)
     kind, *rest = said.split()
     if kind == "unreadable":
@@ -89,7 +89,7 @@ def refusal_of(line):
 
 
 def value_of(text):
-    """The value of ten lines, or of the one line of what is refused or can't be read."""
+    """The value of ten lines, or of the one line of a file that is refused or can't be read."""
     if not text.startswith("serializable: "):
         return refusal_of(text.rstrip("\n"))
     said = dict(line.split(": ", 1) for line in text.splitlines())
@@ -143,7 +143,7 @@ def finding_text(finding):
 
 
 def refusal_text(refused, about):
-    """The line of what is refused; `about` is `file` or `play`, where it is no script."""
+    """The line of a refusal; `about` is `file` or `play`, if it isn't a script."""
     if "line" in refused:
         return f"line {refused['line']}: {refused['kind']}\n"
     words = [about + ":", refused["kind"]]
@@ -170,7 +170,7 @@ def text_of(value, about="file"):
 
 
 def said_of_run(found):
-    """What a line says of a run in parts."""
+    """The text of a line about a run in parts."""
     part = f" {found['file']}" if "file" in found else ""
     return found["verdict"] + part + (f": {found['reason']}" if "reason" in found else "")
 

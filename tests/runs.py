@@ -1,4 +1,4 @@
-"""Runs that are made at random, as histories: stretches between which nobody is in a transaction, and these in one file."""
+"""Random runs as histories: stretches between which no transaction is active, and all of them in one file."""
 ROWS = [("test", 1), ("test", 2), ("test", 3), ("stock", 1)]
 
 
@@ -8,7 +8,7 @@ def listed(rows):
 
 class Stretch:
     """Transactions that began and ended between two quiet places. `versions` has each row's committed versions, as names
-    and values, and `loose` those of aborted transactions and those that were overwritten before the commit."""
+    and values; `loose` has those of aborted transactions and those that were overwritten before the commit."""
 
     def __init__(self, draw, initial):
         self.draw, self.initial = draw, initial
@@ -19,7 +19,7 @@ class Stretch:
             self.transact(number)
 
     def seen(self, row, own):
-        """The version of a row that a statement sees: its transaction's own, or one of those that there are."""
+        """The version of a row that a statement sees: its transaction's own, or one of the existing ones."""
         if row in own:
             return own[row]
         if self.loose[row] and self.draw.random() < 0.02:
@@ -63,7 +63,7 @@ class Stretch:
 
 
 def joined(parts):
-    """The same run in one file. What a statement saw as its part began is the version that was the last one then."""
+    """The same run in one file. The version that a statement saw when its part began is the one that was last then."""
     whole, transactions, installed, base, before = {**parts[0]}, [], {}, {}, 0
     for it in parts:
         last = {}

@@ -1,4 +1,4 @@
-"""Servers of the tests' own: in a temporary folder, reached through a socket there, stopped by their process."""
+"""Database servers started by the tests: in a temporary folder, reached through a socket there, stopped by their process."""
 import glob
 import os
 import pwd
@@ -13,7 +13,7 @@ ASIDE = "\nThe server says:\n"
 
 
 def folder_of(program, *others):
-    """The folder of a program that is on the path, or in one of these; None where there is none."""
+    """The folder of a program that is on the path, or in one of these folders; None if there is none."""
     named = shutil.which(program)
     found = sorted(path for folder in others for path in glob.glob(f"{folder}/{program}"))
     return os.path.dirname(os.path.realpath(named or found[-1])) if named or found else None
@@ -30,11 +30,11 @@ def mariadb_programs():
 
 
 class Server:
-    """A running PostgreSQL server, as a context; `environment` has what its clients need."""
+    """A running PostgreSQL server, as a context; `environment` has the variables that its clients need."""
 
-    USERS = "postgres", "nobody"  # who runs the server where the tests are root's, which it refuses
+    USERS = "postgres", "nobody"  # the user who runs the server if the tests run as root, which it refuses
     SETTINGS = {"listen_addresses": "", "fsync": "off", "deadlock_timeout": "20ms", "max_connections": "100"}
-    VARIABLES = "PG"  # how the variables begin by which clients find another server
+    VARIABLES = "PG"  # the beginnings of the variables by which clients find another server
     STOP = signal.SIGINT
 
     def __init__(self, folder):
@@ -50,7 +50,7 @@ class Server:
         return {"PGHOST": self.room, "PGPORT": "5432", "PGUSER": "lab", "PGDATABASE": "postgres"}
 
     def making(self, data):
-        """The words that make the server's files."""
+        """The arguments that make the server's files."""
         return [f"{self.folder}/initdb", "-D", data, "-A", "trust", "-U", "lab", "-E", "UTF8", "--no-locale", "-N"]
 
     def running(self, data):
@@ -95,12 +95,12 @@ class Server:
             time.sleep(0.05)
 
     def ask(self, question):
-        """The lines of an answer."""
+        """The lines of a result."""
         words, how = self.asking(question), {"env": self.environment, "check": False}
         return subprocess.run(words, capture_output=True, text=True, **how).stdout.splitlines()
 
     def __exit__(self, *_):
-        """Stops the server by its process, and sees it end."""
+        """Stops the server by its process, and waits for its end."""
         if self.process and self.process.poll() is None:
             self.process.send_signal(self.STOP)
             try:
@@ -112,7 +112,7 @@ class Server:
 
 
 class MariaDB(Server):
-    """A running MariaDB server. Its clients find it by an option file in a home of their own."""
+    """A running MariaDB server. Its clients find it by an option file in a home directory made for them."""
 
     USERS = "mysql", "nobody"
     VARIABLES = "MYSQL"

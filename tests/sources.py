@@ -13,6 +13,11 @@ def blank(text, pattern=NO_CODE):
     return pattern.sub(lambda found: '""' + "\n" * found.group().count("\n"), text)
 
 
+def hidden(text: str) -> str:
+    """A text, sign for sign and line for line, with spaces for comments and for what is in quotes."""
+    return NO_CODE.sub(lambda found: re.sub(r"[^\n]", " ", found.group()), text)
+
+
 def code_of(path):
     """A file's text, line for line, without comments and without what stands in quotes."""
     with open(path, encoding="utf-8") as file:

@@ -1,4 +1,4 @@
-"""A terminal of the tests' own: what a command writes to it, and what it shows in the end."""
+"""A terminal for the tests: what a command writes to it, and what it shows in the end."""
 import os
 import pty
 import re
@@ -7,17 +7,17 @@ import threading
 
 from harness import SECONDS
 
-# What moves on a line or takes of it, and what is put there.
+# Sequences that move on a line or erase it, and their replacements.
 PARTS = re.compile(r"\r|\n|\x1b\[([02]?)K|.", re.DOTALL)
 
 
 def read_all(end, parts):
-    """Reads what is written to a terminal, until nobody has it open any more."""
+    """Reads what is written to a terminal, until no process has it open."""
     while True:
         try:
             part = os.read(end, 1 << 16)
         except OSError:
-            # (so a terminal says that it is closed)
+            # (a closed terminal is reported so)
             return
         if not part:
             return
@@ -25,8 +25,8 @@ def read_all(end, parts):
 
 
 def run_on_terminal(words, text=b"", seconds=SECONDS, is_whole=False, **how):
-    """Runs a command whose standard error is a terminal, its standard output too where `is_whole` says so. What it
-    writes there is the answer's `stderr`. Of one that doesn't end in time the exit status is None."""
+    """Runs a command whose standard error is a terminal, and with `is_whole` its standard output too. Its output there is
+    the result's `stderr`. The exit status is None if it doesn't end in time."""
     end, terminal = pty.openpty()
     parts, out, status = [], b"", None
     reader = threading.Thread(target=read_all, args=(end, parts), daemon=True)
@@ -44,7 +44,7 @@ def run_on_terminal(words, text=b"", seconds=SECONDS, is_whole=False, **how):
 
 
 def shown(text):
-    """What a terminal shows of a text in the end, line by line, without spaces behind a line."""
+    """What a terminal shows of a text in the end, line by line, without trailing spaces."""
     lines, at = [""], 0
     for part in PARTS.finditer(text):
         letter, line = part.group(), lines[-1]

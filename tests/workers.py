@@ -1,4 +1,4 @@
-"""A Dask cluster of the tests' own: a scheduler and workers on 127.0.0.1, in a temporary folder."""
+"""A Dask cluster for the tests: a scheduler and workers on 127.0.0.1, in a temporary folder."""
 import json
 import os
 import re
@@ -7,19 +7,19 @@ import subprocess
 import tempfile
 import time
 
-PYTHON = "/usr/bin/python3"  # Debian's, for which its packages are
+PYTHON = "/usr/bin/python3"  # Debian's Python, for which the packages are
 PATIENCE, ENDING = 60, 10
 ASIDE = "\nIt says:\n"
 
 
 def is_there():
-    """Whether there is a Dask to start."""
+    """Whether Dask is installed."""
     look = "import importlib.util, sys; sys.exit(importlib.util.find_spec('distributed') is None)"
     return os.path.exists(PYTHON) and not subprocess.run([PYTHON, "-c", look], check=False).returncode
 
 
 class Process:
-    """A scheduler or a worker. What it says stands in a file."""
+    """A scheduler or a worker. Its output goes to a file."""
 
     def __init__(self, room, what, words, processors):
         self.folder = tempfile.mkdtemp(dir=room)
@@ -35,7 +35,7 @@ class Process:
             return log.read()
 
     def wait_for(self, pattern):
-        """Waits until it says something."""
+        """Waits until it prints a text."""
         until = time.monotonic() + PATIENCE
         while not (found := re.search(pattern, self.said())):
             if self.process.poll() is not None or time.monotonic() > until:
@@ -56,8 +56,8 @@ class Process:
 
 
 class Cluster:
-    """A scheduler and workers of one thread each, as a context, in a new folder below one that is named. Where
-    `is_bound`, each worker and what it starts have one processor of their own, the first worker the second one."""
+    """A scheduler and workers of one thread each, as a context, in a new folder below the given one. With `is_bound`,
+    each worker and its child processes have one processor, the first worker the second one."""
 
     def __init__(self, workers, is_bound=False, below=None):
         self.room, self.count, self.is_bound = tempfile.mkdtemp(prefix="lab", dir=below), workers, is_bound
@@ -80,7 +80,7 @@ class Cluster:
         return self.started[-1]
 
     def add(self, count=1, *more):
-        """Starts some workers, with more words, and waits until the scheduler has them."""
+        """Starts some workers, with further arguments, and waits until the scheduler has them."""
         words = [self.address, "--nthreads", "1", "--local-directory", self.room, *more]
         added = [self.start("worker", words) for _ in range(count)]
         for worker in added:
@@ -88,7 +88,7 @@ class Cluster:
         self.workers += added
 
     def __exit__(self, *_):
-        """Ends each process, workers first, and sees them end."""
+        """Ends each process, workers first, and waits for their end."""
         for process in reversed(self.started):
             process.end()
         for process in reversed(self.started):

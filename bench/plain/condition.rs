@@ -16,7 +16,7 @@ impl Tokens<'_> {
         }
     }
 
-    /// Predicates with `or` between them, inside so many parentheses and `not`s.
+    /// Predicates joined by `or`, inside this many parentheses and `not`s.
     fn any(&mut self, depth: usize) -> Parsed<Predicate> {
         let mut found = self.all(depth)?;
         while self.takes("or") {
@@ -81,7 +81,7 @@ impl Tokens<'_> {
         Ok(found)
     }
 
-    /// Numbers in parentheses, perhaps none.
+    /// Numbers in parentheses, possibly none.
     fn listed(&mut self) -> Parsed<Vec<i64>> {
         self.expect(&["("])?;
         let mut numbers = Vec::new();

@@ -13,7 +13,7 @@ pub struct Dependencies {
 }
 
 impl Dependencies {
-    /// The dependencies of a history; None where its record contradicts itself.
+    /// The dependencies of a history; None if its record contradicts itself.
     pub fn of(known: &Known) -> Option<Dependencies> {
         let history = &known.history;
         let [writes, reads, item_antis, predicate_antis] =
@@ -57,7 +57,8 @@ impl Dependencies {
         known.ends_right().then_some(found)
     }
 
-    /// Takes in what an operation depends on, and what depends on it; of each row the place of the version that it saw.
+    /// Adds the dependencies of an operation in both directions; `turns` has for each row the position of the version that it
+    /// saw.
     fn take(&mut self, known: &Known, me: usize, op: &Op, turns: &[Option<usize>]) {
         for (row, _) in &op.rows {
             let (chain, Some(seen)) = (&known.versions[*row], turns[*row]) else {

@@ -1,4 +1,4 @@
-//! An engine: transactions of sessions on versions of rows, and the log of what each command came to.
+//! An engine: transactions of sessions on versions of rows, and the log of their commands and answers.
 
 use crate::event::{Event, Outcome, Refusal};
 use crate::script::{Command, Line, Script};
@@ -18,7 +18,7 @@ pub enum Level {
     Optimistic,
 }
 
-/// What ran: the statement, the versions that it saw where they aren't the setup's, what it listed and what it wrote.
+/// An operation: the statement, the versions that it saw except the setup's, what it returned and what it wrote.
 pub struct Op<'a> {
     pub statement: &'a Statement,
     pub text: &'a str,
@@ -29,7 +29,7 @@ pub struct Op<'a> {
 
 #[derive(Default)]
 pub struct Txn<'a> {
-    /// How many commits there were when it began.
+    /// The number of commits before its begin.
     pub begun: usize,
     pub is_committed: bool,
     pub ops: Vec<Op<'a>>,
@@ -37,14 +37,14 @@ pub struct Txn<'a> {
     pub pending: BTreeMap<Row, Version>,
 }
 
-/// The place of its transaction, and the line that waits.
+/// The index of its transaction, and the line that waits.
 #[derive(Clone, Copy, Default)]
 pub struct Session<'a> {
     pub active: Option<usize>,
     pub waiting: Option<&'a Line>,
 }
 
-/// A row that a statement would write: what it is, and what it would be, None where that is out of range.
+/// A row that a statement would write: its state, and its new state, None if that is out of range.
 pub struct Target {
     pub row: Row,
     pub before: State,
@@ -82,7 +82,7 @@ impl<'a> Engine<'a> {
         }
     }
 
-    /// The version of a row that a transaction sees; None where that is the setup's.
+    /// The version of a row that a transaction sees; None for the setup's.
     fn seen<'b>(&'b self, txn: &'b Txn, row: &Row, chain: &'b Chain) -> Option<&'b Version> {
         let commits = match self.level {
             Level::Locking | Level::Committed => self.commits,
@@ -96,7 +96,7 @@ impl<'a> Engine<'a> {
             .map_or(chain.setup, |it| it.state)
     }
 
-    /// What a transaction sees of each row whose version isn't the setup's.
+    /// The rows whose seen version isn't the setup's, with these versions.
     fn view(&self, txn: &Txn) -> Vec<(Row, usize, usize)> {
         let versions = self.rows.iter().filter_map(|(row, chain)| {
             let seen = self.seen(txn, row, chain)?;
@@ -114,7 +114,7 @@ impl<'a> Engine<'a> {
         matching.collect()
     }
 
-    /// The rows that a statement would write by those that it matches.
+    /// The rows that a statement would write, from those that it matches.
     fn targets(&self, txn: &Txn, statement: &Statement, matching: &[(Row, i64)]) -> Vec<Target> {
         match statement.change {
             Change::Nothing => Vec::new(),
@@ -175,7 +175,7 @@ impl<'a> Engine<'a> {
         Outcome::Committed
     }
 
-    /// Runs a statement that nobody blocks.
+    /// Runs a statement that isn't blocked.
     fn run(
         &mut self,
         session: usize,
@@ -205,7 +205,7 @@ impl<'a> Engine<'a> {
         self.keep(txn, op)
     }
 
-    /// Keeps an operation that ran, and what it wrote as pending.
+    /// Records an operation that ran, and its writes as pending.
     fn keep(&mut self, place: usize, op: Op<'a>) -> Outcome {
         let txn = &mut self.txns[place];
         let count = txn.ops.len() + 1;
@@ -225,7 +225,7 @@ impl<'a> Engine<'a> {
         }
     }
 
-    /// Runs a statement, or lets it wait for who blocks it; where that would be in a circle, it is refused.
+    /// Runs a statement, or lets it wait for the sessions that block it; refuses it if that would be a deadlock.
     fn attempt(&mut self, line: &'a Line, txn: usize, statement: &'a Statement) -> Outcome {
         let session = line.session;
         self.sessions[session].waiting = None;
@@ -255,7 +255,7 @@ impl<'a> Engine<'a> {
         }
     }
 
-    /// Does a line of a session that doesn't wait, or tries the one again that waits.
+    /// Runs a line of a session that doesn't wait, or retries the one that waits.
     pub fn step(&mut self, line: &'a Line) {
         let outcome = self.outcome(line);
         self.log.push(Event {
@@ -276,7 +276,7 @@ impl<'a> Engine<'a> {
     }
 }
 
-/// What an update or a delete makes of a row.
+/// The result of an update or a delete for a row.
 fn target(statement: &Statement, (row, value): (Row, i64)) -> Target {
     let after = statement.makes(value);
     Target {

@@ -1,8 +1,8 @@
-//! What a command came to.
+//! The outcomes of commands.
 
 use crate::statement::Row;
 
-/// Why a command is refused. Transactions stand by their numbers, sessions by theirs.
+/// The reason why a command is refused. Transactions and sessions are given by their numbers.
 pub enum Refusal {
     DuplicateKey(Row),
     OutOfRange(Row),
@@ -13,7 +13,7 @@ pub enum Refusal {
     AlreadyBegun,
 }
 
-/// What a command came to. Rows that were listed are those of an operation of a transaction, by their places.
+/// The outcome of a command. Returned rows are given by the index of the transaction and of its operation.
 pub enum Outcome {
     Begun(usize),
     Ran { txn: usize, op: usize },

@@ -34,7 +34,7 @@ const RESERVED: [&str; 23] = [
     "where",
 ];
 
-/// The tokens of a line, and the names of tables that were met by now.
+/// The tokens of a line, and the names of tables found so far.
 pub struct Parser<'a> {
     pub tokens: Tokens<'a>,
     tables: &'a mut Vec<String>,
@@ -51,7 +51,7 @@ impl<'a> Parser<'a> {
         &self.tables[table]
     }
 
-    /// The place of a table's name, which may be new.
+    /// The index of a table's name, which may be new.
     fn named(&mut self, name: &str) -> Parsed<usize> {
         if let Some(place) = self.tables.iter().position(|it| it == name) {
             return Ok(place);
@@ -94,7 +94,7 @@ impl<'a> Parser<'a> {
         Ok((Row { table, id }, value))
     }
 
-    /// The rows behind the word `setup`.
+    /// The rows after the word `setup`.
     pub fn setup_rows(&mut self) -> Parsed<BTreeMap<Row, i64>> {
         let mut rows = BTreeMap::new();
         if self.tokens.take_both("(", ")") {
@@ -111,7 +111,7 @@ impl<'a> Parser<'a> {
         }
     }
 
-    /// The words behind `set`.
+    /// The words after `set`.
     pub fn isolation_level(&mut self) -> Parsed<()> {
         self.tokens.expect(&["transaction", "isolation", "level"])?;
         if !is_word(self.tokens.peek()) {

@@ -1,6 +1,6 @@
 //! Graphs of transactions.
 
-/// A square of bits, of arrows from a transaction to others.
+/// A square of bits: edges from each transaction to others.
 #[derive(Clone)]
 pub struct Graph {
     width: usize,
@@ -51,7 +51,7 @@ impl Graph {
         both
     }
 
-    /// Whether no arrows lead back to where they began.
+    /// Whether the graph has no cycle.
     pub fn is_acyclic(&self) -> bool {
         let mut before = vec![0; self.rows.len()];
         self.arrows().for_each(|(_, to)| before[to] += 1);
@@ -76,7 +76,7 @@ impl Graph {
         taken == before.len()
     }
 
-    /// Where arrows lead, one or more.
+    /// Which nodes are reachable by one or more edges.
     pub fn closure(&self) -> Graph {
         let mut reached = self.clone();
         for middle in 0..reached.rows.len() {

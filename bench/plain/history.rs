@@ -1,9 +1,9 @@
-//! A history as the judge has it: rows by their places among those that it names, and transactions by theirs.
+//! A history for the judge: rows and transactions by their indices in it.
 
 use crate::statement::{Row, State, Statement};
 use std::collections::HashMap;
 
-/// Rows by their places.
+/// Rows by their indices.
 #[derive(Default)]
 pub struct Names {
     rows: HashMap<Row, usize>,
@@ -23,7 +23,7 @@ impl Names {
     }
 }
 
-/// What ran: a view has places of rows, numbers of transactions, and operations counted from 1.
+/// An operation: its view has indices of rows, numbers of transactions, and operations counted from 1.
 pub struct Op {
     pub statement: Statement,
     pub view: Vec<(usize, usize, usize)>,
@@ -61,7 +61,7 @@ fn all_states(found: &[(usize, State)], rows: usize) -> Vec<State> {
 }
 
 impl History {
-    /// A history of these rows; who installed versions stands there by numbers.
+    /// A history of these rows, whose installers are given by numbers.
     pub fn new(
         names: Names,
         txns: Vec<Txn>,
@@ -89,7 +89,7 @@ impl History {
         }
     }
 
-    /// For each row the versions that are installed: by whom, and what they are.
+    /// For each row, the installed versions: the installers, and the states.
     pub fn versions(&self) -> Vec<Vec<(usize, State)>> {
         let left = |row: usize, txn: usize| {
             let mut latest_first = self.txns[txn].ops.iter().rev();

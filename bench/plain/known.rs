@@ -1,10 +1,10 @@
-//! Looking up in a history, and whether its record contradicts itself.
+//! Look-ups in a history, and whether its record contradicts itself.
 
 use crate::history::{History, Op};
 use crate::statement::{Change, State};
 use std::collections::{HashMap, HashSet};
 
-/// What an operation writes by what it sees, and None where the statement is refused.
+/// The writes of an operation, from what it sees; None if the statement fails.
 fn made(
     op: &Op,
     matching: &[(usize, State)],
@@ -25,8 +25,8 @@ fn made(
     }
 }
 
-/// A history with what is looked up: versions of each row, the place of each transaction's among them, counted from 1
-/// with 0 for none, and the rows of each table in their order.
+/// A history with look-up tables: versions of each row, each transaction's position among them, counted from 1 with 0 for
+/// none, and the rows of each table in order.
 pub struct Known {
     pub history: History,
     pub versions: Vec<Vec<(usize, State)>>,
@@ -61,7 +61,7 @@ impl Known {
         self.places[row * self.history.txns.len() + txn] as usize
     }
 
-    /// The rows that an operation's condition doesn't rule out by their ids, with these.
+    /// The rows whose ids an operation's condition doesn't exclude, with these.
     pub fn about<'a>(&'a self, op: &'a Op) -> impl Iterator<Item = (usize, i64)> + 'a {
         let (all, rows) = (
             !op.statement.names_ids(),
@@ -71,8 +71,8 @@ impl Known {
             .filter(move |it| all || op.statement.may_match(it.1))
     }
 
-    /// The state that an operation sees by an entry of its view, if that is the latest of its own transaction or the last
-    /// of another one that committed, which isn't installed behind its own.
+    /// The state of an entry of an operation's view, if that is the latest version of its own transaction, or the last
+    /// version of another committed one that isn't installed after its own.
     pub fn viewed(
         &self,
         me: usize,
@@ -99,7 +99,7 @@ impl Known {
         is_right.then_some(state)
     }
 
-    /// Whether an operation lists and writes what its statement makes of what is seen.
+    /// Whether an operation returns and writes what its statement does with what it saw.
     pub fn is_right(&self, op: &Op, seen: &[State]) -> bool {
         let (mut matching, mut target) = (Vec::new(), None);
         for (row, id) in self.about(op) {
@@ -116,7 +116,7 @@ impl Known {
         lists == op.rows && made(op, &matching, target).as_ref() == Some(&op.writes)
     }
 
-    /// Whether the installers of each row are its committed writers, each once, and the end is what they left.
+    /// Whether the installers of each row are its committed writers, each once, and the final rows are what they left.
     pub fn ends_right(&self) -> bool {
         let mut writers = vec![HashSet::new(); self.history.rows.len()];
         for (me, txn) in self

@@ -1,5 +1,5 @@
-//! What plain programs are made of that do what `judge` and `run` do, without proofs: statements and scripts, engines that
-//! play these, the history that a play leaves, and its judgement.
+//! Parts of plain programs that do what `judge` and `run` do, without proofs: statements and scripts, engines that play
+//! them, the history of a play, and its judgement.
 
 pub mod condition;
 pub mod dependencies;

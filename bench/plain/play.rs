@@ -6,7 +6,7 @@ use std::collections::VecDeque;
 
 const EVENTS: usize = 100_000;
 
-/// The lines that each session has left, with their places in the script.
+/// The remaining lines of each session, with their positions in the script.
 type Left<'a> = [VecDeque<(usize, &'a Line)>; SESSIONS];
 
 fn lines_of(script: &Script) -> Left<'_> {
@@ -17,7 +17,7 @@ fn lines_of(script: &Script) -> Left<'_> {
     left
 }
 
-/// Takes the first line that is left and whose session doesn't wait.
+/// Takes the first remaining line whose session doesn't wait.
 fn next_line<'a>(engine: &Engine, left: &mut Left<'a>) -> Option<&'a Line> {
     let idle = (1..SESSIONS).filter(|session| engine.sessions[*session].waiting.is_none());
     let next = idle
@@ -34,7 +34,7 @@ fn least_active(engine: &Engine) -> Option<(usize, usize)> {
     idle.find_map(|(session, it)| Some((session, it.active?)))
 }
 
-/// The next event of a script; answers whether there was one.
+/// Runs the next event of a script; returns whether there was one.
 fn play_next<'a>(engine: &mut Engine<'a>, left: &mut Left<'a>) -> bool {
     let retried = engine.retryable();
     if let Some(line) = retried.and_then(|session| engine.sessions[session].waiting) {
@@ -49,8 +49,8 @@ fn play_next<'a>(engine: &mut Engine<'a>, left: &mut Left<'a>) -> bool {
     true
 }
 
-/// Plays a script: who waits is tried again as soon as it needn't wait, the next line is the first whose session doesn't
-/// wait, and in the end who is in a transaction aborts. None where the log would have too many events.
+/// Plays a script: a waiting session is tried again as soon as it needn't wait, the next line is the first whose session
+/// doesn't wait, and at the end sessions in a transaction abort. None if the log would have too many events.
 pub fn play(script: &Script, level: Level) -> Option<Engine<'_>> {
     let (mut engine, mut left) = (Engine::new(level, script), lines_of(script));
     while play_next(&mut engine, &mut left) {

@@ -1,4 +1,4 @@
-//! What a play recorded: whether that is within the limits of a history, the history file, and the history for the judge.
+//! The recording of a play: whether it is within the limits of a history, the history file, and the history for the judge.
 
 use crate::engine::{Engine, Op, Txn};
 use crate::history::{self, History, Names};
@@ -9,7 +9,7 @@ const TXNS: usize = 1_000;
 const ROWS: usize = 1_000;
 const ENTRIES: usize = 200_000;
 
-/// What a history may not have so much of.
+/// A limit of histories.
 pub fn over_limit(engine: &Engine) -> Option<&'static str> {
     let ops = engine.txns.iter().flat_map(|txn| &txn.ops);
     let entries: usize = ops
@@ -26,7 +26,7 @@ pub fn over_limit(engine: &Engine) -> Option<&'static str> {
     }
 }
 
-/// Rows with their states in the end, or as the setup has them.
+/// The final states of rows, or the setup's.
 fn states<'a>(engine: &'a Engine<'a>, is_end: bool) -> impl Iterator<Item = (Row, State)> + 'a {
     engine.rows.iter().filter_map(move |(row, chain)| {
         let state = if is_end { chain.last() } else { chain.setup };
@@ -34,7 +34,7 @@ fn states<'a>(engine: &'a Engine<'a>, is_end: bool) -> impl Iterator<Item = (Row
     })
 }
 
-/// For each row that has some, the numbers of the transactions that installed a version of it.
+/// For each row with installed versions, the numbers of the installing transactions.
 fn installers<'a>(engine: &'a Engine<'a>) -> impl Iterator<Item = (Row, Vec<usize>)> + 'a {
     let rows = engine.rows.iter();
     rows.filter(|(_, chain)| !chain.installed.is_empty())
@@ -48,7 +48,7 @@ fn installers<'a>(engine: &'a Engine<'a>) -> impl Iterator<Item = (Row, Vec<usiz
 
 type Named<'a, T> = (&'a str, i64, T);
 
-/// A history file; the keys of each object are in their order.
+/// A history file; the keys of each object are in byte order.
 #[derive(Serialize)]
 struct File<'a> {
     end: Vec<Named<'a, State>>,
@@ -123,7 +123,7 @@ pub fn history_file(engine: &Engine, tables: &[String]) -> serde_json::Result<Ve
     })
 }
 
-/// The history of a play as the judge has it.
+/// The history of a play for the judge.
 pub fn history_of(engine: &Engine) -> History {
     let mut names = Names::default();
     let initial = names.states(states(engine, false));

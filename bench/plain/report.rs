@@ -1,4 +1,4 @@
-//! The report of a history, of each line the first two words.
+//! The report of a history: the first two words of each line.
 
 use crate::dependencies::Dependencies;
 use crate::graph::Graph;
@@ -6,7 +6,7 @@ use crate::history::History;
 use crate::known::Known;
 use std::io::{self, Write};
 
-/// Whether each transaction has a start and a commit that the dependencies allow.
+/// Whether the dependencies allow a start and a commit for each transaction.
 fn is_snapshot(before: &Graph, antis: &Graph) -> bool {
     let count = before.rows.len();
     let mut places = Graph::new(2 * count);
@@ -20,7 +20,7 @@ fn is_snapshot(before: &Graph, antis: &Graph) -> bool {
     places.is_acyclic()
 }
 
-/// The level that the report's findings come to.
+/// The level for the report's findings.
 fn level(found: &Dependencies, has_circle: bool, is_item: bool, is_any: bool) -> &'static str {
     match (found.writes.is_acyclic(), has_circle, is_item, is_any) {
         (false, ..) => "below PL-1",
@@ -31,7 +31,7 @@ fn level(found: &Dependencies, has_circle: bool, is_item: bool, is_any: bool) ->
     }
 }
 
-/// Judges a history whose record doesn't contradict itself, and which has no read of what was aborted or overwritten.
+/// Judges a history whose record doesn't contradict itself, and which has no aborted or intermediate read.
 pub fn write_report(out: &mut impl Write, history: History) -> io::Result<()> {
     let known = Known::of(history);
     let found = Dependencies::of(&known).expect("a record that doesn't contradict itself");

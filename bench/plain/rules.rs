@@ -1,4 +1,4 @@
-//! The rules of the levels: who blocks a statement, who waits for whom in a circle, and which commits are in conflict.
+//! The rules of the levels: blocking sessions, deadlocks, and conflicts of commits.
 
 use crate::engine::{Engine, Level, Target, Txn, SESSIONS};
 use crate::event::Refusal;
@@ -11,7 +11,7 @@ fn writes_one(other: &Txn, targets: &[Target]) -> bool {
     targets.iter().any(|it| other.pending.contains_key(&it.row))
 }
 
-/// Whether a transaction has run a statement that matches one of these rows as it is or as it would be.
+/// Whether a transaction has run a statement that matches one of these rows in its old or its new state.
 fn has_read_one(other: &Txn, targets: &[Target]) -> bool {
     targets.iter().any(|target| {
         other.ops.iter().map(|op| op.statement).any(|read| {
@@ -23,8 +23,7 @@ fn has_read_one(other: &Txn, targets: &[Target]) -> bool {
 }
 
 impl Engine<'_> {
-    /// Whether a transaction has a pending write of a row that a statement matches as it was installed last, or as it is
-    /// pending.
+    /// Whether a transaction has a pending write of a row that a statement matches in its committed or in its pending state.
     fn writes_matching(&self, other: &Txn, statement: &Statement) -> bool {
         statement.among(&other.pending).any(|(row, version)| {
             statement.matches(row.id, version.state)
@@ -32,7 +31,7 @@ impl Engine<'_> {
         })
     }
 
-    /// The sessions that block a statement of a session, by rising number.
+    /// The sessions that block a statement of a session, by ascending number.
     pub fn blockers(&self, session: usize, txn: &Txn, statement: &Statement) -> Vec<usize> {
         if matches!(self.level, Level::Snapshot | Level::Optimistic) {
             return Vec::new();
@@ -67,14 +66,14 @@ impl Engine<'_> {
         waiting.collect()
     }
 
-    /// The shortest circle of waiting from a session that would wait for these; the least of several.
+    /// The shortest cycle of waiting from a session that would wait for these; the least of several.
     pub fn circle(&self, session: usize, blockers: &[usize]) -> Option<Vec<usize>> {
         let mut waits = self.waits();
         waits.insert(session, blockers.to_vec());
         circle_of(&waits, session)
     }
 
-    /// The least session that waits for nobody any more, or in a circle.
+    /// The least session that nobody blocks any more, or that is in a deadlock.
     pub fn retryable(&self) -> Option<usize> {
         let waits = self.waits();
         let mut sessions = waits.iter();
@@ -84,7 +83,7 @@ impl Engine<'_> {
         found.map(|(session, _)| *session)
     }
 
-    /// Why a commit is refused.
+    /// The reason why a commit is refused.
     pub fn conflict(&self, txn: &Txn) -> Option<Refusal> {
         match self.level {
             Level::Locking | Level::Committed => None,
@@ -119,7 +118,7 @@ impl Engine<'_> {
     }
 }
 
-/// A shortest way from a session along those that wait back to it, and of these the least.
+/// A shortest path from a session along waiting sessions back to it, and of these the least.
 fn circle_of(waits: &BTreeMap<usize, Vec<usize>>, session: usize) -> Option<Vec<usize>> {
     let (mut from, mut queue) = ([None; SESSIONS], VecDeque::from([session]));
     while let Some(at) = queue.pop_front() {
@@ -136,7 +135,7 @@ fn circle_of(waits: &BTreeMap<usize, Vec<usize>>, session: usize) -> Option<Vec<
     None
 }
 
-/// The sessions on the way to one, each of which came from the one before.
+/// The sessions on the path to one, each reached from the one before.
 fn way_to(from: &[Option<usize>; SESSIONS], end: usize) -> Vec<usize> {
     let mut way: Vec<usize> = std::iter::successors(Some(end), |at| from[*at]).collect();
     way.reverse();

@@ -25,20 +25,20 @@ pub struct Line {
     pub text: String,
 }
 
-/// A script. Its tables stand by the order of their names, so rows do too.
+/// A script. Its tables are in the order of their names, so rows are too.
 pub struct Script {
     pub tables: Vec<String>,
     pub setup: BTreeMap<Row, i64>,
     pub lines: Vec<Line>,
 }
 
-/// The first fault of a text that is no script: the number of its line, and what it is.
+/// The first fault of a text that isn't a script: the number of its line, and the kind.
 pub struct Fault {
     pub line: usize,
     pub kind: Kind,
 }
 
-/// A row as it stands in a setup.
+/// A row as a setup spells it.
 pub fn print_row(table: &str, id: i64, value: i64) -> String {
     match table {
         "test" => format!("({id}, {value})"),
@@ -46,7 +46,7 @@ pub fn print_row(table: &str, id: i64, value: i64) -> String {
     }
 }
 
-/// The code of a line in lower case, and its remark.
+/// The code of a line in lower case, and its comment.
 fn split_remark(line: &[u8]) -> Result<(String, &[u8]), Kind> {
     let end = line.windows(2).position(|pair| pair == b"--");
     let (code, remark) = line.split_at(end.unwrap_or(line.len()));
@@ -56,7 +56,7 @@ fn split_remark(line: &[u8]) -> Result<(String, &[u8]), Kind> {
     }
 }
 
-/// The session that a remark names.
+/// The session that a comment names.
 fn session_of(remark: &[u8]) -> Option<usize> {
     let named = remark.strip_prefix(b"--")?;
     let spaces = named.iter().take_while(|it| matches!(it, b' ' | b'\t'));
@@ -69,7 +69,7 @@ fn session_of(remark: &[u8]) -> Option<usize> {
     }
 }
 
-/// The lines of a text; a return is part of a newline, and the last newline may be missing.
+/// The lines of a text; a carriage return is part of a newline, and the last newline may be missing.
 fn lines_of(text: &[u8]) -> impl Iterator<Item = &[u8]> {
     text.split_inclusive(|byte| *byte == b'\n').map(|line| {
         let bare = line.strip_suffix(b"\n");
@@ -77,7 +77,7 @@ fn lines_of(text: &[u8]) -> impl Iterator<Item = &[u8]> {
     })
 }
 
-/// What was read of a script by now. Tables stand by the order in which they were named.
+/// The part of a script read so far. Tables are in the order in which they were named.
 #[derive(Default)]
 struct Reader {
     tables: Vec<String>,
@@ -147,7 +147,7 @@ impl Reader {
     }
 }
 
-/// The rows of a setup, behind its first word.
+/// The rows of a setup, after its first word.
 fn setup(parser: &mut Parser) -> Result<BTreeMap<Row, i64>, Kind> {
     let rows = parser.setup_rows()?;
     let is_closed = parser.tokens.takes(";");
@@ -165,7 +165,7 @@ fn setup(parser: &mut Parser) -> Result<BTreeMap<Row, i64>, Kind> {
     Ok(rows)
 }
 
-/// One command and its printed form; none for a level of isolation.
+/// One command and its printed form; none for an isolation level.
 fn command(parser: &mut Parser) -> Result<Option<(Command, String)>, Kind> {
     if parser.tokens.takes("begin") {
         return Ok(Some((Command::Begin, "begin".to_string())));
@@ -185,7 +185,7 @@ fn command(parser: &mut Parser) -> Result<Option<(Command, String)>, Kind> {
     Ok(Some((Command::Run(statement), text)))
 }
 
-/// The commands of a line, so many at most.
+/// The commands of a line, at most this many.
 fn commands(parser: &mut Parser, room: usize) -> Result<Vec<(Command, String)>, Kind> {
     let mut found = Vec::new();
     loop {

@@ -3,10 +3,10 @@
 use std::collections::BTreeMap;
 use std::fmt::{self, Display, Formatter};
 
-/// What a row is: its value, or None where it is absent.
+/// The state of a row: its value, or None if it is absent.
 pub type State = Option<i64>;
 
-/// A row by its table's place among the names, and its id.
+/// A row by its table's index among the names, and its id.
 #[derive(Clone, Copy, Debug, PartialEq, Eq, PartialOrd, Ord, Hash)]
 pub struct Row {
     pub table: usize,
@@ -78,7 +78,7 @@ impl Predicate {
         }
     }
 
-    /// Whether it may be true of a row with this id, or false, where that is what is asked for.
+    /// Whether it may have the truth value `wanted` for a row with this id.
     fn may(&self, id: i64, wanted: bool) -> bool {
         match self {
             Predicate::Compare(Column::Value, ..)
@@ -105,7 +105,7 @@ impl Predicate {
         }
     }
 
-    /// Bounds of the ids of rows that it may match; none where the first is above the last.
+    /// Bounds of the ids of rows that it may match; the range is empty if the first is above the last.
     fn ids(&self) -> (i64, i64) {
         match self {
             Predicate::Compare(Column::Id, comparison, number) => match comparison {
@@ -133,7 +133,7 @@ impl Predicate {
         }
     }
 
-    /// How tightly it binds: an `or` the least, then an `and`, then all else.
+    /// How tightly it binds: an `or` the least, then an `and`, then everything else.
     fn rank(&self) -> u8 {
         match self {
             Predicate::Or(..) => 0,
@@ -142,7 +142,7 @@ impl Predicate {
         }
     }
 
-    /// Prints it with parentheses round it, unless it binds as tightly as this.
+    /// Prints it, in parentheses unless it binds at least this tightly.
     fn fmt_inside(&self, f: &mut Formatter, rank: u8) -> fmt::Result {
         if self.rank() < rank {
             write!(f, "({self})")
@@ -219,7 +219,7 @@ pub enum Change {
     Delete,
 }
 
-/// A statement on a table, which stands by its place among the names. An insert has the predicate that its id matches.
+/// A statement on a table, given by its index among the names. An insert has the predicate that its id matches.
 #[derive(Clone, Debug)]
 pub struct Statement {
     pub table: usize,
@@ -237,7 +237,7 @@ impl Statement {
         })
     }
 
-    /// The entries of rows that it may match by its table and bounds of ids.
+    /// The entries of rows that it may match, by its table and bounds of ids.
     pub fn among<'a, T>(
         &self,
         rows: &'a BTreeMap<Row, T>,
@@ -256,12 +256,12 @@ impl Statement {
         self.predicate.as_ref().map_or(true, |it| it.may(id, true))
     }
 
-    /// Whether its predicate says something of ids.
+    /// Whether its predicate restricts ids.
     pub fn names_ids(&self) -> bool {
         self.predicate.as_ref().is_some_and(Predicate::names_ids)
     }
 
-    /// What it makes of a row with this value.
+    /// The new state of a row with this value.
     pub fn makes(&self, before: i64) -> State {
         match self.change {
             Change::Nothing => Some(before),

@@ -1,10 +1,10 @@
-//! The tokens of a line, and what is wrong where they are none of the grammar's.
+//! The tokens of a line, and the faults of text that the grammar doesn't allow.
 
 use std::ops::RangeInclusive;
 
 pub const VALUES: RangeInclusive<i64> = -1_000_000_000..=1_000_000_000;
 
-/// What is wrong with a line.
+/// The fault of a line.
 #[derive(Clone, Copy, Debug, PartialEq)]
 pub enum Kind {
     NotAscii,
@@ -31,7 +31,7 @@ fn is_digits(token: &str) -> bool {
     token.starts_with(|c: char| c.is_ascii_digit())
 }
 
-/// How many bytes the token or the space has that these begin with.
+/// The number of bytes of the token or the space at the beginning.
 fn length(bytes: &[u8]) -> usize {
     let run = |belongs: fn(&u8) -> bool| bytes.iter().take_while(|byte| belongs(byte)).count();
     match bytes {
@@ -55,7 +55,7 @@ fn split(code: &str) -> Vec<&str> {
     found
 }
 
-/// The tokens of a line, and how many of them were read.
+/// The tokens of a line, and how many of them have been read.
 pub struct Tokens<'a> {
     tokens: Vec<&'a str>,
     at: usize,
@@ -78,21 +78,21 @@ impl<'a> Tokens<'a> {
         self.at == self.tokens.len()
     }
 
-    /// Goes behind the next token where it is this.
+    /// Skips the next token if it is this one.
     pub fn takes(&mut self, wanted: &str) -> bool {
         let found = self.peek() == wanted;
         self.at += if found { 1 } else { 0 };
         found
     }
 
-    /// Goes behind the next two tokens where they are these.
+    /// Skips the next two tokens if they are these.
     pub fn take_both(&mut self, first: &str, second: &str) -> bool {
         let found = self.tokens[self.at..].starts_with(&[first, second]);
         self.at += if found { 2 } else { 0 };
         found
     }
 
-    /// What it is that the next token may not stand there.
+    /// The fault if the next token isn't allowed here.
     pub fn wrong(&self) -> Kind {
         let before = self.tokens[..self.at].iter().rev();
         if before.take_while(|it| **it != ";").any(|it| *it == "where") {
@@ -102,7 +102,7 @@ impl<'a> Tokens<'a> {
         }
     }
 
-    /// Goes behind these tokens, which have to stand here.
+    /// Skips these tokens, which must come here.
     pub fn expect(&mut self, wanted: &[&str]) -> Parsed<()> {
         for token in wanted {
             if !self.takes(token) {
@@ -126,7 +126,7 @@ impl<'a> Tokens<'a> {
         }
     }
 
-    /// Goes behind the next token.
+    /// Skips the next token.
     pub fn skip(&mut self) {
         self.at += 1;
     }

@@ -2,7 +2,7 @@
 
 use crate::statement::State;
 
-/// A version of a row: which operation of which transaction left it, both counted from 1, and as what.
+/// A version of a row: the transaction and the operation, both counted from 1, that left it, and its state.
 #[derive(Clone, Copy)]
 pub struct Version {
     pub txn: usize,
@@ -16,7 +16,7 @@ pub struct Installed {
     pub commit: usize,
 }
 
-/// The versions of a row that were installed, behind what the setup has of it.
+/// The installed versions of a row, after the setup's.
 #[derive(Default)]
 pub struct Chain {
     pub setup: State,
@@ -24,7 +24,7 @@ pub struct Chain {
 }
 
 impl Chain {
-    /// What it was last, after so many commits.
+    /// Its state after this many commits.
     pub fn after(&self, commits: usize) -> Option<&Version> {
         let mut latest_first = self.installed.iter().rev();
         latest_first
@@ -38,8 +38,8 @@ impl Chain {
             .map_or(self.setup, |it| it.version.state)
     }
 
-    /// The first transaction that installed a version behind so many commits, where a test holds of what the row was
-    /// before that and of what it was then.
+    /// The first transaction that installed a version after this many commits for which a test holds of the states before
+    /// and after.
     pub fn first_since(
         &self,
         commits: usize,

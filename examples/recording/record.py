@@ -3,9 +3,9 @@
 
 usage: record.py > history.json
 
-Each version of a row has its name beside its value: the columns txn and op, which the write fills. A deleted row
-stays, marked as gone. A transaction of SQLite reads one snapshot and its own writes, so what is read round a statement
-is what the statement looks at; elsewhere that has to be seen to (docs/RECORDING.md).
+Each row has the name of its version, in the columns txn and op, which every write sets. A deleted row stays, marked as
+gone. A transaction of SQLite reads one snapshot and its own writes, so reads before and after a statement show what the
+statement sees; other databases need more care (docs/RECORDING.md).
 """
 import json
 import os
@@ -24,12 +24,12 @@ ADDED = re.compile(r"insert into test \(id, value\) values \((?P<id>-?\d+), (?P<
 
 
 def condition(where):
-    """The rows that a statement matches: those that are present and meet its `where`."""
+    """The condition of the rows that a statement matches: they are present and meet its `where`."""
     return f"not gone and ({where or 'true'})"
 
 
 def in_sql(statement, version):
-    """A statement's write as SQL that names the version, or None for a select; and the condition of what it lists."""
+    """A statement's write as SQL that names the version, or None for a select; and the condition of the rows it returns."""
     added = ADDED.fullmatch(statement)
     if added:
         row = f"{added['id']}, {added['value']}, {version}"
@@ -42,12 +42,12 @@ def in_sql(statement, version):
 
 
 def of_table(members):
-    """Members of a list of the file, which begin with the name of the row's table."""
+    """Entries of a list of the file, which begin with the name of the row's table."""
     return [[NAME, *member] for member in members]
 
 
 class Recorder:
-    """The table, and what is noted of its transactions: their outcomes and operations."""
+    """The table, and the recording of its transactions: their outcomes and operations."""
 
     def __init__(self, path, initial):
         self.path, self.initial, self.transactions = path, initial, []
@@ -62,7 +62,7 @@ class Recorder:
         return [list(row) for row in self.connection.execute(question)]
 
     def history(self):
-        """The file's object. Who stands in the table of commits has committed, whatever the session was told."""
+        """The object of the file. A transaction in the table of commits has committed, even if its result was lost."""
         installed = {}
         by_number = {txn["no"]: txn for txn in self.transactions}
         for no, in self.list("select txn from commits order by place"):
@@ -80,7 +80,7 @@ class Recorder:
 
 
 class Session:
-    """A connection, and the transaction that it is in."""
+    """A connection, and its current transaction."""
 
     def __init__(self, recorder):
         self.recorder, self.connection, self.txn = recorder, recorder.connect(), None
@@ -89,20 +89,20 @@ class Session:
         return [list(row) for row in self.connection.execute(question)]
 
     def begin(self):
-        """A transaction counts as aborted until its commit was answered."""
+        """Begins a transaction. It counts as aborted until its commit has succeeded."""
         self.txn = {"no": len(self.recorder.transactions) + 1, "outcome": "aborted", "ops": []}
         self.recorder.transactions.append(self.txn)
         self.connection.execute("begin")
 
     def run(self, statement):
-        """Runs a statement, and notes it if it succeeds: only then has its number been used."""
+        """Runs a statement, and records it if it succeeds: only then its number is used."""
         no, op = self.txn["no"], len(self.txn["ops"]) + 1
         change, matched = in_sql(statement, f"{no}, {op}")
         view = self.list("select id, txn, op from test where txn is not null order by id")
         rows = self.list(f"select id, value from test where {matched} order by id")
         try:
             written = self.connection.execute(change).rowcount if change else 0
-        except sqlite3.OperationalError:  # another one holds the lock, or has committed since this one's first read
+        except sqlite3.OperationalError:  # another transaction holds the lock, or has committed since this one's first read
             self.connection.execute("rollback")
             return False
         if statement.startswith("insert") and written == 0:  # the row is present
@@ -114,7 +114,7 @@ class Session:
         return True
 
     def commit(self):
-        """The place in the order of commits is taken under the lock of writers, which is held until the commit."""
+        """Commits. The commit number is drawn under the write lock, which is held until the commit."""
         if any(op["writes"] for op in self.txn["ops"]):
             self.connection.execute("insert into commits (txn) values (?)", [self.txn["no"]])
         self.connection.execute("commit")
@@ -122,7 +122,7 @@ class Session:
 
 
 def play(recorder):
-    """Two sessions look who is on duty, and both leave; the second is refused, and looks again."""
+    """Two sessions read who is on duty, and both leave; the second one is refused, and reads again."""
     one, two = Session(recorder), Session(recorder)
     one.begin()
     one.run("select * from test where value = 1")

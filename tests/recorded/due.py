@@ -1,4 +1,4 @@
-"""Interleavings, with what is due of their records by PostgreSQL's manual ("Transaction Isolation"); and bad input."""
+"""Interleavings with the records that PostgreSQL's manual ("Transaction Isolation") leads to expect; and wrong input."""
 READ_COMMITTED, REPEATABLE_READ, SERIALIZABLE = "read committed", "repeatable read", "serializable"
 SETUP = "setup (1, 10), (2, 20);\n"
 BOTH = SETUP + "begin; -- T1\nbegin; -- T2\n"
@@ -8,7 +8,7 @@ def of_test(*members):
     return [["test", *member] for member in members]
 
 
-# What is shown, the level, the script, lines of the log, and parts of operations by transaction and operation.
+# The purpose, the level, the script, lines of the log, and parts of operations by transaction and operation.
 DUE = (
     (
         "an update that waited takes the row as it is then, where that matches",
@@ -153,12 +153,12 @@ DUE = (
     ),
 )
 
-# Row 1 is deleted and inserted anew by one transaction, while another waits for it.
+# Row 1 is deleted and inserted again by one transaction, while another waits for it.
 BORN_AGAIN = BOTH + (
     "delete from test where id = 1; -- T1\nupdate test set value = 7; -- T2\n"
     "insert into test (id, value) values (1, 5); -- T1\ncommit; -- T1\ncommit; -- T2\n"
 )
-# Row 1 is deleted behind a transaction's snapshot, and inserted by that transaction, which then has two of that key.
+# Row 1 is deleted after a transaction took its snapshot, and inserted by that transaction, which then has two of that key.
 TWICE = BOTH + (
     "select * from test where id = 2; -- T1\ndelete from test where id = 1; -- T2\ncommit; -- T2\n"
     "insert into test (id, value) values (1, 5); -- T1\n"
@@ -169,8 +169,8 @@ BEGUN = SCRIPT + b"begin; -- T1\n"
 LONG = b"delete from test where " + b"id = 1 or " * 150 + b"id = 2; -- T1\n"
 FIVE = b"setup a (1, 1), b (1, 1), c (1, 1), d (1, 1), (1, 1);"
 MANY = b"".join(b"insert into test (id, value) values (%d, 1); -- T1\n" % id for id in range(3, 1003))
-# What is wrong, of one recorder behind its name, the words, standard input, the status, and what stands in the one line
-# of standard error.
+# The error, for one recorder after its name, the arguments, standard input, the status, and a part of the one line on
+# standard error.
 BAD_INPUT = (
     ("no script", LEVEL, b"", 2, r": line 1: NoSetup$"),
     ("a statement that isn't one", LEVEL, BEGUN + b"select value from test; -- T1\n", 2, r": line 3: UnknownStatement$"),

@@ -1,8 +1,8 @@
-"""Interleavings, with what is due of their records by MariaDB's manual ("SET TRANSACTION", "InnoDB Lock Modes")."""
+"""Interleavings with the records that MariaDB's manual ("SET TRANSACTION", "InnoDB Lock Modes") leads to expect."""
 from recorded.due import BOTH, DUE, READ_COMMITTED, REPEATABLE_READ, SERIALIZABLE, SETUP, of_test
 
 READ_UNCOMMITTED, SNAPSHOTS = "read uncommitted", "innodb_snapshot_isolation"
-# What MariaDB does as PostgreSQL does, with its own numbers of errors.
+# MariaDB behaves here like PostgreSQL, with its own error numbers.
 ERRORS = {"23505": "1062", "25P02": "the transaction was", "40P01": "1213", "23514": "4025"}
 ALIKE = (
     "an update that waited takes the row as it is then, where that matches",
@@ -26,7 +26,7 @@ def translated(line):
     return line
 
 
-# Row 1 comes to match and row 3 is inserted behind the snapshot of T1, whose update reads both.
+# Row 1 comes to match and row 3 is inserted after T1's snapshot; T1's update reads both.
 BEHIND = BOTH + (
     "select * from test where value = 20; -- T1\nupdate test set value = 20 where id = 1; -- T2\n"
     "insert into test (id, value) values (3, 20); -- T2\ncommit; -- T2\nselect * from test where value = 20; -- T1\n"
@@ -105,7 +105,7 @@ DUE_OF_MARIADB = (
         },
     ),
 )
-# What the report of a case says at a level that lets it happen, and at one that doesn't.
+# The report of a case at a level that permits the anomaly, and at one that doesn't.
 SHOWN = (
     ("G1a", READ_UNCOMMITTED, "G1a", "present"),
     ("G1a", READ_COMMITTED, "G1a", "absent"),

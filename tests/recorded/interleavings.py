@@ -1,4 +1,4 @@
-"""Scripts of interleaved sessions that are made by rule, for recorders: many meet at few rows, and keys come back."""
+"""Scripts of interleaved sessions, made by rule, for recorders: many sessions use few rows, and keys are used again."""
 import random
 
 SETUP = "setup (1, 10), (2, 20), (3, 30), stock (1, 11), stock (2, 22);"

@@ -1,4 +1,4 @@
-"""Loads: recorders/load runs for a moment, and its parts are judged, and follow each other without a gap."""
+"""Loads: recorders/load runs for a moment, its parts are judged, and they follow each other without a gap."""
 import glob
 import json
 import os
@@ -17,7 +17,7 @@ from recorded.mutations import edited
 from recorded.records import AT_ONCE, PROMISES, SECONDS
 
 SESSIONS, ROWS, CUT = 4, 20, 30
-SHRUNK = 10  # parts of a load, the first ones
+SHRUNK = 10  # the first parts of a load
 TOLD = re.compile(
     r"recorders/load: (\d+) transactions, (\d+) committed, (\d+) refused, (\d+) parts(?:, (\d+) left out)?,"
     r" (\d+\.\d) seconds, \d+ transactions a second"
@@ -32,7 +32,7 @@ WRONG = (
     ("views without the rows that values decide", [("loading.py", "row[1] in ids", "row in op.rows")]),
 )
 GONE = "        if next(CALLS) == 400:\n            raise Untold('gone')\n"
-# A database in which once something happens that can't be told.
+# A database in which something that can't be recorded happens once.
 UNTOLD = (
     ("toy", "import Refused, operation_of", "import Refused, Untold, operation_of"),
     ("toy", "        listed = answered(", f"{GONE}        listed = answered("),
@@ -69,7 +69,7 @@ MIXES = (
 
 
 class Ended:
-    """A load that has ended: what it said, and the parts that it left by their numbers."""
+    """A load that has ended: its output, and its parts by their numbers."""
 
     def __init__(self, words, environment=None, path=f"{TOP}/recorders/load", seconds=3):
         with tempfile.TemporaryDirectory() as room:
@@ -100,7 +100,7 @@ class Ended:
 
 
 class Interrupted(Ended):
-    """A load that is interrupted when it has written a part."""
+    """A load that is interrupted after it wrote a part."""
 
     def run(self, words, environment):
         process = subprocess.Popen(words, stdout=subprocess.PIPE, stderr=subprocess.PIPE, env=environment)
@@ -113,8 +113,8 @@ class Interrupted(Ended):
 
 
 def try_parts(tally, name, load, promise, status=0):
-    """What a load left: at least two parts, each sound and as the level promises, each beginning as the one before it
-    ended; and what it said of them."""
+    """The result of a load: at least two parts, each sound and at the promised level, each beginning as the one before it
+    ended; and its output about them."""
     told = TOLD.fullmatch(load.said[-1 if status == 0 else -2]) if len(load.said) > (status != 0) else None
     if not tally.note(load.ended.returncode == status and told, f"{name}: {load.ended.returncode}, {load.said}"):
         return
@@ -138,7 +138,7 @@ def try_parts(tally, name, load, promise, status=0):
 
 
 def try_shrunk(tally, name, load):
-    """Of parts that aren't serializable `shrink` leaves a part of each that isn't either."""
+    """For parts that aren't serializable, `shrink` leaves a part of each that isn't either."""
     for number in sorted(load.texts)[:SHRUNK]:
         text, no = load.texts[number], b"serializable: no T"
         if run([tally.program, "judge"], text).stdout.startswith(no):
@@ -158,7 +158,7 @@ def try_loads(tally, name, levels, environment=None):
 
 
 def edited_load(edits):
-    """What an edited load leaves on the toy database."""
+    """The result of an edited load on the toy database."""
     with tempfile.TemporaryDirectory() as room:
         shutil.copytree(f"{TOP}/recorders", f"{room}/recorders", ignore=shutil.ignore_patterns("__pycache__"))
         edited(f"{room}/recorders", edits)
@@ -166,7 +166,7 @@ def edited_load(edits):
 
 
 def try_edited(tally):
-    """Wrong loads are told by the judge; and a part that can't be told is left out, and only that."""
+    """The judge reports wrong loads. A part that can't be recorded is left out, and only that one."""
     with ThreadPoolExecutor(len(WRONG) + 1) as pool:
         load, *wrong = pool.map(edited_load, [UNTOLD, *(edits for _, edits in WRONG)])
     for (what, _), one in zip(WRONG, wrong):
@@ -187,7 +187,7 @@ def is_of_mix(statements):
 
 
 def try_mix(tally):
-    """A mix of one's own: its statements are those that were carried out, about the rows that it names."""
+    """A mix by the user: its statements are those that ran, on the rows that it names."""
     with tempfile.NamedTemporaryFile("w", suffix=".mix") as mix:
         mix.write(MIX)
         mix.flush()
@@ -202,7 +202,7 @@ def try_mix(tally):
 
 
 def try_refused(tally):
-    """Words and mixes that are to be refused, in one line."""
+    """Arguments and mixes that must be refused, in one line."""
     with tempfile.TemporaryDirectory() as room:
         asked = [(what, ["--parts", f"{room}/parts", *words], due) for what, words, due in BAD]
         for number, (text, due) in enumerate(MIXES):

@@ -1,6 +1,6 @@
-"""Wrong recorders: edits of recorders/, each with the levels at which its runs are to be told as wrong.
+"""Wrong recorders: edits of recorders/, each with the levels at which its runs must be reported as wrong.
 
-An edit is a file, a text that it has once, and what stands there instead.
+An edit is a file, a text that occurs in it once, and the replacement.
 """
 POSTGRES, MARIADB, RECORDING, TABLES = "postgres", "mariadb", "recording.py", "tables.py"
 READ_COMMITTED, REPEATABLE_READ, SERIALIZABLE = "read committed", "repeatable read", "serializable"

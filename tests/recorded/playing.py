@@ -1,9 +1,9 @@
-"""Plays scripts by a recorder, one after another in one process, which spares the start of Python for each.
+"""Plays scripts with a recorder, one after another in one process, to avoid starting Python for each.
 
 usage: playing.py RECORDER LEVEL
 
-Each line of standard input is a script as JSON. Each of standard output is the history, or null, and the lines of the
-log, of which the last says why there is no history.
+Each line of standard input is a script as JSON. Each line of standard output is the history, or null, and the lines of the
+log; without a history, the last line says why.
 """
 import json
 import os

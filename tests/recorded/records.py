@@ -1,4 +1,4 @@
-"""Records of scripts: what a recorder makes of them at a level, what is reported of it, and what the level promises."""
+"""Records of scripts: the recording of a script at a level, the report on it, and what the level promises."""
 import json
 import os
 import re
@@ -11,7 +11,7 @@ from recorded.due_mariadb import READ_UNCOMMITTED, SNAPSHOTS
 from recorded.mutations import READ_COMMITTED, REPEATABLE_READ, SERIALIZABLE
 
 AT_ONCE, SECONDS = 8, 300
-# What a report says where the level is at least as good.
+# The lines of a report if the level is at least as good.
 MET = {
     "PL-1": [("G0", "absent")],
     "PL-2": [(name, "absent") for name in ("G0", "G1a", "G1b", "G1c")],
@@ -33,7 +33,7 @@ PROMISES = {
 
 
 class Recorder:
-    """A recorder at a level, and the environment in which it finds its server. It takes the standard library alone."""
+    """A recorder at a level, and the environment in which it finds its server. It needs only the standard library."""
 
     def __init__(self, path, level, environment=None):
         self.name, self.path, self.level, self.environment = os.path.basename(path), path, level, environment
@@ -46,7 +46,7 @@ class Recorder:
         return run([*self.words, *words], text.encode(), SECONDS, env=self.environment)
 
     def plays(self, texts):
-        """What comes of scripts that are played one after another: the history or None, and the lines of the log."""
+        """The results of scripts that are played one after another: the history or None, and the lines of the log."""
         words = [sys.executable, "-S", f"{TOP}/tests/recorded/playing.py", self.path, self.level]
         lines = "".join(f"{json.dumps(text)}\n" for text in texts)
         ended = run(words, lines.encode(), SECONDS, env=self.environment)
@@ -55,13 +55,13 @@ class Recorder:
         return [json.loads(line) for line in ended.stdout.splitlines()]
 
     def log(self, text):
-        """How a run ended, and the lines of its log."""
+        """The end of a run, and the lines of its log."""
         ended = self.run(text, "--log")
         return ended, ended.stderr.decode().splitlines()
 
 
 def reports(program, texts):
-    """What `batch` prints of some histories: for each its lines by what they tell."""
+    """The output of `batch` for some histories: the lines of each by their names."""
     with tempfile.TemporaryDirectory() as room:
         names = [f"{room}/{place}" for place in range(len(texts))]
         for name, text in zip(names, texts):
@@ -73,7 +73,7 @@ def reports(program, texts):
 
 
 def broken(recorder, report):
-    """What is wrong with a record, if something is: it is refused or unsound, or breaks what its level promises."""
+    """The error in a record, if any: it is refused or unsound, or breaks what its level promises."""
     if "level" not in report:
         return f"refused: {report}"
     if report["level"] == "unsound":
@@ -89,7 +89,7 @@ def is_remark(line):
 
 
 def played(program, recorder, texts, at_once=AT_ONCE):
-    """Plays scripts, and gives for each its text, the lines of its log and its report, or None where there is none."""
+    """Plays scripts, and yields for each its text, the lines of its log and its report, or None if there is none."""
     shares = [texts[first::at_once] for first in range(min(at_once, len(texts)))]
     with ThreadPoolExecutor(at_once) as pool:
         ended = list(pool.map(recorder.plays, shares))

@@ -1,4 +1,5 @@
--- What `matrix` says.
+-- The output of `matrix`: the text of a matrix whose cells are judgements of the plays of the ten cases, or the line
+-- of a play that was refused.
 use Rattle.std.specs.Prelude.{◌≡◌, ◌≢◌, ◌⊎◌, ℕ, List}
 use Rattle.lab_engine.specs.declared.event.Level.{Level}
 use Rattle.lab_session.specs.Play.{given_lines, IsScriptedFault}

@@ -1,4 +1,4 @@
--- What is said of the parts of a run.
+-- The parts of a run, the summary of all of them, and whether the summary meets a requirement.
 use Rattle.std.specs.Prelude.{ℕ, nat_le, Bool, true, false, Option, List, ◌++◌, fold, codes}
 use Rattle.lab_chain.specs.Levels.{levels_met, level_name}
 use Rattle.lab_chain.specs.Parts.{part_summary, IsOutcome}

@@ -1,4 +1,5 @@
--- What is so of a run in parts of which this is said.
+-- What the summary of a run in parts implies for the whole run: which runs its parts' orders and timestamps give, and
+-- which cycles it doesn't have.
 use Rattle.std.specs.Prelude.{◌≡◌, ◌↔◌, ℕ, List, ◌∷◌, map}
 use Rattle.std.specs.List.{All, AllZip}
 use Rattle.lab_history.specs.History.{History}

@@ -1,4 +1,4 @@
--- The text about a run in parts: how many it has, and ten lines.
+-- The text of the report on a run in parts: the number of parts, then ten lines.
 use Rattle.std.specs.Prelude.{ℕ, ◌++◌, List, codes}
 use Rattle.std.specs.Fmt.{decimal}
 use Rattle.lab_printing.specs.Printed.{newline}

@@ -1,4 +1,6 @@
--- The JSON value of what is said of a run in parts. The keys of each object stand in the order of their bytes.
+-- The JSON value of the report on a run in parts. The keys of each object are in the order of their bytes.
+--
+-- Origin: JSON: RFC 8259; the keys are this project's profile.
 use Rattle.std.specs.Prelude.{◌≡◌, ℕ, ◌++◌, cond, ◌⊎◌, Option, Some, None, IsSome, List, [], ◌∷◌, codes}
 use Rattle.std.specs.Str.{is_utf8}
 use Rattle.serde_json.specs.Data.{Data, null, string}

@@ -1,4 +1,4 @@
--- Where two tables say otherwise.
+-- The first row at which two tables differ.
 use Rattle.std.specs.Prelude.{◌≡◌, ◌≢◌, Bool, true, ◌&&◌, ℤ, cond, Option, Some, None, List, [], ◌∷◌}
 use Rattle.std.specs.FinMap as map
 use Rattle.std.specs.Ordering.{int_eq}

@@ -1,4 +1,4 @@
--- Of two values the one that weighs more.
+-- The heavier of two findings, the first where both weigh as much.
 use Rattle.std.specs.Prelude.{ℕ, nat_lt, cond}
 
 -- the one that weighs more; the first where they weigh the same

@@ -1,4 +1,7 @@
--- The level of a run in parts.
+-- The isolation level of a part, the lower of two levels, their printed names, and how many of PL-1, PL-2, PL-2.99
+-- and PL-3 a level meets.
+--
+-- Origin: names of levels: Adya, Liskov and O'Neil, "Generalized Isolation Level Definitions" (2000).
 use Rattle.std.specs.Prelude.{ℕ, List, codes}
 use Rattle.lab_judge.specs.ReportText.{grade_name}
 use Rattle.lab_judge.specs.declared.report.Grade.{Grade}

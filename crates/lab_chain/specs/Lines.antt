@@ -1,4 +1,4 @@
--- What one line says of a run in parts.
+-- One line of the report on a run in parts, and how the lines of two pieces are joined.
 use Rattle.std.specs.Prelude.{ℕ}
 use Rattle.lab_chain.specs.Heavier.{heavier}
 use Rattle.lab_chain.specs.declared.line.Line.{Line}

@@ -1,4 +1,4 @@
--- What is said of one part of a run.
+-- The summary of one part, and the results of a part: a judged history, a faulty file, or a file that can't be read.
 use Rattle.std.specs.Prelude.{◌≡◌, ℕ, drop, Option, Some, None, List}
 use Rattle.lab_table.specs.Table.{Table}
 use Rattle.lab_history.specs.History.{History}

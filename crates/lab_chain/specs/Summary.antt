@@ -1,4 +1,4 @@
--- What is said of a run in parts, and of consecutive pieces of one.
+-- The summary of a run in parts, and how the summaries of two consecutive pieces are joined at the seam between them.
 use Rattle.std.specs.Prelude.{ℕ, ◌+◌, ◌-◌, ◌^◌, min, ◌++◌, Option, Some, None, List, [], codes}
 use Rattle.lab_table.specs.Row.{Row}
 use Rattle.lab_table.specs.Table.{Table}

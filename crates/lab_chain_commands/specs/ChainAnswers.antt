@@ -1,4 +1,5 @@
--- What `chain` writes of the parts of a run.
+-- The output of `chain`: the text of each part in order, then the report on the run; the status is the greatest that
+-- a part or the run calls for.
 use Rattle.std.specs.Prelude.{◌≡◌, ℕ, max, cond, Option, Some, None, List, [], ◌++◌, map, fold}
 use Rattle.std.specs.Io.KnownBytes.{Appends}
 use Rattle.std.specs.List.{All, flat_map}

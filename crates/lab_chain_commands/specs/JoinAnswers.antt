@@ -1,4 +1,5 @@
--- What `chain --join` writes of what was said of consecutive pieces of a run.
+-- The output of `chain --join`: the report on the run whose consecutive pieces were summarized in the given files, or
+-- which files hold no summary.
 use Rattle.std.specs.Prelude.{◌≡◌, ℕ, max, Option, Some, None, List, [], ◌∷◌, ◌++◌, map, fold, codes}
 use Rattle.std.specs.List.{All, flat_map}
 use Rattle.serde_json.specs.Data.{Data, string}

@@ -1,4 +1,4 @@
--- Parts of a run as the code has them.
+-- The parts of a run as the code holds them.
 use Rattle.std.specs.Prelude.{◌≡◌, ℕ, List}
 use Rattle.lab_chain.specs.Chain.{Part, summary_of}
 use Rattle.lab_chain_commands.specs.ChainAnswers.{AreParts, parts_text, parts_status}

@@ -84,6 +84,14 @@ fn outcome_in(alloc: Global, read: &Inputs) -> Result<Outcome, NoMemory>
     }
 }
 
+/// The fault that a part is refused with, if it is.
+fn fault_of(outcome: &Outcome) -> Option<FileFault> {
+    match outcome {
+        Outcome::Refused(fault) => Some(*fault),
+        _ => None,
+    }
+}
+
 /// Judges a part. NoMemory where an allocation was refused.
 fn judge_part<'i, 'n>(alloc: Global, input: &'i Input<'n>) -> Result<JudgedPart<'i>, NoMemory>
 where
@@ -92,9 +100,14 @@ where
     ensures judged { IfOk result (λ part. IsPart (part_of part)) }
 {
     let outcome = outcome_in(alloc, &input.read)?;
-    let is_refused = matches!(outcome, Outcome::Refused(_));
     let mut hint = Vec::new(alloc);
-    note_files(alloc, &[input.name], &input.read, &[is_refused], &mut hint);
+    note_files(
+        alloc,
+        &[input.name],
+        &input.read,
+        &[fault_of(&outcome)],
+        &mut hint,
+    );
     Ok(JudgedPart {
         name: input.name,
         outcome,

@@ -50,7 +50,7 @@ pub fn read_piece<T: Files>(
     ensures { IfOk result (λ piece. (input : Option (List ℕ)) × IsPiece input piece) }
 {
     let inputs = read_files(rt, alloc, &[name])?;
-    note_files(alloc, &[name], &inputs, &[false], hints);
+    note_files(alloc, &[name], &inputs, &[None], hints);
     let piece = piece_in(alloc, &inputs)?;
     note_piece(alloc, name, &inputs, &piece, hints);
     Ok(piece)

@@ -1,4 +1,4 @@
--- The subcommands of the program.
+-- The names of the program's subcommands, in the order in which the help lists them.
 use Rattle.std.specs.Prelude.{◌≡◌, ℕ, List, [], ◌∷◌, codes}
 use Rattle.clap.specs.Words.{shape_of, subcommand_names}
 use Rattle.clap.specs.declared.builder.command.Command.{Command}

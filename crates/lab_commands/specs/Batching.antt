@@ -1,4 +1,5 @@
--- What `batch` says of files.
+-- The output of `batch`: for each file, in the order of the names, a line with its name and then its report or its
+-- fault; the status is the greatest that a file calls for.
 use Rattle.std.specs.Prelude.{◌≡◌, ◌≤◌, ◌⊎◌, ℕ, ◌++◌, List, [], map, Bool, true, false, Option, Some, None, Result, Ok, Err, codes}
 use Rattle.std.specs.List.{All, Contains, flat_map}
 use Rattle.lab_printing.specs.Printed.{newline}

@@ -1,4 +1,4 @@
--- The committed rows, event by event.
+-- The committed rows after each event of a log, and a log printed with them.
 use Rattle.std.specs.Prelude.{ℕ, ◌-◌, cond, Option, Some, None, unwrap_or, List, [], ◌∷◌, ◌++◌, slice_set, replicate, codes}
 use Rattle.lab_table.specs.Table.{Table}
 use Rattle.lab_table.specs.Sessions.{of_session}

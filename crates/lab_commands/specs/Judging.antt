@@ -1,4 +1,4 @@
--- What `judge` says of an input.
+-- The output of `judge`: the report of a judgement of the history in the input, or the first fault of the file.
 use Rattle.std.specs.Prelude.{◌≡◌, ℕ, None, List}
 use Rattle.lab_history.specs.History.{History}
 use Rattle.lab_judge.specs.Judgement.{IsExactJudgement}

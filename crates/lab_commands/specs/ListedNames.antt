@@ -1,4 +1,4 @@
--- The names of files in a list.
+-- The file names in a list, separated by newlines or NULs.
 use Rattle.std.specs.Prelude.{ℕ, Bool, true, false, not, List, length, ◌==◌, filter}
 use Rattle.std.specs.List.{slice_split}
 

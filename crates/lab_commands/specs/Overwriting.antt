@@ -1,4 +1,4 @@
--- Rows that are overwritten in place.
+-- Rows put into a table one after another, in place.
 use Rattle.std.specs.Prelude.{List, [], ◌∷◌}
 use Rattle.lab_table.specs.Row.{Row}
 use Rattle.lab_table.specs.Table.{State, Table, put}

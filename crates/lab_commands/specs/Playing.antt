@@ -1,4 +1,4 @@
--- What `run` says of an input.
+-- The output of `run`: the log, committed rows and report of a play of the script in the input, or why there is none.
 use Rattle.std.specs.Prelude.{◌≡◌, ◌≢◌, ℕ, ◌<◌, ◌≤◌, ◌⊎◌, Ok, Option, Some, None, List, [], ◌++◌, length, Bool, true, false}
 use Rattle.serde_json.specs.Written.{compact_text}
 use Rattle.lab_script.specs.declared.script.Script.{Script}

@@ -1,4 +1,4 @@
--- What is said of as much of a script as is read is said of all of it.
+-- Lemmas: a fact about the part of a script that was read holds for the whole script.
 use Rattle.std.proofs.Common.{inl, inr, ℕ, List, arith}
 use Rattle.lab_statement.specs.declared.fault.ScriptFault.TheVariants as fault
 use Rattle.lab_script.specs.declared.script.Script.{Script}

@@ -1,4 +1,4 @@
--- What is said of an input that is no script, or whose play was refused.
+-- The output for an input that is no script, and for a play that was refused, in lines or in JSON.
 use Rattle.std.specs.Prelude.{◌≡◌, ℕ, List, [], ◌∷◌, codes}
 use Rattle.serde_json.specs.Data.{Data, string}
 use Rattle.lab_statement.specs.Fault.{fault_text, kind_name}

@@ -1,4 +1,4 @@
--- What `serial` says of an input.
+-- The output of `serial`: the transcript of the script in the input, or the line of a fault of it.
 use Rattle.std.specs.Prelude.{◌≡◌, ℕ, ◌⊎◌, List}
 use Rattle.lab_script.specs.declared.script.Script.{Script}
 use Rattle.lab_script.specs.Script.{Spells}

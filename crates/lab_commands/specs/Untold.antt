@@ -1,4 +1,4 @@
--- What keeps a play from being told is among the faults that it may be refused for.
+-- A lemma: each reason why a play can't be reported is one of the faults that a play may be refused for.
 use Rattle.std.proofs.Common.{inr}
 use Rattle.lab_script.specs.Limits.{ScriptPrints}
 use Rattle.lab_script.specs.declared.script.Script.{Script}

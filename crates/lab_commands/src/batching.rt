@@ -42,13 +42,7 @@ fn judge_window<T: Files + Threads + Sync>(
     let answer = batch_answer(rt, alloc, names, &inputs, wanted)?;
     judged.text.extend_from_slice(&answer.text)?;
     judged.status = judged.status.max(answer.status);
-    note_files(
-        alloc,
-        names,
-        &inputs,
-        &answer.are_refused,
-        &mut judged.hints,
-    );
+    note_files(alloc, names, &inputs, &answer.faults, &mut judged.hints);
     judged.shortfalls.extend_from_slice(&answer.shortfalls)
 }
 

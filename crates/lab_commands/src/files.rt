@@ -3,6 +3,7 @@
 ghost use Rattle.std.specs.Prelude.{◌≡◌, length, IfOk};
 
 use lab_hints::{note_named_file, note_unopened, note_unread};
+use lab_history::FileFault;
 use lab_streams::{RunFault, read_input};
 use lab_table::NoMemory;
 use std::alloc::{AllocError, Global};
@@ -72,21 +73,22 @@ pub fn read_files<T: Files>(rt: &T, alloc: Global, names: &[&str]) -> Result<Inp
     })
 }
 
-/// Writes a hint on each file that isn't read, or is refused, behind its name. What fails is let go.
+/// Writes the name of each file that isn't read, or that is refused with a fault, and a hint after it. `faults` has one
+/// entry for each file. Errors of `notes` are ignored.
 pub fn note_files<N: Write>(
     alloc: Global,
     names: &[&str],
     inputs: &Inputs,
-    are_refused: &[bool],
+    faults: &[Option<FileFault>],
     notes: &mut N,
 ) {
     let files = inputs.files.iter().zip(inputs.missing.iter());
-    for ((name, (file, missing)), is_refused) in names.iter().zip(files).zip(are_refused.iter()) {
-        match missing {
-            Some(Missing::Unopened(error)) => note_unopened(alloc, name, error, notes),
-            Some(Missing::Unread) => note_unread(alloc, name, notes),
-            None if *is_refused => note_named_file(alloc, name, file, notes),
-            None => {}
+    for ((name, (file, missing)), fault) in names.iter().zip(files).zip(faults.iter()) {
+        match (missing, fault) {
+            (Some(Missing::Unopened(error)), _) => note_unopened(alloc, name, error, notes),
+            (Some(Missing::Unread), _) => note_unread(alloc, name, notes),
+            (None, Some(fault)) => note_named_file(alloc, name, file, fault, notes),
+            (None, None) => {}
         }
     }
 }

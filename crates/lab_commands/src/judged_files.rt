@@ -69,13 +69,16 @@ fn status_of(wanted: Wanted, is_read: bool, answer: &Result<Report, FileFault>) 
     }
 }
 
-/// Which of some files are refused. NoMemory where an allocation was refused.
-fn refused(alloc: Global, answers: &[Result<Report, FileFault>]) -> Result<Vec<bool>, NoMemory> {
-    let mut are_refused = Vec::with_capacity(alloc, answers.len())?;
+/// For each file the fault that it is refused with, if it is.
+fn faults(
+    alloc: Global,
+    answers: &[Result<Report, FileFault>],
+) -> Result<Vec<Option<FileFault>>, NoMemory> {
+    let mut faults = Vec::with_capacity(alloc, answers.len())?;
     for answer in answers {
-        are_refused.push(answer.is_err())?;
+        faults.push(answer.as_ref().err().copied())?;
     }
-    Ok(are_refused)
+    Ok(faults)
 }
 
 /// A line for each file whose report doesn't meet what is required. NoMemory where an allocation was refused.
@@ -95,13 +98,13 @@ fn shortfalls(
     Ok(lines)
 }
 
-/// What there is to say of files, the greatest exit status that one of them calls for, which are refused, and whose reports
-/// don't meet what is required.
+/// What there is to say of files, the greatest exit status that one of them calls for, the faults that they are refused
+/// with, and whose reports don't meet what is required.
 #[derive(Drop)]
 pub struct BatchAnswer {
     pub text: Vec<u8>,
     pub status: u8,
-    pub(crate) are_refused: Vec<bool>,
+    pub(crate) faults: Vec<Option<FileFault>>,
     pub(crate) shortfalls: Vec<u8>,
 }
 
@@ -121,7 +124,7 @@ pub fn batch_answer<T: Threads + Sync>(
         (map (λ p. input_of p.0 p.1.items) (zip inputs.now.are_read.items inputs.now.files.items)) answer.text.items answer.status) }
 {
     let answers = judge_all(rt, alloc, &inputs.files)?;
-    let are_refused = refused(alloc, &answers)?;
+    let faults = faults(alloc, &answers)?;
     let shortfalls = shortfalls(alloc, names, wanted, &answers)?;
     let mut text = Vec::new(alloc);
     let mut greatest = 0u8;
@@ -132,7 +135,7 @@ pub fn batch_answer<T: Threads + Sync>(
     Ok(BatchAnswer {
         text,
         status: greatest,
-        are_refused,
+        faults,
         shortfalls,
     })
 }

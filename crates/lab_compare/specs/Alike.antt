@@ -1,4 +1,5 @@
--- What engines tell of one thing, side by side: once where they are alike, else once for each thing told.
+-- What several engines print on one topic, side by side: once where all texts are equal, else each different text
+-- once, with its engines.
 use Rattle.std.specs.Prelude.{◌≡◌, ℕ, ℤ, ◌-◌, ◌==◌, ◌&&◌, Bool, false, cond, Option, Some, None, find, List, [], ◌∷◌, ◌++◌, length, flat_map, codes}
 use Rattle.std.specs.Cmp.Lexicographic.{pointwise}
 use Rattle.std.specs.List.{list_all}

@@ -1,4 +1,4 @@
--- What `compare` says of an input.
+-- The output of `compare`: the comparison of one play for each level asked for, or the line of the first fault.
 use Rattle.std.specs.Prelude.{◌≡◌, ◌≢◌, ◌⊎◌, ℕ, ⊤, List, [], ◌∷◌}
 use Rattle.lab_script.specs.Script.{Spells}
 use Rattle.lab_script.specs.declared.script.Script.{Script}

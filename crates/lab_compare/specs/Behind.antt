@@ -1,4 +1,4 @@
--- The committed rows behind the lines of a script.
+-- The committed rows after the line of a script.
 use Rattle.std.specs.Prelude.{◌≡◌, ℕ, ℤ, ⊤, ◌-◌, Option, Some, None, List, [], length, take, slice_get}
 use Rattle.std.specs.FinMap.{entries}
 use Rattle.lab_table.specs.Row.{Row}

@@ -1,4 +1,4 @@
--- What each line of a script came to in a play.
+-- The results of each line of a script in one play.
 use Rattle.std.specs.Prelude.{ℕ, ◌+◌, ◌-◌, ◌==◌, Bool, false, true, not, ◌&&◌, cond, Option, Some, None, unwrap_or, List, [], ◌∷◌, ◌++◌, length, drop, codes, if◌then◌else◌}
 use Rattle.std.specs.List.{prefix_len}
 use Rattle.lab_table.specs.Sessions.{of_session}

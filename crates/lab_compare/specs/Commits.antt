@@ -1,4 +1,4 @@
--- What the commits of a play install.
+-- The writes that the commits of a play install, in order.
 use Rattle.std.specs.Prelude.{ℕ, ◌+◌, ◌-◌, Option, Some, None, List, [], ◌∷◌, ◌++◌, length, replicate, slice_set}
 use Rattle.std.specs.FinMap.{entries}
 use Rattle.lab_table.specs.Row.{Row}

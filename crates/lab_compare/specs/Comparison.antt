@@ -1,4 +1,4 @@
--- The text of a comparison.
+-- The text of a comparison: the results line by line, the end, and the reports side by side.
 use Rattle.std.specs.Prelude.{ℕ, ◌+◌, ◌==◌, Bool, cond, Option, Some, None, List, [], ◌∷◌, ◌++◌, length, map, count_by, codes}
 use Rattle.std.specs.List.{list_any}
 use Rattle.std.specs.Fmt.{decimal}

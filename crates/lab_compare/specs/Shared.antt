@@ -1,4 +1,4 @@
--- What all plays have installed.
+-- What all plays have in common: the rows of the setup, and the first installed writes.
 use Rattle.std.specs.Prelude.{◌≡◌, ℕ, ⊤, Option, Some, None, List, [], ◌∷◌, take}
 use Rattle.std.specs.List.{All}
 use Rattle.lab_compare.specs.declared.side.Side.{Side}

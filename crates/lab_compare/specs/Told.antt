@@ -1,4 +1,5 @@
--- Texts of events of a log.
+-- Texts of events: a session's command, and the words before the result of a command that is retried after this
+-- event.
 use Rattle.std.specs.Prelude.{ℕ, List, ◌++◌, codes}
 use Rattle.lab_table.specs.declared.statement.Command.{Command}
 use Rattle.lab_printing.specs.Printed.{printed_command}

@@ -1,4 +1,4 @@
--- What a side tells of a topic.
+-- The text of one engine on one topic: the results of a line, the end, or an explanation.
 use Rattle.std.specs.Prelude.{ℕ, Option, Some, None, List, [], slice_get}
 use Rattle.lab_compare.specs.declared.cells.Cell.{Cell}
 use Rattle.lab_compare.specs.declared.side.Side.{Side}

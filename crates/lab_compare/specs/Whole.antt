@@ -1,4 +1,4 @@
--- What is said of as much of a script as is read is said of all of it.
+-- A lemma: a fact about the part of a script that was read holds for the whole script.
 use Rattle.std.proofs.Common.{inl, inr, ℕ, List}
 use Rattle.lab_engine.specs.declared.event.Level.{Level}
 use Rattle.lab_streams.specs.Input.{read_of}

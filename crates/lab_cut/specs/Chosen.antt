@@ -1,4 +1,4 @@
--- Rows that are chosen.
+-- Rows chosen by a test.
 use Rattle.std.specs.Prelude.{Bool, is_some}
 use Rattle.std.specs.FinMap.{get}
 use Rattle.lab_table.specs.Row.{Row}

@@ -1,4 +1,5 @@
--- A history without the operations that aren't kept.
+-- A history without the operations that a mask drops: which installers go, and with which state a row then begins and
+-- ends.
 use Rattle.std.specs.Prelude.{ℕ, ◌==◌, ◌&&◌, Bool, not, cond, nat_eq, ◌-◌, Option, Some, None, is_some, is_none, option_map, unwrap_or, option_and_then, List, [], ◌∷◌, map, filter, length, drop, slice_get}
 use Rattle.std.specs.List.{cons_option}
 use Rattle.std.specs.Option.{option_eq}

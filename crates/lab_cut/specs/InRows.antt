@@ -1,4 +1,4 @@
--- A history of which each list names some rows alone.
+-- A history whose lists are restricted to some rows.
 use Rattle.std.specs.Prelude.{Bool, List, map}
 use Rattle.std.specs.FinMap.{retain_keys}
 use Rattle.std.specs.List.{list_any}

@@ -1,4 +1,4 @@
--- Which operations of transactions are kept, and under which numbers.
+-- The operations of a transaction that a mask keeps, renumbered, and the last of them that writes a row.
 use Rattle.std.specs.Prelude.{ℕ, zero, suc, ◌+◌, ◌==◌, Bool, cond, Option, Some, None, option_and_then, List, [], ◌∷◌, length, drop, slice_get}
 use Rattle.std.specs.BTreeMap.{get}
 use Rattle.std.specs.FinMap as map

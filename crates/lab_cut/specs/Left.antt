@@ -1,4 +1,5 @@
--- What masks leave of lists. A mask says of each member in turn whether it is kept; those beyond it are.
+-- What a mask leaves of a list. A mask says of each member in turn whether it is kept; members beyond its end are
+-- kept.
 use Rattle.std.specs.Prelude.{ℕ, Bool, true, cond, List, [], ◌∷◌, map, length, drop}
 use Rattle.lab_table.specs.declared.statement.Statement.{Statement}
 use Rattle.lab_history.specs.declared.transaction.Txn.{Txn}

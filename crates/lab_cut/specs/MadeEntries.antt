@@ -1,4 +1,4 @@
--- Entries that are made of the entries of a list.
+-- The entries made from the entries of a list.
 use Rattle.std.specs.Prelude.{Option, Some, None, List, [], ◌∷◌}
 
 -- a key's value before other entries, if it has one

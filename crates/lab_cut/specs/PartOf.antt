@@ -1,4 +1,4 @@
--- What a part of a history is: a history whose transactions, operations and lists are the other's, with fewer of each.
+-- When a history is part of another one: its transactions, operations and lists are the other's, with fewer of each.
 use Rattle.std.specs.Prelude.{◌≡◌, ◌⊎◌, ℕ, ◌+◌, ℤ, Option, Some, List, [], ◌∷◌, Contains}
 use Rattle.std.specs.FinMap as map
 use Rattle.lab_table.specs.Row.{Row}

@@ -1,4 +1,4 @@
--- A history whose statements are recorded to have seen less.
+-- A history whose views a mask has reduced to some entries.
 use Rattle.std.specs.Prelude.{Bool, List, [], ◌∷◌, length, drop}
 use Rattle.std.specs.FinMap.{entries, from_sorted}
 use Rattle.lab_history.specs.History.{History}

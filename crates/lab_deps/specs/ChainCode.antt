@@ -1,4 +1,4 @@
--- How a row's chain is kept as a code.
+-- A code for the versions of a row.
 use Rattle.std.specs.Prelude.{◌≡◌, List, refl}
 use Rattle.std.specs.Coded.{Coded, coded×, coded_list, coded_option, coded_ℤ, code_by}
 use Rattle.lab_table.specs.Table.{State}

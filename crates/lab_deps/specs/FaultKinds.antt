@@ -1,4 +1,5 @@
--- Faults by their kinds: what is said of a kind, and a fault as its kind and its place.
+-- The kinds of faults, with the code and the name of each; a fault as its kind and its position, which is an
+-- operation and a row, or a row alone.
 use Rattle.std.specs.Prelude.{ℕ, List, codes}
 use Rattle.lab_table.specs.Row.{Row}
 use Rattle.lab_deps.specs.declared.fault.FaultParts.{FaultParts}

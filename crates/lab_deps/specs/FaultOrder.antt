@@ -1,4 +1,5 @@
--- Which fault of a history comes first.
+-- The order of faults, and which fault of a history is the first: by kind; within a kind by the transaction's
+-- position in the file, then operation, then row.
 use Rattle.std.specs.Prelude.{◌≡◌, ◌⊎◌, ℕ, suc, ◌<◌, ◌==◌, true, cond, List, [], ◌∷◌}
 use Rattle.std.specs.Ordering.{is_lt}
 use Rattle.lab_table.specs.Row.{Row, row_cmp}

@@ -1,4 +1,4 @@
--- Tests of what an operation sees that exclude several kinds of faults at once.
+-- Tests of a version that an operation sees, each of which excludes several kinds of faults at once.
 use Rattle.std.specs.Prelude.{◌≡◌, ℕ, ◌==◌, nat_lt, Bool, true, not, ◌&&◌, cond, Some, is_some}
 use Rattle.std.specs.FinMap as map
 use Rattle.lab_table.specs.Row.{Row, row_cmp}

@@ -1,4 +1,4 @@
--- The first of those of which something is so, and the least row.
+-- The first element with a property, and the least row with one.
 use Rattle.std.specs.Prelude.{◌≡◌, Bool, true, cond, Option, Some, None, List, [], ◌∷◌}
 use Rattle.std.specs.Ordering.{is_lt}
 use Rattle.std.specs.FinMap as map

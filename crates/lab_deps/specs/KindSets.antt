@@ -1,4 +1,4 @@
--- Sets of kinds of dependencies.
+-- Sets of dependency kinds: any, write, anti, anti at a listed row, and the kinds that aren't anti-dependencies.
 use Rattle.std.specs.Prelude.{Bool, true, false, not}
 use Rattle.lab_deps.specs.KindBits.{has_bit}
 use Rattle.lab_deps.specs.declared.edge.Kind.{Kind}

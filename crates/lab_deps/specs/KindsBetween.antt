@@ -1,4 +1,4 @@
--- The kinds of dependencies between the committed transactions of a history, by their nodes.
+-- The set of kinds of the dependencies from one committed transaction to another.
 use Rattle.std.specs.Prelude.{◌≡◌, ◌↔◌, ◌+◌, ℕ, Some, true, List, slice_get, Contains}
 use Rattle.lab_table.specs.Row.{Row}
 use Rattle.lab_deps.specs.KindBits.{has_bit, bits_of, edge_of, place}

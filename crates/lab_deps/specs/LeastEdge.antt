@@ -1,4 +1,4 @@
--- The least of some edges.
+-- The least dependency of some kinds between two transactions.
 use Rattle.std.specs.Prelude.{◌≡◌, ℕ, ◌&&◌, Bool, true, cond, Option, Some, None, List, Contains}
 use Rattle.std.specs.Ordering.{is_lt}
 use Rattle.lab_deps.specs.EdgeOrder.{edge_cmp}

@@ -1,4 +1,4 @@
--- Marks in cells.
+-- The marks that a search leaves in cells.
 use Rattle.std.specs.Prelude.{◌≡◌, ◌<◌, ◌+◌, ◌*◌, ℕ, List, [], ◌∷◌, length, get_or, set, take, drop, bit_or}
 
 -- cells, of which the one at a place, if there is one, gains bits

@@ -1,4 +1,4 @@
--- The committed transactions of a history by rising number, and what is known where some table has their places.
+-- The committed transactions of a history, each once, by rising number (`AreNodes`), and tables of their positions.
 use Rattle.std.specs.Prelude.{◌≡◌, ◌≢◌, ◌≤◌, ◌+◌, ◌==◌, ℕ, zero, suc, cond, Some, List, [], ◌∷◌, length, count_by, slice_get, Contains}
 use Rattle.std.specs.List.Sorted.{IsStrictlyIncreasing}
 use Rattle.lab_history.specs.History.{History}

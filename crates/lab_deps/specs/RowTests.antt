@@ -1,4 +1,4 @@
--- Whether a fault stands at a row alone, as it is tested.
+-- Tests for each fault that is at a row alone.
 use Rattle.std.specs.Prelude.{ℕ, zero, suc, ◌+◌, Bool, false, not, ◌&&◌, ◌||◌, cond, Option, None, option_and_then, unwrap_or, List, [], ◌∷◌, length, slice_get}
 use Rattle.std.specs.FinMap as map
 use Rattle.lab_table.specs.Row.{Row}

@@ -1,4 +1,4 @@
--- The dependencies that are meant, and what is known of them.
+-- Which dependencies are meant, all or the write-dependencies alone, and what is known of them.
 use Rattle.std.specs.Prelude.{◌≤◌, ℕ, List, length}
 use Rattle.std.specs.List.{flat_map, Sorted.{IsStrictlyIncreasing}}
 use Rattle.std.specs.FinMap as map

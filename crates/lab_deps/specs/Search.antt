@@ -1,4 +1,4 @@
--- What the walk over operations looks for.
+-- What the search over operations looks for, and what it has found so far.
 use Rattle.std.specs.Prelude.{◌≡◌, ◌⊎◌, ℕ, ◌-◌, ◌<◌, ◌≤◌, Bool, true, false, Option, Some, None, List, length, slice_get}
 use Rattle.std.specs.Option.{option_copied}
 use Rattle.lab_table.specs.Row.{Row}

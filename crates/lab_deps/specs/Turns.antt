@@ -1,4 +1,4 @@
--- The versions at which a row turns from one of two classes to the other, by what a statement answers.
+-- The versions at which a row turns from one of two classes to the other, by the result of a statement's test.
 use Rattle.std.specs.Prelude.{◌≡◌, ◌⊎◌, ◌≤◌, ◌+◌, ◌-◌, ◌++◌, ℕ, ℤ, Bool, false, not, cond, Option, Some, None, is_some, List, [], ◌∷◌, map, get_or, slice_get, replicate, Contains, IfSome}
 use Rattle.lab_table.specs.Row.{Row}
 use Rattle.lab_table.specs.Table.{State}

@@ -1,4 +1,4 @@
--- Between which operations the arrow of a dependency leads.
+-- The operations between which the arrow of a dependency leads, as relations.
 use Rattle.std.specs.Prelude.{◌≡◌, ℕ, suc, ◌<◌, ◌≤◌, true, Option, Some, None, List, Contains}
 use Rattle.lab_table.specs.Row.{Row}
 use Rattle.lab_history.specs.History.{History}

@@ -1,4 +1,4 @@
--- Cycles, and the most particular phenomenon that each is.
+-- The most particular phenomenon of a cycle, and the cycle that a report found for a phenomenon.
 use Rattle.std.specs.Prelude.{ℕ, ◌==◌, not, cond, List, []}
 use Rattle.lab_deps.specs.declared.edge.Edge.{Edge}
 use Rattle.lab_judge.specs.Phenomena.{count_kind, is_write, is_item_anti}

@@ -1,4 +1,4 @@
--- What is true of a transaction that is out of place among a row's installers.
+-- What is true of the transaction that is named as out of place among a row's installers.
 use Rattle.std.specs.Prelude.{◌≡◌, ℕ, ◌≤◌, ◌==◌, true, false, count_by}
 use Rattle.lab_table.specs.Row.{Row}
 use Rattle.lab_history.specs.History.{History}

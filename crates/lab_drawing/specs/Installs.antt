@@ -1,4 +1,5 @@
--- Which transaction is out of place among a row's installers.
+-- The transaction that is out of place among a row's installers: one that wrote the row and is missing, or else the
+-- first that doesn't belong where it is.
 use Rattle.std.specs.Prelude.{ℕ, ◌+◌, Bool, ◌&&◌, cond, Option, Some, None, List, [], ◌∷◌, ◌++◌, codes}
 use Rattle.std.specs.Option.{option_or}
 use Rattle.std.specs.Fmt.{decimal}

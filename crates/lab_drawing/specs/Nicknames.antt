@@ -1,9 +1,11 @@
--- Nicknames of cycles: each is for cycles of a form, which the lists of their dependencies, and the history, have or haven't.
+-- Nicknames of cycles: lost update, read skew, write skew, read-only anomaly and phantom. Each is for cycles of one
+-- form, decided by the lists of the cycle's dependencies and by the history.
 --
--- Lost update, read skew and write skew are those of Berenson et al., A Critique of ANSI SQL Isolation Levels (1995); the
--- read-only anomaly is that of Fekete, O'Neil and O'Neil, A Read-Only Transaction Anomaly Under Snapshot Isolation (2004);
--- phantoms are those of Eswaran et al., The Notions of Consistency and Predicate Locks in a Database System (1976), and of
--- Adya, Weak Consistency (1999).
+-- Origin: lost update, read skew, write skew: Berenson and others, "A Critique of ANSI SQL Isolation Levels" (1995);
+-- read-only anomaly: Fekete, O'Neil and O'Neil, "A Read-Only Transaction Anomaly Under Snapshot Isolation" (2004);
+-- phantom: Eswaran, Gray, Lorie and Traiger, "The Notions of Consistency and Predicate Locks in a Database System"
+-- (1976), and Adya, "Weak Consistency: A Generalized Theory and Optimistic Implementations for Distributed
+-- Transactions" (1999).
 use Rattle.std.specs.Prelude.{◌≡◌, ◌≢◌, ◌⊎◌, ℕ, ◌==◌, Bool, true, false, ◌&&◌, ◌||◌, not, List, [], ◌∷◌, ◌++◌, length, filter, flat_map, codes}
 use Rattle.std.specs.List.{list_any, list_all, Any, All}
 use Rattle.std.specs.FinMap as map

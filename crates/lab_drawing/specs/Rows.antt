@@ -1,4 +1,4 @@
--- The rows of a cycle, and whether a row is among some.
+-- The rows named by the dependencies of a cycle.
 use Rattle.std.specs.Prelude.{Bool, List, map, filter}
 use Rattle.std.specs.List.{list_any}
 use Rattle.std.specs.FinMap as finite

@@ -1,4 +1,5 @@
--- The drawing of a verdict or of a finding.
+-- What is drawn for a verdict or a finding: columns, arrows, a marked operation, a line, a note, a title, narrow
+-- columns, and the rows whose values are shown.
 use Rattle.std.specs.Prelude.{ℕ, ◌==◌, Bool, true, false, not, cond, Option, Some, None, option_map, is_some, List, [], ◌∷◌, ◌++◌, map, filter, flat_map, codes}
 use Rattle.std.specs.List.{list_any}
 use Rattle.std.specs.Fmt.{decimal}

@@ -1,4 +1,4 @@
--- Texts that stand in a drawing's words, and in what is written of it.
+-- Texts with markup escaped; words for a state and for the outcome of a transaction.
 use Rattle.std.specs.Prelude.{ℕ, ◌==◌, Bool, not, ◌&&◌, cond, Option, Some, None, List, [], ◌∷◌, flat_map, codes}
 use Rattle.std.specs.Fmt.{signed_decimal}
 use Rattle.lab_table.specs.Table.{State}

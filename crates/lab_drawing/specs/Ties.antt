@@ -1,4 +1,4 @@
--- What ties two operations.
+-- Which arrows are dashed: those of anti-dependencies.
 use Rattle.std.specs.Prelude.{Bool, false}
 use Rattle.lab_judge.specs.Places.{is_anti}
 use Rattle.lab_drawing.specs.declared.drawing.Tie.{Tie}

@@ -1,4 +1,4 @@
--- What is true of the title of a walk.
+-- What is true of the title of a drawn cycle.
 use Rattle.std.specs.Prelude.{◌≡◌, ℕ, List, ◌++◌, codes}
 use Rattle.lab_history.specs.History.{History}
 use Rattle.lab_deps.specs.declared.edge.Edge.{Edge}

@@ -1,4 +1,6 @@
--- The titles of drawings, in words.
+-- The titles of drawings: a phenomenon with its textbook name or its cycle's nicknames, and the words for faults.
+--
+-- Origin: names of phenomena: Adya, Liskov and O'Neil, "Generalized Isolation Level Definitions" (2000).
 use Rattle.std.specs.Prelude.{ℕ, List, [], ◌∷◌, ◌++◌, flat_map, codes}
 use Rattle.std.specs.Fmt.{decimal}
 use Rattle.lab_history.specs.History.{History}

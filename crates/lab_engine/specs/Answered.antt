@@ -1,4 +1,4 @@
--- What one call of an engine answers and leaves.
+-- The result of one call of an engine, and the log after it.
 use Rattle.std.specs.Prelude.{ℕ, List}
 use Rattle.lab_table.specs.Table.{Table}
 use Rattle.lab_table.specs.declared.statement.Command.{Command}

@@ -1,4 +1,4 @@
--- A session with an active transaction, in a situation.
+-- A session with an active transaction, and what it requests.
 use Rattle.std.specs.Prelude.{◌≡◌, ◌↔◌, ℕ, Some, unwrap_or, length, IsTrue}
 use Rattle.lab_table.specs.Row.{Row}
 use Rattle.lab_engine.specs.declared.event.Level.{Level}

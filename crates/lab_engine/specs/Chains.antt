@@ -1,4 +1,4 @@
--- The versions of a row that commits installed, the newest first.
+-- The installed versions of a row, newest first.
 use Rattle.std.specs.Prelude.{ℕ, nat_lt, cond, Option, Some, None, unwrap_or, List, [], ◌∷◌, length, reverse}
 use Rattle.std.specs.Prelude as list
 use Rattle.lab_table.specs.Row.{Row}

@@ -1,4 +1,4 @@
--- Choosing sessions by what their active transactions are doing.
+-- Sessions chosen by what their active transactions are doing.
 use Rattle.std.specs.Prelude.{◌==◌, ℕ, Bool, false, not, ◌&&◌, Option, Some, None, List}
 use Rattle.std.specs.List.{list_any}
 use Rattle.lab_engine.specs.declared.session_state.RunningTxn.{RunningTxn}

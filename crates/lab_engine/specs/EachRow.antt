@@ -1,4 +1,4 @@
--- What is made of each row that is seen.
+-- A result for each row that a session sees.
 use Rattle.std.specs.Prelude.{ℤ, cond, Option, Some, None, option_map, List, [], ◌∷◌}
 use Rattle.std.specs.List.{filter_map}
 use Rattle.lab_table.specs.Row.{Row}

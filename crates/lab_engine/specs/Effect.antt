@@ -1,4 +1,4 @@
--- What a statement does to rows that are seen.
+-- The effect of a statement on the rows that a session sees.
 use Rattle.std.specs.Prelude.{◌≡◌, false, IsTrue}
 use Rattle.lab_table.specs.Row.{Row}
 use Rattle.lab_table.specs.Statement.{fails}

@@ -1,4 +1,4 @@
--- What is asked of one event.
+-- Tests of one event.
 use Rattle.std.specs.Prelude.{Bool, true, false}
 use Rattle.lab_engine.specs.declared.event.Outcome.{Outcome}
 use Rattle.lab_engine.specs.declared.event.Outcome.TheVariants.{Committed, Aborted, Refused}

@@ -1,4 +1,4 @@
--- What is gathered of a log, event by event.
+-- What is collected from a log, event by event.
 use Rattle.std.specs.Prelude.{◌≡◌, ℕ, zero, suc, ◌-◌, ◌≤◌, ◌<◌, cond, Option, Some, None, option_map, List, [], ◌∷◌, ◌++◌, ⊤}
 use Rattle.std.specs.Prelude as list
 use Rattle.lab_table.specs.Sessions.{of_session}

@@ -1,4 +1,4 @@
--- What is kept of a row.
+-- What an engine stores for one row.
 use Rattle.std.specs.Prelude.{◌≡◌, ◌≤◌, ℕ, ◌+◌, Option, None, is_some, unwrap_or, List, length, count_by}
 use Rattle.std.specs.Coded.{Coded, coded×, coded_list, coded_ℕ, coded_option, code_by}
 use Rattle.std.proofs.Common.{refl}

@@ -1,4 +1,4 @@
--- What is kept of the commits of a log: the rows that each installed.
+-- What an engine stores for the commits of a log: the rows that each one installed.
 use Rattle.std.specs.Prelude.{◌≡◌, ◌==◌, ◌&&◌, ◌++◌, ℕ, nat_lt, Bool, cond, Option, Some, None, is_some, List, [], ◌∷◌, length, ⊤}
 use Rattle.std.specs.Prelude as list
 use Rattle.std.specs.List.{list_any}

@@ -1,4 +1,4 @@
--- What is kept of all rows.
+-- What an engine stores for all rows.
 use Rattle.std.specs.Prelude.{◌≡◌, ℕ, Option, Some, None, List, [], IsSome}
 use Rattle.std.specs.BTreeMap.{get}
 use Rattle.std.specs.FinMap as map

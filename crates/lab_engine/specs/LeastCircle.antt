@@ -1,4 +1,4 @@
--- Of several cycles, the one that is told.
+-- The wait-for cycle that a deadlock reports: a shortest one, and of those the least, session by session.
 use Rattle.std.specs.Prelude.{◌≡◌, ◌⊎◌, ℕ, ◌<◌, ◌≤◌, Some, List, [], ◌∷◌, length, ⊤}
 use Rattle.lab_table.specs.Table.{Table}
 use Rattle.lab_table.specs.declared.statement.Statement.{Statement}

@@ -1,4 +1,4 @@
--- Walks along the graph of who waits for whom, by their lengths.
+-- Paths in the wait-for graph, by their lengths.
 use Rattle.std.specs.Prelude.{◌≡◌, ◌<◌, ◌≤◌, ◌+◌, ℕ, List, ◌∷◌, IsTrue, ◌↔◌, get_or, length}
 use Rattle.lab_engine.specs.SessionBits.{has}
 use Rattle.lab_engine.specs.WaitsFor.{IsRound, IsWalk}

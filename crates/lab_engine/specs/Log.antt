@@ -1,4 +1,8 @@
--- What a log says of its sessions and rows. A log is read backwards, from its newest event.
+-- What a log determines about its sessions and rows: active and committed transactions, versions, and what a
+-- transaction sees. A log is read backwards, from its newest event.
+--
+-- Origin: two-phase locking and versions: Bernstein, Hadzilacos and Goodman, "Concurrency Control and Recovery in
+-- Database Systems" (1987); the log is this project's profile.
 use Rattle.std.specs.Option.{option_or}
 use Rattle.std.specs.Prelude.{ℕ, ◌+◌, ◌==◌, Bool, true, false, ◌||◌, cond, Option, Some, None, option_map, is_some, unwrap_or, List, [], ◌∷◌, length, filter, reverse}
 use Rattle.std.specs.Prelude as list

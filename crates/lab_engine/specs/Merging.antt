@@ -1,4 +1,4 @@
--- Sorted lists of rows with their versions.
+-- Merging of sorted lists of rows with their versions.
 use Rattle.std.specs.Prelude.{cond, ℤ, Option, Some, None, List, [], ◌∷◌, ◌++◌, take, drop}
 use Rattle.std.specs.List.{prefix_len}
 use Rattle.lab_table.specs.Row.{Row, row_test}

@@ -1,4 +1,4 @@
--- Other active transactions.
+-- The other active transactions.
 use Rattle.std.specs.Prelude.{◌≡◌, ◌≢◌, ℕ, Some}
 use Rattle.lab_engine.specs.Log.{Past, Txn, active}
 

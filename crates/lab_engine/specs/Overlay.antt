@@ -1,4 +1,4 @@
--- What a session sees of the rows that transactions have written, over those of the setup.
+-- The rows that a session sees: rows that transactions have written, over the rows of the setup.
 use Rattle.std.specs.Prelude.{◌≡◌, T, ℕ, ℤ, Option, Some, option_and_then, List, map}
 use Rattle.std.specs.Option.{option_or}
 use Rattle.std.specs.FinMap.{is_sorted, find}

@@ -1,4 +1,4 @@
--- The history that a log tells, the calls of a session, and logs that follow a script.
+-- The history of a log, the calls of each session in it, which sessions may retry, and logs that follow a script.
 use Rattle.std.specs.Prelude.{◌≡◌, ◌≢◌, ℕ, zero, suc, ◌+◌, ◌==◌, ◌<◌, nat_lt, Bool, true, false, ◌&&◌, ◌||◌, cond, Option, Some, None, is_some, is_none, IsSome, List, [], ◌∷◌, ◌++◌, ◌⊎◌, filter, count_by, ⊤}
 use Rattle.std.specs.Prelude as list
 use Rattle.std.specs.List.{list_any}

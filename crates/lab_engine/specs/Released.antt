@@ -1,4 +1,4 @@
--- When a waiting session may go on.
+-- When a waiting session may continue.
 use Rattle.std.specs.Prelude.{◌≡◌, ℕ, false, List, ◌⊎◌}
 use Rattle.lab_engine.specs.WaitsFor.{waits_for, IsRound}
 

@@ -1,5 +1,10 @@
--- The rules of each level, as a table of flags: what a transaction sees, which conflicts make a statement wait, and which
--- make a commit be refused.
+-- The rules of each level as a table of six flags: what a transaction sees, which conflicts make a statement wait,
+-- and which make a commit be refused.
+--
+-- Origin: locking: strict two-phase locking of rows and predicates, Eswaran, Gray, Lorie and Traiger, "The Notions of
+-- Consistency and Predicate Locks in a Database System" (1976); snapshot: first committer wins, Berenson and others,
+-- "A Critique of ANSI SQL Isolation Levels" (1995); optimistic: Kung and Robinson, "On Optimistic Methods for
+-- Concurrency Control" (1981).
 use Rattle.std.specs.Prelude.{Bool, true, false, ◌&&◌, ◌||◌, ⊤}
 use Rattle.lab_engine.specs.declared.event.Level.{Level}
 use Rattle.lab_engine.specs.declared.event.Level.TheVariants.{Locking, Snapshot, Optimistic, Committed as ReadCommitted}

@@ -1,4 +1,4 @@
--- Sets of sessions, which a word keeps.
+-- Sets of sessions as the bits of a word.
 use Rattle.std.specs.Prelude.{◌≤◌, ◌==◌, ℕ, Bool, IsTrue}
 use Rattle.std.specs.Int.{bit_at}
 

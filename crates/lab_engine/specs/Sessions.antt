@@ -1,4 +1,4 @@
--- Which numbers are sessions'.
+-- The numbers of sessions.
 use Rattle.std.specs.Prelude.{ℕ, ◌==◌, Bool}
 use Rattle.std.specs.List.{list_any}
 pub use Rattle.lab_table.specs.Sessions.{all_sessions}

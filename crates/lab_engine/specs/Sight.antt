@@ -1,4 +1,4 @@
--- The version of a row from the start.
+-- A version of a row that has been in its state from the start.
 use Rattle.lab_table.specs.Table.{State}
 pub use Rattle.lab_table.specs.Running.{comes_after}
 use Rattle.lab_history.specs.declared.operation.VersionName.TheVariants.{Initial}

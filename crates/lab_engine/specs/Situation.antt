@@ -1,4 +1,4 @@
--- What a situation says of a log, read from its newest event.
+-- What an engine stores about a log, updated event by event.
 use Rattle.std.specs.Prelude.{◌≡◌, ◌==◌, ◌+◌, ◌≤◌, ◌<◌, ℕ, Bool, true, cond, Option, Some, None, option_and_then, is_some, List, [], ◌∷◌, length, reverse, IsSome, Contains, ⊤}
 use Rattle.std.specs.Prelude as list
 use Rattle.std.specs.Vec.{vec_capacity}

@@ -1,4 +1,4 @@
--- The least of a transaction's rows that others have installed since its begin.
+-- The least of a transaction's rows that another transaction has installed since its begin.
 use Rattle.std.specs.Prelude.{◌≡◌, ℕ, Bool, true, Option, Some, None, List, IsTrue}
 use Rattle.std.specs.List.{list_any}
 use Rattle.std.specs.Ordering.{is_lt}

@@ -1,4 +1,4 @@
--- Who waits for whom, as a graph: for each session, by rising number, the set of those that it waits for.
+-- The wait-for graph: for each session, by rising number, the set of sessions that it waits for.
 use Rattle.std.specs.Prelude.{◌≡◌, ℕ, Bool, ◌&&◌, Some, List, [], ◌∷◌, Contains, IsTrue, ◌↔◌, unwrap_or}
 use Rattle.std.specs.List.Sorted.{IsStrictlyIncreasing}
 use Rattle.lab_table.specs.Sessions.{of_session}

@@ -1,4 +1,4 @@
--- The cells of an operation: what it saw, listed and wrote.
+-- The table cells of an operation: what it saw, listed and wrote.
 use Rattle.std.specs.Prelude.{ℕ, ℤ, ◌==◌, nat_le, min, Bool, cond, Option, Some, None, List, [], ◌++◌, length, take, drop, map, flat_map, codes}
 use Rattle.std.specs.Fmt.{decimal}
 use Rattle.std.specs.FinMap as finite

@@ -1,4 +1,6 @@
--- The versions of a row, in the order in which they were installed.
+-- The versions of a row in the order in which they were installed; those that the verdict is about are bold.
+--
+-- Origin: HTML; the rest is this project's profile.
 use Rattle.std.specs.Prelude.{ℕ, ◌+◌, ◌-◌, ◌==◌, nat_le, min, Bool, false, ◌||◌, cond, Option, Some, None, unwrap_or, List, [], ◌∷◌, ◌++◌, length, take, drop, codes}
 use Rattle.std.specs.Fmt.{decimal}
 use Rattle.lab_table.specs.Row.{Row}

@@ -1,4 +1,6 @@
--- Words of a page that are links, or have markup round them.
+-- Links and bold words of a page.
+--
+-- Origin: HTML.
 use Rattle.std.specs.Prelude.{ℕ, Bool, cond, List, [], ◌++◌, codes}
 use Rattle.std.specs.Fmt.{decimal}
 use Rattle.lab_table.specs.Row.{Row}

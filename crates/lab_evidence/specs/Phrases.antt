@@ -1,4 +1,4 @@
--- Fixed texts of a page.
+-- Fixed texts of the history's half of a page.
 use Rattle.std.specs.Prelude.{ℕ, List, codes}
 
 -- what stands above the transactions

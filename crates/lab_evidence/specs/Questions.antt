@@ -1,4 +1,4 @@
--- What is in question: an operation and a row, by the step of the verdict that is about them.
+-- The operations and rows that a verdict is about, each with its step of the verdict.
 use Rattle.std.specs.Prelude.{ℕ, ◌+◌, min, cond, Option, Some, None, List, [], ◌∷◌, ◌++◌, length, take}
 use Rattle.lab_table.specs.Row.{Row}
 use Rattle.lab_history.specs.History.{History}

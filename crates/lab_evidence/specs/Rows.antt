@@ -1,4 +1,4 @@
--- The rows: their versions, and how they are in the end.
+-- The table of rows: their versions and their final values.
 use Rattle.std.specs.Prelude.{ℕ, ℤ, ◌+◌, ◌==◌, nat_le, min, Bool, true, false, ◌||◌, cond, None, is_some, List, [], ◌∷◌, ◌++◌, length, take, flat_map, codes}
 use Rattle.std.specs.FinMap as finite
 use Rattle.lab_table.specs.Row.{Row}

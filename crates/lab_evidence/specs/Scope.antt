@@ -1,4 +1,4 @@
--- What a page shows of a history: which transactions, what is in question, and the rows of that.
+-- What a page shows of a history: its transactions, what the verdict is about, and the rows involved.
 use Rattle.std.specs.Prelude.{ℕ, ◌==◌, nat_le, min, Bool, ◌&&◌, ◌||◌, cond, Option, is_some, List, [], ◌∷◌, ◌++◌, length, take, flat_map}
 use Rattle.std.specs.List.{list_any}
 use Rattle.lab_table.specs.Row.{Row}

@@ -1,4 +1,6 @@
--- The tags of a page, with the words in them, before the texts that stand in it.
+-- The tags around the tables of a page, with the fixed words in them.
+--
+-- Origin: HTML.
 use Rattle.std.specs.Prelude.{ℕ, List, codes}
 
 -- what stands before a statement, and before the versions of a row

@@ -1,4 +1,4 @@
--- The transactions: what each statement saw, listed and wrote.
+-- The table of transactions: what each statement saw, listed and wrote.
 use Rattle.std.specs.Prelude.{ℕ, ◌+◌, ◌==◌, nat_lt, cond, Option, List, [], ◌∷◌, ◌++◌, length, flat_map, codes}
 use Rattle.std.specs.Fmt.{decimal}
 use Rattle.lab_table.specs.Row.{Row}

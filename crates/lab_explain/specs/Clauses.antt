@@ -1,4 +1,4 @@
--- What is told of an operation and of a row's version, as parts of a sentence.
+-- Parts of a sentence: an operation, and the version of a row that it saw or left.
 use Rattle.std.specs.Prelude.{ℕ, Option, Some, None, List, [], ◌++◌, codes}
 use Rattle.std.specs.Fmt.{decimal, signed_decimal}
 use Rattle.lab_table.specs.Row.{Row}

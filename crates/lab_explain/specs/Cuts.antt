@@ -1,4 +1,5 @@
--- What stands of a part that has more lines than it may.
+-- What is shown of a part that has too many lines: the first sentences that fit, each whole, and the number of lines
+-- left out.
 use Rattle.std.specs.Prelude.{◌≡◌, ℕ, ◌+◌, ◌-◌, ◌<◌, ◌≤◌, ◌⊎◌, List, [], ◌∷◌, ◌++◌}
 use Rattle.lab_explain.specs.Lines.{lines, first_lines, left_out, joined}
 

@@ -1,4 +1,4 @@
--- The sentences of a fault: what is recorded, what is due, and how a recorder most often comes to it.
+-- The sentences on a fault: what is recorded, what should be, and how a recorder most often produces it.
 use Rattle.std.specs.Prelude.{ℕ, cond, Option, Some, None, List, [], ◌∷◌, ◌++◌, flat_map, length, codes}
 use Rattle.std.specs.FinMap as map
 use Rattle.lab_table.specs.Row.{Row}

@@ -1,4 +1,4 @@
--- The sentences of what is found of a phenomenon.
+-- The sentences on a finding of a phenomenon.
 use Rattle.std.specs.Prelude.{ℕ, nat_le, cond, Option, List, [], ◌∷◌, ◌++◌, codes}
 use Rattle.std.specs.Str.{bytes_eq}
 use Rattle.lab_table.specs.Row.{Row}

@@ -1,4 +1,4 @@
--- How sentences are laid out in lines.
+-- How sentences are broken into lines.
 use Rattle.std.specs.Prelude.{ℕ, ◌+◌, ◌-◌, ◌==◌, nat_le, Bool, ◌&&◌, not, cond, Option, Some, None, List, [], ◌∷◌, ◌++◌, length, count_by, codes}
 use Rattle.std.specs.List.{prefix_len}
 use Rattle.std.specs.Fmt.{decimal}

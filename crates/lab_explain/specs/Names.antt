@@ -1,4 +1,6 @@
--- What is said of phenomena of what is seen, and of levels.
+-- The names of phenomena and levels in sentences.
+--
+-- Origin: names: Adya, Liskov and O'Neil, "Generalized Isolation Level Definitions" (2000).
 use Rattle.std.specs.Prelude.{ℕ, List, codes}
 use Rattle.lab_judge.specs.declared.report.Grade.{Grade}
 use Rattle.lab_judge.specs.declared.report.Grade.TheVariants as grade

@@ -1,4 +1,4 @@
--- Whether a fault may come of a statement that read newer rows than its transaction's snapshot, of which its view is.
+-- Whether a fault may come from a statement that read rows newer than the snapshot that its view records.
 use Rattle.std.specs.Prelude.{ℕ, Bool, true, false, ◌&&◌, not, Option, Some, None, is_none, List}
 use Rattle.std.specs.FinMap as map
 use Rattle.std.specs.List.{list_any}

@@ -1,4 +1,4 @@
--- The sentences of a snapshot verdict.
+-- The sentences on a snapshot verdict.
 use Rattle.std.specs.Prelude.{ℕ, ◌-◌, ◌<◌, ◌≤◌, ◌⊎◌, ◌&&◌, nat_lt, min, cond, Option, Some, None, List, [], ◌∷◌, ◌++◌, flat_map, length, take, Contains, codes}
 use Rattle.std.specs.List.{All}
 use Rattle.std.specs.Fmt.{decimal}

@@ -1,4 +1,4 @@
--- What stands of each part of an explanation, where parts are cut.
+-- How the parts of an explanation follow each other, each cut between sentences where it is too long.
 use Rattle.std.specs.Prelude.{◌≡◌, ℕ, ◌<◌, ◌≤◌, ◌⊎◌, Bool, true, false, List, [], ◌∷◌, ◌++◌}
 use Rattle.std.specs.Str.{bytes_eq}
 use Rattle.lab_history.specs.History.{History}

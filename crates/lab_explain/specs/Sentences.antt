@@ -1,4 +1,4 @@
--- The sentences of an explanation, before they are laid out in lines.
+-- The sentences of an explanation, before they are broken into lines.
 use Rattle.std.specs.Prelude.{ℕ, Option, Some, None, List, [], ◌++◌}
 use Rattle.lab_history.specs.History.{History}
 use Rattle.lab_deps.specs.FaultKinds.{parts_of}

@@ -1,4 +1,4 @@
--- The sentences of a walk: one for each of its dependencies, in order.
+-- The sentences on a path of dependencies: one for each, in order.
 use Rattle.std.specs.Prelude.{ℕ, Option, Some, None, List, [], ◌++◌, map, codes}
 use Rattle.lab_table.specs.Row.{Row}
 use Rattle.lab_printing.specs.Printed.{printed_row_name}

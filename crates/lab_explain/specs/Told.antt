@@ -1,4 +1,4 @@
--- Which phenomenon's cycle is told beside a serial verdict.
+-- The phenomenon whose cycle is explained beside a serial verdict.
 use Rattle.std.specs.Prelude.{ℕ, Bool, true, false, cond, Option, Some, None, List, [], ◌∷◌, find}
 use Rattle.std.specs.Str.{bytes_eq}
 use Rattle.lab_judge.specs.ReportText.{walk_text}

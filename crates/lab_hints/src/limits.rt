@@ -50,7 +50,7 @@ pub fn put_over(
         Limit::Transactions => put_count(out, items_at(json, "transactions").len(), limit),
         Limit::Operations => put_count(out, count_operations(json), limit),
         Limit::Entries => put_count(out, count_entries(json), limit),
-        Limit::Tables => put_count(out, Names::of(alloc, json)?.count_tables(), limit),
-        Limit::Ids => put_count(out, Names::of(alloc, json)?.count_rows(), limit),
+        Limit::Tables => put_count(out, Names::of(alloc, json)?.count_tables()?, limit),
+        Limit::Ids => put_count(out, Names::of(alloc, json)?.count_rows()?, limit),
     }
 }

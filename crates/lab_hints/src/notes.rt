@@ -5,7 +5,7 @@ use crate::play::{long_file_hint, rule_hint};
 use crate::script::script_hint;
 use crate::silent::{left_out_hint, silent_play_hint};
 use crate::text::put_shown;
-use lab_history_file::read_history;
+use lab_history::FileFault;
 use lab_script::parse_script;
 use lab_table::{NoMemory, Session};
 use std::alloc::Global;
@@ -69,21 +69,10 @@ pub fn note_rule<N: Write>(alloc: Global, session: Option<Session>, rule: &str, 
     put_hint(notes, rule_hint(alloc, session, rule));
 }
 
-/// A hint on a file that is none.
-fn hint_of_file(alloc: Global, input: &[u8]) -> Result<Vec<u8>, NoMemory> {
-    match read_history(alloc, input) {
-        Ok(history) => {
-            drop(history);
-            Ok(Vec::new(alloc))
-        }
-        Err(fault) => file_hint(alloc, input, &fault),
-    }
-}
-
-/// Writes what there is to say of a history file beside the answer: on its fault where it was refused.
-pub fn note_file<N: Write>(alloc: Global, input: &[u8], is_refused: bool, notes: &mut N) {
-    if is_refused {
-        put_hint(notes, hint_of_file(alloc, input));
+/// Writes a hint on the fault that a history file was refused with. Writes nothing if it wasn't refused.
+pub fn note_file<N: Write>(alloc: Global, input: &[u8], fault: Option<FileFault>, notes: &mut N) {
+    if let Some(fault) = fault {
+        put_hint(notes, file_hint(alloc, input, &fault));
     }
 }
 
@@ -98,13 +87,24 @@ fn named(alloc: Global, name: &str, hint: &[u8]) -> Result<Vec<u8>, NoMemory> {
     Ok(text)
 }
 
-fn hint_of_named_file(alloc: Global, name: &str, bytes: &[u8]) -> Result<Vec<u8>, NoMemory> {
-    named(alloc, name, &hint_of_file(alloc, bytes)?)
+fn hint_of_named_file(
+    alloc: Global,
+    name: &str,
+    bytes: &[u8],
+    fault: &FileFault,
+) -> Result<Vec<u8>, NoMemory> {
+    named(alloc, name, &file_hint(alloc, bytes, fault)?)
 }
 
-/// Writes behind a history file's name what there is to say of its fault.
-pub fn note_named_file<N: Write>(alloc: Global, name: &str, bytes: &[u8], notes: &mut N) {
-    put_hint(notes, hint_of_named_file(alloc, name, bytes));
+/// Writes a history file's name and a hint on the fault that it was refused with.
+pub fn note_named_file<N: Write>(
+    alloc: Global,
+    name: &str,
+    bytes: &[u8],
+    fault: &FileFault,
+    notes: &mut N,
+) {
+    put_hint(notes, hint_of_named_file(alloc, name, bytes, fault));
 }
 
 fn hint_of_unopened(alloc: Global, name: &str, error: &Error) -> Result<Vec<u8>, NoMemory> {

@@ -99,18 +99,20 @@ impl Names {
         Ok(())
     }
 
+    // Both sort by merging: a file's lists are rising runs, on which the unstable sort takes quadratic time.
+
     /// How many different rows there are.
-    pub fn count_rows(&mut self) -> usize {
-        self.rows.sort_unstable();
+    pub fn count_rows(&mut self) -> Result<usize, NoMemory> {
+        self.rows.sort()?;
         self.rows.dedup();
-        self.rows.len()
+        Ok(self.rows.len())
     }
 
     /// How many different tables there are.
-    pub fn count_tables(&mut self) -> usize {
-        self.tables.sort_unstable();
+    pub fn count_tables(&mut self) -> Result<usize, NoMemory> {
+        self.tables.sort()?;
         self.tables.dedup();
-        self.tables.len()
+        Ok(self.tables.len())
     }
 }
 

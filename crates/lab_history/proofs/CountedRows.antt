@@ -1,10 +1,10 @@
 -- A rising list of rows, to which the rows of lists were added, has each of them once.
 use Rattle.std.proofs.Common.{◌≡◌, ◌+◌, ◌≤◌, Bool, true, false, cond, ◌||◌, List, [], ◌∷◌, ◌++◌, length, map, suc, refl, sym, ap, subst, ◌∙◌, arith, one-add}
-use Rattle.std.specs.{List.{list_any, AllByRecursion, flat_map, Sorted.{IsStrictlySortedBy}}, Ordering.{match_ordering, ordering_reverse}, declared.cmp.Ordering.{Ordering, TheVariants.{Less, Equal, Greater}}, Set.{distinct_count, unique_keys}, BTreeSet.{insert_key}, FinMap.{entries, keys}}
+use Rattle.std.specs.{Prelude.{nat_le, option_and_then}, List.{list_any, AllByRecursion, flat_map, Sorted.{IsStrictlySortedBy}}, Ordering.{match_ordering, ordering_reverse}, declared.cmp.Ordering.{Ordering, TheVariants.{Less, Equal, Greater}}, Set.{distinct_count, unique_keys}, BTreeSet.{insert_key}, FinMap.{entries, keys}}
 use Rattle.std.proofs.lemmas.{Cmp.{eq_by_cmp_equiv}, Map.{Keys.{IsDistinct-from_sorted}, Made.{length-from_keys, length-le_from_is_member}}, Grind.{flat_map-append}}
 use Rattle.std.proofs.Math.Bool.{or_self_left, or_assoc, or-false}
 use Rattle.lab_table.specs.Row.{Row, row_cmp, row_eq, rows_total, rows_apart}
-use Rattle.lab_history.specs.{VersionName.{new_states}, declared.{operation.{State.{State}, Op.{Op}}, transaction.Txn.{Txn}}, History.{History}, HistoryRules.{operations, op_rows, named_rows, distinct_rows}, RunningCounts.{with_rows, with_op, with_ops, with_txns}}
+use Rattle.lab_history.specs.{VersionName.{new_states}, declared.{operation.{State.{State}, Op.{Op}}, transaction.Txn.{Txn}}, History.{History}, HistoryRules.{operations, op_rows, named_rows, distinct_rows}, RunningCounts.{with_rows, with_op, with_ops, with_txns, only_if, rows_within}}
 
 -- ---- one row more
 
@@ -146,6 +146,11 @@ length_rows_in h = ap length (all_added h) ∙ length_added (named_rows h)
 -- ---- what the code has for them
 
 -- the rows of states are those of the new states
-pub states_rows : (seen : List Row) (es : List (Row × State)) → with_rows seen es ≡ with_rows seen (new_states es)
-states_rows seen [] = refl
-states_rows seen (e ∷ es) = states_rows (insert_key row_cmp seen e.0) es
+pub states_within : (seen : List Row) (es : List (Row × State)) → rows_within seen es ≡ rows_within seen (new_states es)
+states_within seen [] = refl
+states_within seen (e ∷ es) = by (nat_le (length (insert_key row_cmp seen e.0)) 1000) (insert_key row_cmp seen e.0) (states_within (insert_key row_cmp seen e.0) es)
+  where
+    by : (few : Bool) (more : List Row) → rows_within more es ≡ rows_within more (new_states es)
+        → option_and_then (λ rows. rows_within rows es) (only_if few more) ≡ option_and_then (λ rows. rows_within rows (new_states es)) (only_if few more)
+    by true more same = same
+    by false more same = refl

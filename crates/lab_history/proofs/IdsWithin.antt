@@ -2,7 +2,7 @@
 use Rattle.std.proofs.{Common.{◌≡◌, ◌≤◌, ◌<◌, ◌⊎◌, inl, inr, true, false, List, [], ◌∷◌, length, Option, Some, None, refl, sym, ap, ◌∙◌, subst, arith}, lemmas.{Bool.{leb-false, lt-leb}, Option.{none-some, same_Some}}}
 use Rattle.std.specs.{Prelude.{nat_le, option_and_then}, Ordering.{match_ordering}, declared.cmp.Ordering.{Ordering, TheVariants.{Less, Equal, Greater}}, BTreeSet.{insert_key}, FinMap.{entries}}
 use Rattle.lab_table.specs.Row.{Row, row_cmp}
-use Rattle.lab_history.{specs.{History.{History}, HistoryRules.{named_rows, distinct_rows}, RunningCounts.{with_rows, with_op, with_ops, with_txns, only_if, ops_within, txns_within}, declared.{operation.Op.{Op}, transaction.Txn.{Txn}}}, proofs.CountedRows.{length_rows_in}}
+use Rattle.lab_history.{specs.{History.{History}, HistoryRules.{named_rows, distinct_rows}, RunningCounts.{with_rows, with_op, with_ops, with_txns, only_if, rows_within, op_within, ops_within, txns_within, parts_within}, declared.{operation.Op.{Op}, transaction.Txn.{Txn}}}, proofs.CountedRows.{rows_in, length_rows_in}}
 
 -- ---- lists only grow
 
@@ -53,12 +53,27 @@ unfolding Ended
 goes_on met rows all rest (inl is) then_all le = subst (λ (m : Option (List Row)). Ended (option_and_then rest m) all) (sym is) then_all
 goes_on met rows all rest (inr (is, many)) then_all le = inr (ap (option_and_then rest) is, omega (arith, many, le))
 
+rows_ended : {X : Type 0} (seen : List Row) (es : List (Row × X)) → Ended (rows_within seen es) (with_rows seen es)
+unfolding Ended
+rows_ended seen [] = inl refl
+rows_ended seen (e ∷ es) =
+    let more = insert_key row_cmp seen e.0 in
+    goes_on (only_if (nat_le (length more) 1000) more) more (with_rows more es) (λ rows. rows_within rows es) (few_ended more) (rows_ended more es) (grows more es)
+
+op_ended : (seen : List Row) (op : Op) → Ended (op_within seen op) (with_op seen op)
+op_ended seen op =
+    let a = with_rows seen (entries op.view) in
+    let b = with_rows a (entries op.rows) in
+    let listed = goes_on (rows_within seen (entries op.view)) a b (λ rows. rows_within rows (entries op.rows)) (rows_ended seen (entries op.view)) (rows_ended a (entries op.rows)) (grows a (entries op.rows)) in
+    goes_on (option_and_then (λ rows. rows_within rows (entries op.rows)) (rows_within seen (entries op.view))) b (with_rows b (entries op.writes)) (λ rows. rows_within rows (entries op.writes)) listed
+    (rows_ended b (entries op.writes)) (grows b (entries op.writes))
+
 ops_ended : (seen : List Row) (ops : List Op) → Ended (ops_within seen ops) (with_ops seen ops)
 unfolding Ended
 ops_ended seen [] = inl refl
 ops_ended seen (op ∷ ops) =
     let more = with_op seen op in
-    goes_on (only_if (nat_le (length more) 1000) more) more (with_ops more ops) (λ rows. ops_within rows ops) (few_ended more) (ops_ended more ops) (ops_grow more ops)
+    goes_on (op_within seen op) more (with_ops more ops) (λ rows. ops_within rows ops) (op_ended seen op) (ops_ended more ops) (ops_grow more ops)
 
 txns_ended : (seen : List Row) (ts : List Txn) → Ended (txns_within seen ts) (with_txns seen ts)
 unfolding Ended
@@ -70,31 +85,32 @@ txns_ended seen (t ∷ ts) =
 -- ---- all lists of a history
 
 module _ (h : History) where
-  -- what is met behind the transactions
-  abbrev at_the_end : List Row → List Row
-  at_the_end seen = with_rows (with_rows seen (entries h.installed)) (entries h.end_table)
-
-  end_grows : (seen : List Row) → length seen ≤ length (at_the_end seen)
-  end_grows seen = omega (arith, grows seen (entries h.installed), grows (with_rows seen (entries h.installed)) (entries h.end_table))
+  parts_ended : Ended (parts_within [] h) (rows_in h)
+  parts_ended =
+      let a = with_rows [] (entries h.initial) in
+      let b = with_txns a h.txns in
+      let c = with_rows b (entries h.installed) in
+      let met_a = rows_within [] (entries h.initial) in
+      let met_b = option_and_then (λ rows. txns_within rows h.txns) met_a in
+      let met_c = option_and_then (λ rows. rows_within rows (entries h.installed)) met_b in
+      let ended_b = goes_on met_a a b (λ rows. txns_within rows h.txns) (rows_ended [] (entries h.initial)) (txns_ended a h.txns) (txns_grow a h.txns) in
+      let ended_c = goes_on met_b b c (λ rows. rows_within rows (entries h.installed)) ended_b (rows_ended b (entries h.installed)) (grows b (entries h.installed)) in
+      goes_on met_c c (with_rows c (entries h.end_table)) (λ rows. rows_within rows (entries h.end_table)) ended_c (rows_ended c (entries h.end_table)) (grows c (entries h.end_table))
 
   -- too many on the way are too many at the end
-  pub many_on_the_way : txns_within (with_rows [] (entries h.initial)) h.txns ≡ None → nat_le (distinct_rows (named_rows h)) 1000 ≡ false
+  pub many_on_the_way : parts_within [] h ≡ None → nat_le (distinct_rows (named_rows h)) 1000 ≡ false
   unfolding Ended
-  many_on_the_way none = by (txns_ended (with_rows [] (entries h.initial)) h.txns)
+  many_on_the_way none = by parts_ended
     where
-      by : Ended (txns_within (with_rows [] (entries h.initial)) h.txns) (with_txns (with_rows [] (entries h.initial)) h.txns) → nat_le (distinct_rows (named_rows h)) 1000 ≡ false
+      by : Ended (parts_within [] h) (rows_in h) → nat_le (distinct_rows (named_rows h)) 1000 ≡ false
       by (inl is) = absurd (none-some _ (sym none ∙ is))
-      by (inr (is, many)) =
-          lt-leb (distinct_rows (named_rows h)) 1000 (omega (arith, many, end_grows (with_txns (with_rows [] (entries h.initial)) h.txns), length_rows_in h))
+      by (inr (is, many)) = lt-leb (distinct_rows (named_rows h)) 1000 (omega (arith, many, length_rows_in h))
 
   -- where all were met, they are all
-  pub all_met : (ran : List Row) → txns_within (with_rows [] (entries h.initial)) h.txns ≡ Some ran
-      → length (with_rows (with_rows ran (entries h.installed)) (entries h.end_table)) ≡ distinct_rows (named_rows h)
+  pub all_met : (ran : List Row) → parts_within [] h ≡ Some ran → length ran ≡ distinct_rows (named_rows h)
   unfolding Ended
-  all_met ran is = by (txns_ended (with_rows [] (entries h.initial)) h.txns)
+  all_met ran is = by parts_ended
     where
-      by : Ended (txns_within (with_rows [] (entries h.initial)) h.txns) (with_txns (with_rows [] (entries h.initial)) h.txns)
-          → length (with_rows (with_rows ran (entries h.installed)) (entries h.end_table)) ≡ distinct_rows (named_rows h)
-      by (inl met) =
-          ap (λ (seen : List Row). length (with_rows (with_rows seen (entries h.installed)) (entries h.end_table))) (same_Some _ _ (sym is ∙ met)) ∙ length_rows_in h
+      by : Ended (parts_within [] h) (rows_in h) → length ran ≡ distinct_rows (named_rows h)
+      by (inl met) = ap length (same_Some _ _ (sym is ∙ met)) ∙ length_rows_in h
       by (inr (none, many)) = absurd (none-some _ (sym none ∙ is))

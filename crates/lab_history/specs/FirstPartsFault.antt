@@ -1,4 +1,4 @@
--- The first fault of a history's parts, in the order of a file's walk.
+-- The first fault of a history's parts, in the order of the file.
 use Rattle.std.specs.Prelude.{⊤, ℕ, ◌+◌, ◌==◌, ◌&&◌, nat_le, nat_lt, Bool, not, List, [], ◌∷◌, ◌++◌, length, Result, Ok}
 use Rattle.std.specs.List.{list_any}
 use Rattle.std.specs.FinMap as finite

@@ -1,4 +1,4 @@
--- What every history keeps.
+-- The rules of every history: limits, distinct numbers, statements that can be printed, and what a view may list.
 use Rattle.std.specs.Prelude.{◌≡◌, ℕ, ◌+◌, ◌≤◌, Bool, true, false, ◌==◌, ◌&&◌, nat_le, List, [], ◌∷◌, ◌++◌, length, map, flat_map, sum, cond}
 use Rattle.std.specs.List.{list_any, list_all}
 use Rattle.std.specs.FinMap as finite

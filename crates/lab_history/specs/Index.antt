@@ -1,4 +1,4 @@
--- What an index has of a history.
+-- The index of a history.
 use Rattle.std.specs.Prelude.{◌≡◌, ℕ, ◌+◌, option_and_then, List, [], ◌∷◌, ◌++◌, slice_get}
 use Rattle.std.specs.FinMap as finite
 use Rattle.std.specs.Ordering.{nat_cmp}

@@ -1,4 +1,6 @@
--- Who installed which rows.
+-- The installers of each row in order, which is its version order.
+--
+-- Origin: Adya, Liskov and O'Neil, "Generalized Isolation Level Definitions" (2000), section 4.
 use Rattle.std.specs.Prelude.{ℕ, List}
 use Rattle.std.specs.FinMap.{FinMap}
 use Rattle.lab_table.specs.Row.{row_cmp}

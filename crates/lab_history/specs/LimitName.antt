@@ -1,4 +1,4 @@
--- The names of the limits, as a printed fault has them.
+-- The names of limits in printed faults.
 use Rattle.std.specs.Prelude.{ℕ, List, codes}
 use Rattle.lab_history.specs.declared.fault.Limit.{Limit}
 use Rattle.lab_history.specs.declared.fault.Limit.TheVariants as limit

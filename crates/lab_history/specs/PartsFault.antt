@@ -1,4 +1,4 @@
--- What a fault of a history's parts says of them.
+-- What the fault of a history's parts states about them.
 use Rattle.std.specs.Prelude.{◌≡◌, ℕ, ◌+◌, ◌<◌, false, [], length, map, sum, Some, slice_get}
 use Rattle.std.specs.FinMap as finite
 use Rattle.lab_table.specs.Row.{Row}

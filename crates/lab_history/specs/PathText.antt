@@ -1,4 +1,6 @@
--- How places in a history file are spelled: as JSON pointers, with the root as /.
+-- Positions in a history file, spelled as JSON pointers, with the root as /.
+--
+-- Origin: JSON pointers: RFC 6901, except for the root.
 use Rattle.std.specs.Prelude.{ℕ, List, ◌++◌, decimal, codes}
 use Rattle.lab_history.specs.declared.path.Path.{Path}
 use Rattle.lab_history.specs.declared.path.Path.TheVariants as path

@@ -1,4 +1,4 @@
--- Rows one after the other.
+-- Rows in rising order.
 use Rattle.std.specs.Prelude.{Bool, true, Option, Some, None}
 use Rattle.std.specs.Ordering.{is_lt}
 use Rattle.lab_table.specs.Row.{Row, row_cmp}

@@ -1,4 +1,5 @@
--- The different tables that a history names, met along its lists and statements; none where there is one too many.
+-- The different tables that a history names, collected along its lists and statements; none once there is one too
+-- many.
 use Rattle.std.specs.Prelude.{ℕ, nat_lt, List, [], ◌∷◌, ◌++◌, length, Option, Some, None, option_and_then, if◌then◌else◌}
 use Rattle.std.specs.FinMap as finite
 use Rattle.lab_table.specs.Row.{Row}

@@ -1,4 +1,4 @@
--- A transaction with a row.
+-- A transaction with a row, as a key.
 use Rattle.std.specs.Prelude.{◌≡◌, ℕ, Bool, nat_eq}
 use Rattle.std.specs.Ordering.{nat_cmp, on, then_cmp, eq_by_cmp, eq_of_both}
 use Rattle.std.specs.Cmp.{IsTotalOrder, IsEquivalence, nat_cmp_total, both_tied, unsigned_ties, on_total, then_total, nat_eq_equiv, on_equiv, and_equiv}

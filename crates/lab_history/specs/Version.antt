@@ -1,4 +1,6 @@
--- Words for a history: its transactions, operations, versions and their states.
+-- Words for a history: its transactions and operations, its versions and their states.
+--
+-- Origin: Adya, Liskov and O'Neil, "Generalized Isolation Level Definitions" (2000), section 4.
 use Rattle.std.specs.Option.{option_or}
 use Rattle.std.specs.Prelude.{◌≡◌, ℕ, zero, suc, ◌+◌, ◌≤◌, ◌==◌, Bool, true, false, cond, Option, Some, None, is_some, is_none, option_map, option_and_then, unwrap_or, find, List, [], ◌∷◌, slice_get}
 use Rattle.std.specs.FinMap as map

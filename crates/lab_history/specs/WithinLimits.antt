@@ -1,4 +1,4 @@
--- The limits on whole histories.
+-- The limits on the tables, rows and entries of a whole history.
 use Rattle.std.specs.Prelude.{⊤, nat_lt, map, sum, Result, Ok}
 use Rattle.lab_history.specs.Faults.{◌>>=◌, refused_if}
 use Rattle.lab_history.specs.History.{History}

@@ -6,7 +6,7 @@ ghost use Rattle.lab_table.specs.Row.{row_cmp};
 ghost use Rattle.lab_table.specs.Placed.{is_row_at};
 ghost use Rattle.lab_history.specs.HistoryRules.{named_rows, distinct_rows};
 ghost use Rattle.lab_history.specs.Limits.{max_ids};
-ghost use Rattle.lab_history.specs.RunningCounts.{with_rows, with_op, only_if, ops_within, txns_within};
+ghost use Rattle.lab_history.specs.RunningCounts.{only_if, rows_within, op_within, ops_within, txns_within, parts_within};
 
 use crate::id_range::are_few_at_a_glance;
 use crate::limits::MAX_IDS;
@@ -17,7 +17,8 @@ use lab_table::{ByRow, NoMemory, RowName, place_of};
 use std::alloc::Global;
 use std::marker::Model;
 
-/// Whether the lists of these parts name no more different ids than a history may have.
+/// Whether the lists of these parts name no more different ids than a history may have. It reads no further than the
+/// first row that is one too many.
 pub fn has_few_ids(alloc: Global, parts: &Parts) -> Result<bool, NoMemory>
     ensures { IfOk result (λ few. few ≡ nat_le (distinct_rows (named_rows parts.now)) max_ids) }
 {
@@ -27,23 +28,21 @@ pub fn has_few_ids(alloc: Global, parts: &Parts) -> Result<bool, NoMemory>
     count_few(alloc, parts)
 }
 
-/// The same, counted.
+/// Counts the different rows of all lists, up to the first that is one too many.
 fn count_few(alloc: Global, parts: &Parts) -> Result<bool, NoMemory>
     ensures { IfOk result (λ few. few ≡ nat_le (distinct_rows (named_rows parts.now)) max_ids) }
 {
     let mut ids = Ids {
         seen: ByRow::new(alloc),
     };
-    ids.add_rows(parts.initial.rows())?;
-    if !ids.add_txns(parts.txns.as_slice())? {
+    if !ids.add_parts(parts)? {
         return Ok(false);
     }
-    ids.add_rows(parts.installed.entries())?;
-    ids.add_rows(parts.end_table.rows())?;
     Ok(ids.are_few())
 }
 
-/// The different rows that were met.
+/// The different rows found so far. Every `add_..` stops at the first row past [`MAX_IDS`], so inserting a row moves
+/// at most that many others.
 #[derive(Drop)]
 struct Ids {
     seen: ByRow<()>,
@@ -60,15 +59,15 @@ impl Model for Ids {
 }
 
 impl Ids {
-    /// Whether a history may have so many. It is asked after each operation, so that the list of them stays short.
+    /// Whether a history may have this many.
     fn are_few(&self) -> bool
         ensures { result ≡ nat_le (length self.now) max_ids }
     {
         self.seen.entries().len() <= MAX_IDS
     }
 
-    /// Adds a row and answers the place behind it. It is looked for first where it is likely to stand, seen from this
-    /// place.
+    /// Adds a row and returns the index after it. The row is looked for first where it is likely to be, seen from
+    /// `place`.
     #[inline]
     fn add(&mut self, place: usize, row: RowName) -> Result<usize, NoMemory>
         ensures { OnOk result (self.new ≡ insert_key row_cmp self.old row) }
@@ -84,32 +83,38 @@ impl Ids {
         Ok(place + 1)
     }
 
-    /// Rows of a list rise, so each is looked for behind the one before it.
-    fn add_rows<X>(&mut self, entries: &[(RowName, X)]) -> Result<(), NoMemory>
-        ensures { OnOk result (self.new ≡ with_rows self.old entries.now) }
+    /// Adds the rows of a list until there are too many; returns whether there are few. The rows of a list rise, so each
+    /// is looked for after the one before it.
+    fn add_rows<X>(&mut self, entries: &[(RowName, X)]) -> Result<bool, NoMemory>
+        ensures { IfOk result (λ few. only_if few self.new ≡ rows_within self.old entries.now) }
     {
         let mut place = 0;
         for entry in entries {
             place = self.add(place, entry.0)?;
+            if !self.are_few() {
+                return Ok(false);
+            }
         }
-        Ok(())
+        Ok(true)
     }
 
-    fn add_op(&mut self, op: &Op) -> Result<(), NoMemory>
-        ensures { OnOk result (self.new ≡ with_op self.old op.now) }
+    fn add_op(&mut self, op: &Op) -> Result<bool, NoMemory>
+        ensures { IfOk result (λ few. only_if few self.new ≡ op_within self.old op.now) }
     {
-        self.add_rows(op.view.entries())?;
-        self.add_rows(op.rows.entries())?;
+        if !self.add_rows(op.view.entries())? {
+            return Ok(false);
+        }
+        if !self.add_rows(op.rows.entries())? {
+            return Ok(false);
+        }
         self.add_rows(op.writes.entries())
     }
 
-    /// Adds those of operations, until there are too many, and says whether there are few.
     fn add_ops(&mut self, ops: &[Op]) -> Result<bool, NoMemory>
         ensures { IfOk result (λ few. only_if few self.new ≡ ops_within self.old ops.now) }
     {
         for op in ops {
-            self.add_op(op)?;
-            if !self.are_few() {
+            if !self.add_op(op)? {
                 return Ok(false);
             }
         }
@@ -125,6 +130,21 @@ impl Ids {
             }
         }
         Ok(true)
+    }
+
+    fn add_parts(&mut self, parts: &Parts) -> Result<bool, NoMemory>
+        ensures { IfOk result (λ few. only_if few self.new ≡ parts_within self.old parts.now) }
+    {
+        if !self.add_rows(parts.initial.rows())? {
+            return Ok(false);
+        }
+        if !self.add_txns(parts.txns.as_slice())? {
+            return Ok(false);
+        }
+        if !self.add_rows(parts.installed.entries())? {
+            return Ok(false);
+        }
+        self.add_rows(parts.end_table.rows())
     }
 }
 

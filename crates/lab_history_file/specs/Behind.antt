@@ -1,4 +1,4 @@
--- What may stand behind what stands before it.
+-- What the transactions before it allow a transaction to be.
 use Rattle.std.specs.Prelude.{◌≡◌, ◌+◌, ◌≤◌, ◌==◌, false, List, [], ◌∷◌, ◌++◌, length, ⊤}
 use Rattle.std.specs.List.{list_any}
 use Rattle.lab_history.specs.HistoryRules.{operations}

@@ -1,4 +1,4 @@
--- When a fault is true of a JSON value: told by the value itself, at the place that the fault names.
+-- When a fault is true of a JSON value: stated by the value itself, at the position that the fault names.
 use Rattle.std.specs.Prelude.{◌≡◌, ◌≢◌, ℕ, ◌+◌, ◌<◌, false, Option, Some, None, List, map, sum, Ok, codes}
 use Rattle.std.specs.Ordering.{is_lt}
 use Rattle.serde_json.specs.Data.{Data, array, Items, no_items, item}

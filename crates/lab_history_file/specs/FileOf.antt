@@ -1,4 +1,5 @@
--- Which JSON value is the file of which history: the table of the format.
+-- Which JSON value is the file of which history: the table of the format, as a relation that says nothing about
+-- reading.
 use Rattle.std.specs.Prelude.{◌≡◌, ◌≢◌, ℕ, ℤ, ⊤, true, List, [], ◌∷◌, ◌++◌, Some, None, option_and_then, codes}
 use Rattle.std.specs.FinMap as finite
 use Rattle.std.specs.FinMap.{FinMap}

@@ -1,4 +1,4 @@
--- What the versions of a history file differ in, but for the keys of members.
+-- How the versions of a history file differ, except for the keys of members.
 use Rattle.std.specs.Prelude.{ℕ, Bool, true}
 use Rattle.lab_table.specs.TableName.{table_name_eq, test_name}
 use Rattle.lab_table.specs.declared.statement.Statement.{Statement}

@@ -1,4 +1,5 @@
--- The history file: the history that a JSON value holds, or its first fault.
+-- Reading a history file as a function: the history that a JSON value holds, or its first fault. It fixes the order
+-- of faults.
 use Rattle.std.specs.Prelude.{ℕ, ◌+◌, ⊤, ◌&&◌, ◌==◌, nat_lt, Bool, true, false, List, [], ◌∷◌, length, Option, Some, None, option_and_then, unwrap_or, Result, Ok, Err, if◌then◌else◌, codes}
 use Rattle.std.specs.Str.{bytes_eq}
 use Rattle.std.specs.List.{list_any}

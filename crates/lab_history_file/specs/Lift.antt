@@ -1,4 +1,4 @@
--- A file of version 1 as one of version 2: the table `test` stands in front of each id.
+-- A version 1 file as a version 2 file: the table `test` is written before each id.
 use Rattle.std.specs.Prelude.{ℕ, List, if◌then◌else◌, codes}
 use Rattle.std.specs.Str.{bytes_eq}
 use Rattle.serde_json.specs.Data.{Data, null, boolean, number, unsigned, string, array, object, Items, no_items, item, Members, no_members, member}

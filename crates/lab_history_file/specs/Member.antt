@@ -1,4 +1,4 @@
--- What a member of a list begins with: the key of a row. Nothing else says how many parts a key takes, and which.
+-- The key of a row at the beginning of a list's member. Nothing else says how many parts a key has, and which.
 use Rattle.std.specs.Prelude.{ℕ, zero, suc, ◌+◌, ◌==◌, Bool, false, List, Option, Some, None, is_some, option_map, option_and_then, Result, Ok, Err, if◌then◌else◌}
 use Rattle.serde_json.specs.Data.{Data, number, unsigned, string, Items, no_items, item}
 use Rattle.serde_json.specs.Find.{as_str, at}

@@ -1,4 +1,4 @@
--- The place of bytes, in the words of JSON's grammar. Only private clauses cite it.
+-- The position of bytes, in the words of JSON's grammar.
 use Rattle.json.specs.Lex as lex
 use Rattle.lab_history_file.specs.declared.reading.tokens.Place.{Place}
 use Rattle.lab_history_file.specs.declared.reading.tokens.Place.TheVariants.{Start, Value, Comma}

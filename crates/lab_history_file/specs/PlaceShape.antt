@@ -1,4 +1,4 @@
--- What may stand at a place of a history file of a version, whatever stands in its own parts.
+-- What may be at a position of a history file, whatever its own parts hold.
 use Rattle.std.specs.Prelude.{ℕ, zero, suc, ◌+◌, Bool, true, false, Option, Some, None, is_some, option_and_then, List, codes}
 use Rattle.std.specs.Str.{bytes_eq}
 use Rattle.serde_json.specs.Data.{Data, Items, no_items, item}

@@ -1,4 +1,4 @@
--- What is read of tokens one after another. Only private clauses cite it.
+-- What is read from consecutive tokens.
 use Rattle.std.specs.Prelude.{◌≡◌, ℕ, List, Some, Ok}
 use Rattle.json.specs.Token.{Token}
 use Rattle.serde_json.specs.Data.{Data}

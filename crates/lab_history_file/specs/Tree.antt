@@ -1,4 +1,7 @@
--- The JSON value of a history's file: keys in the order of their bytes, lists by rising row, statements in printed form.
+-- The JSON value of a history's file: keys in the order of their bytes, lists by rising row, statements in printed
+-- form.
+--
+-- Origin: JSON: RFC 8259; the format is this project's profile.
 use Rattle.std.specs.Prelude.{ℕ, ℤ, List, [], ◌∷◌, map, Option, Some, None, codes}
 use Rattle.std.specs.FinMap as finite
 use Rattle.std.specs.FinMap.{FinMap}

@@ -1,4 +1,4 @@
--- The value at a place of a history file of a version.
+-- The value at a position of a history file.
 use Rattle.std.specs.Prelude.{ℕ, ◌==◌, nat_lt, if◌then◌else◌, Option, Some, None, option_and_then, option_map, codes}
 use Rattle.serde_json.specs.Data.{Data}
 use Rattle.serde_json.specs.Find.{at}

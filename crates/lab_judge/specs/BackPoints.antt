@@ -1,4 +1,4 @@
--- Of several cycles of points, the one that a snapshot no has: it is met on the way back from points that no order can place.
+-- The cycle that a snapshot no reports: found by going back from the lowest start or commit that no order can place.
 use Rattle.std.specs.Prelude.{⊤}
 use Rattle.lab_order.specs.Knots.{IsBackCircle}
 use Rattle.lab_history.specs.History.{History}

@@ -1,4 +1,4 @@
--- What is made for a sound history: of each kind the verdict or the finding that is due.
+-- The verdict or finding of each kind that a sound history must get.
 use Rattle.std.specs.Prelude.{List, map}
 use Rattle.lab_history.specs.History.{History}
 use Rattle.lab_deps.specs.KindSets.{is_any}

@@ -1,4 +1,4 @@
--- The line that tells why a file is no history.
+-- The line that reports why a file is no history.
 use Rattle.std.specs.Prelude.{ℕ, List, [], ◌++◌, codes}
 use Rattle.std.specs.Fmt.{decimal}
 use Rattle.lab_printing.specs.Printed.{newline}

@@ -1,4 +1,4 @@
--- What is answered of a file's bytes.
+-- The result for the bytes of a file: a judgement of its history, or its first fault.
 use Rattle.std.specs.Prelude.{ℕ, List, Result, Ok, Err}
 use Rattle.lab_history.specs.History.{History}
 use Rattle.lab_history.specs.declared.fault.FileFault.{FileFault}

@@ -1,4 +1,4 @@
--- Dependencies as the arrows of a graph, whose nodes are the places of transactions in a list.
+-- Dependencies as the arrows of a graph, whose nodes are the positions of transactions in a list.
 use Rattle.std.specs.Prelude.{◌≡◌, ◌↔◌, ℕ, Bool, true, false, List, [], ◌∷◌, length, slice_get, Some, Contains}
 use Rattle.std.specs.Ordering.{is_lt}
 use Rattle.lab_order.specs.Arrows.{Arrows, nodes_of, IsArrow}

@@ -1,4 +1,4 @@
--- The arrows that are added to a graph for dependencies.
+-- The arrows added to a graph for dependencies.
 use Rattle.std.specs.Prelude.{◌≡◌, ◌⊎◌, ℕ, ◌+◌, ◌*◌, Bool}
 use Rattle.lab_order.specs.Arrows.{Arrows, nodes_of, IsArrow}
 use Rattle.lab_deps.specs.KindsBetween.{KindsBetween}

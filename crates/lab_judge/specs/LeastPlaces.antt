@@ -1,4 +1,5 @@
--- Of several right placings, the one that a snapshot yes has.
+-- Which start and commit timestamps a snapshot yes reports: the least order of starts and commits along which every
+-- arrow points forward.
 use Rattle.std.specs.Prelude.{◌≡◌, ℕ, suc, ◌+◌, ◌*◌, ◌<◌, ◌==◌, Bool, cond, List, [], ◌∷◌, map, count_by, Contains, ⊤}
 use Rattle.std.specs.List.Sorted.{IsStrictlyIncreasing}
 use Rattle.lab_order.specs.Least.{IsLeastBy}

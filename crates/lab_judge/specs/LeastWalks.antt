@@ -1,4 +1,4 @@
--- Which of several cycles is carried.
+-- Which of several cycles a report shows. Between two transactions a cycle takes the least edge of an allowed kind.
 use Rattle.std.specs.Prelude.{◌≡◌, ◌<◌, ◌≤◌, ◌↔◌, ℕ, Bool, true, false, List, [], ◌∷◌, ◌++◌, length, slice_index, IsTrue, ⊤}
 use Rattle.std.specs.Ordering.{is_lt}
 use Rattle.std.specs.List.{All}

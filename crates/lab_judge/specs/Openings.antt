@@ -1,4 +1,5 @@
--- Cycles of dependencies of some kinds, and the dependencies that open one.
+-- Dependencies that open a cycle: one of some kinds, from which a path leads back; and cycles whose edges are of
+-- given kinds.
 use Rattle.std.specs.Prelude.{◌≡◌, ◌≤◌, ◌⊎◌, ℕ, Bool, true, false, not, List}
 use Rattle.std.specs.List.{count_by}
 use Rattle.lab_order.specs.Arrows.{Arrows}

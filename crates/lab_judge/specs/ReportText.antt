@@ -1,4 +1,7 @@
--- The text of a report: ten lines.
+-- The ten lines of a report.
+--
+-- Origin: names of phenomena and levels, and how cycles are written: Adya, Liskov and O'Neil, "Generalized Isolation
+-- Level Definitions" (2000); the rest is this project's profile.
 use Rattle.std.specs.Prelude.{ℕ, List, [], ◌∷◌, ◌++◌, flat_map, codes}
 use Rattle.std.specs.Fmt.{decimal}
 use Rattle.lab_table.specs.Row.{Row}

@@ -1,4 +1,7 @@
--- What a transaction's statements saw still stood when it committed.
+-- Stable reads: what each statement of a transaction saw is still true when the transaction commits.
+--
+-- Origin: predicate locks: Eswaran, Gray, Lorie and Traiger, "The Notions of Consistency and Predicate Locks in a
+-- Database System" (1976); validation: Kung and Robinson, "On Optimistic Methods for Concurrency Control" (1981).
 use Rattle.std.specs.Prelude.{◌≡◌, List, ◌∷◌, ◌++◌}
 use Rattle.lab_table.specs.Table.{Table}
 use Rattle.lab_table.specs.declared.statement.Statement.{Statement}

@@ -1,4 +1,4 @@
--- The levels, and the names of their engines.
+-- The levels in the order in which they are listed, and the name of each one's engine.
 use Rattle.std.specs.Prelude.{ℕ, Option, List, [], ◌∷◌, codes}
 use Rattle.std.specs.List.{find}
 use Rattle.std.specs.Str.{bytes_eq}

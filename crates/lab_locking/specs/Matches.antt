@@ -1,4 +1,4 @@
--- Whose pending writes match a statement, in a situation.
+-- The transactions whose pending writes match a statement.
 use Rattle.std.specs.Prelude.{ℕ, Bool, false, ◌||◌, Option, Some, None, unwrap_or, List}
 use Rattle.lab_table.specs.Row.{Row}
 use Rattle.lab_table.specs.Table.{State}

@@ -1,4 +1,4 @@
--- Who has read what a statement would write, in a situation.
+-- The transactions that have read what a statement would write.
 use Rattle.std.specs.Prelude.{ℕ, Bool, ◌||◌, ◌&&◌, List}
 use Rattle.std.specs.List.{list_any}
 use Rattle.std.specs.FinMap as map

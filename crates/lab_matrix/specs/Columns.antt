@@ -1,4 +1,4 @@
--- The cases at one level after another: their judgements, and their text.
+-- The cases at several levels, one level after another: their judgements and their text.
 use Rattle.std.specs.Prelude.{◌≡◌, ◌⊎◌, ◌<◌, ◌-◌, ℕ, ⊤, List, [], ◌∷◌, ◌++◌, length, codes}
 use Rattle.lab_printing.specs.Printed.{newline}
 use Rattle.lab_engine.specs.declared.event.Level.{Level}

@@ -1,4 +1,7 @@
--- What an engine promises of each of its runs.
+-- What the engine of each level guarantees for all of its runs, as the matrix prints it.
+--
+-- Origin: names of levels: Adya, Liskov and O'Neil, "Generalized Isolation Level Definitions" (2000); snapshot
+-- isolation: Berenson and others, "A Critique of ANSI SQL Isolation Levels" (1995).
 use Rattle.std.specs.Prelude.{ℕ, Bool, true, false, List, codes}
 use Rattle.lab_engine.specs.declared.event.Level.{Level}
 use Rattle.lab_engine.specs.RuleTable.{rules_of, keeps_reads, keeps_snapshots}

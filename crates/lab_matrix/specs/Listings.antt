@@ -1,4 +1,7 @@
--- The ten cases, line by line.
+-- The scripts of the ten cases, line by line.
+--
+-- Origin: after the cases of Martin Kleppmann, "Hermitage: Testing transaction isolation levels" (2014); the listings
+-- are this project's own.
 use Rattle.std.specs.Prelude.{ℕ, pos, List, [], ◌∷◌, Some, None}
 use Rattle.std.specs.FinMap as map
 use Rattle.lab_table.specs.Row.{in_test}

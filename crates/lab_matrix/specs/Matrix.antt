@@ -1,4 +1,4 @@
--- What stands in the matrix: for each case and each level the judgement of a recording.
+-- The matrix: for each case and each level, the judgement of a recording.
 use Rattle.std.specs.Prelude.{◌≡◌, ◌≢◌, ◌⊎◌, ◌<◌, ℕ, List, Ok}
 use Rattle.lab_history.specs.History.{History}
 use Rattle.lab_history.specs.FirstPartsFault.{checked}

@@ -1,4 +1,4 @@
--- Which install of a row, of those that stand in a chain with the newest first, changed what statements match.
+-- Which install of a row, in a list with the newest first, changed what statements match.
 use Rattle.std.specs.Prelude.{ℕ, Bool, ◌||◌, nat_lt, cond, Option, Some, None, List, [], ◌∷◌}
 use Rattle.std.specs.List.{list_any}
 use Rattle.std.specs.Option.{option_or}

@@ -1,4 +1,4 @@
--- Which rows that a transaction has read others have changed since its begin.
+-- Which rows that a transaction has read were changed by others since its begin.
 use Rattle.std.specs.Prelude.{◌≡◌, ◌==◌, ◌&&◌, ℕ, Bool, true, false, reverse, cond, is_some, Option, Some, None, List, [], ◌∷◌}
 use Rattle.std.specs.List.{list_any}
 use Rattle.std.specs.Ordering.{is_lt}

@@ -1,4 +1,4 @@
--- The cycle that is met on the way back from nodes of a graph that no order can place.
+-- The cycle that is found by going back from the nodes of a graph that no order can place.
 use Rattle.std.specs.Prelude.{ℕ, List}
 use Rattle.lab_order.specs.Arrows.{Arrows, IsArrow}
 use Rattle.lab_order.specs.Knots as knots

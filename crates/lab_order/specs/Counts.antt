@@ -1,4 +1,4 @@
--- How many predecessors nodes wait for.
+-- How many predecessors nodes still wait for, and successors as the transposition of predecessors.
 use Rattle.std.specs.Prelude.{◌≡◌, ℕ, ◌==◌, List, [], count_by, slice_index_or}
 use Rattle.lab_order.specs.Arrows.{Arrows, before}
 

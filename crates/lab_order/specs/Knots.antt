@@ -1,5 +1,5 @@
--- Things that no order along arrows can place, and the cycle that is met on the way back from them: over things of any
--- type, of which of two different ones one is less, and between which there are arrows.
+-- Elements that no order along arrows can place, and the cycle that is found by going back from the least of them,
+-- each time to the least predecessor. Elements may be of any type with an order.
 use Rattle.std.specs.Prelude.{◌≡◌, Bool, List, [], ◌∷◌, IsTrue}
 use Rattle.std.specs.List.{All}
 use Rattle.lab_order.specs.Trails.{IsRing, HasLeastFirst}

@@ -1,4 +1,6 @@
--- Of several right answers, the one that is given.
+-- The least of several lists, element by element.
+--
+-- Origin: lexicographic order.
 use Rattle.std.specs.Prelude.{◌≡◌, ◌⊎◌, ℕ, ◌<◌, List, [], ◌∷◌, ⊤}
 
 -- a list doesn't come after another, thing by thing as words in a dictionary, where this says which of two is less

@@ -1,4 +1,6 @@
--- Things that lead from one to another by steps of any kind.
+-- Paths and cycles of steps of any kind, over elements of any type.
+--
+-- Origin: graph theory.
 use Rattle.std.specs.Prelude.{◌≡◌, ℕ, ◌≤◌, List, [], ◌∷◌, ◌++◌, take, drop, ⊤}
 use Rattle.std.specs.List.{All}
 

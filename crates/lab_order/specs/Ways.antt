@@ -1,4 +1,6 @@
--- Which nodes lead to which: for each node the set of those from which a path leads to it.
+-- For each node, the set of nodes from which a path leads to it.
+--
+-- Origin: S. Warshall, "A Theorem on Boolean Matrices" (1962).
 use Rattle.std.specs.Prelude.{◌≡◌, ℕ, ◌<◌, ◌↔◌, Bool, List, [], length, slice_index_or, IsTrue}
 use Rattle.lab_sets.specs.Sets.{has}
 use Rattle.lab_order.specs.Arrows.{Arrows, nodes_of}

@@ -1,4 +1,4 @@
--- How the verdict is checked by hand, and the evidence: the report and the history.
+-- How to check the verdict by hand, and the evidence: the report and the history.
 use Rattle.std.specs.Prelude.{ℕ, nat_le, cond, Option, Some, None, List, [], ◌++◌, length, codes}
 use Rattle.serde_json.specs.Written.{compact_text}
 use Rattle.lab_history.specs.History.{History}

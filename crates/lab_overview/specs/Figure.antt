@@ -1,4 +1,4 @@
--- The picture in a page.
+-- The picture in the frame of a page.
 use Rattle.std.specs.Prelude.{ℕ, nat_le, nat_lt, Bool, cond, List, [], ◌++◌, length, codes}
 
 -- the beginning of a picture that is wide: it is folded

@@ -1,4 +1,6 @@
--- The levels and the phenomena.
+-- The ladder of levels, and the list of phenomena.
+--
+-- Origin: levels and phenomena: Adya, Liskov and O'Neil, "Generalized Isolation Level Definitions" (2000).
 use Rattle.std.specs.Prelude.{ℕ, ◌==◌, nat_le, Bool, cond, List, [], ◌++◌, flat_map, codes}
 use Rattle.lab_history.specs.History.{History}
 use Rattle.lab_judge.specs.declared.report.Grade.{Grade}

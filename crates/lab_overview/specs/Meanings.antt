@@ -1,4 +1,6 @@
--- What a page says of phenomena and levels.
+-- The meaning of each phenomenon and level, in a sentence.
+--
+-- Origin: levels and phenomena: Adya, Liskov and O'Neil, "Generalized Isolation Level Definitions" (2000).
 use Rattle.std.specs.Prelude.{ℕ, List, codes}
 use Rattle.lab_deps.specs.declared.fault.FaultParts.{FaultParts}
 use Rattle.lab_deps.specs.declared.fault.FaultParts.TheVariants as parts

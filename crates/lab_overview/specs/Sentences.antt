@@ -1,4 +1,6 @@
--- Sentences with markup round them.
+-- Sentences with markup: bold up to the first colon.
+--
+-- Origin: HTML.
 use Rattle.std.specs.Prelude.{ℕ, ◌==◌, not, List, ◌++◌, take, drop, codes}
 use Rattle.std.specs.List.{prefix_len}
 use Rattle.lab_drawing.specs.Text.{escaped}

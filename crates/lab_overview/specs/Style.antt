@@ -1,4 +1,6 @@
--- The style of a page: the same in all. No byte of it is `<`, `>`, `&` or a double quote.
+-- The style of a page, the same in all pages. No byte of it is `<`, `>`, `&` or a double quote.
+--
+-- Origin: CSS.
 use Rattle.std.specs.Prelude.{ℕ, List, ◌++◌, codes}
 
 -- letters and paragraphs

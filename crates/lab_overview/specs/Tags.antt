@@ -1,4 +1,6 @@
--- The tags of a page, with the words in them, before the texts that stand in it.
+-- The tags of the report's half of a page, with the fixed words in them.
+--
+-- Origin: HTML.
 use Rattle.std.specs.Prelude.{ℕ, List, codes}
 
 -- what stands before what the user says of the page

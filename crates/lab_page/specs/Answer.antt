@@ -1,4 +1,4 @@
--- What `page` says of an input.
+-- The output of `page`: the page of a judgement of the history in the input, or the first fault of the file.
 use Rattle.std.specs.Prelude.{◌≡◌, ℕ, Option, List}
 use Rattle.lab_history.specs.History.{History}
 use Rattle.lab_judge.specs.Judgement.{IsExactJudgement}

@@ -1,4 +1,4 @@
--- Fixed texts of a page.
+-- Fixed texts around the parts of a page.
 use Rattle.std.specs.Prelude.{ℕ, List, codes}
 
 -- what each kind of dependency says

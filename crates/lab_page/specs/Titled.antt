@@ -1,4 +1,5 @@
--- What pages have of the title, for laws.
+-- How a page contains its title: escaped, in two places; all else is the same under each title that isn't empty. For
+-- laws.
 use Rattle.std.specs.Prelude.{◌≡◌, ◌≢◌, ℕ, List, ◌++◌, length}
 use Rattle.lab_drawing.specs.Text.{escaped}
 

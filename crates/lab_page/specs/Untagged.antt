@@ -1,4 +1,6 @@
--- A page without its tags, for laws.
+-- A page without its tags, for laws: which texts it shows.
+--
+-- Origin: HTML.
 use Rattle.std.specs.Prelude.{◌≡◌, ℕ, ◌==◌, Bool, true, false, not, ◌&&◌, cond, List, [], ◌∷◌, ◌++◌, length, codes}
 use Rattle.std.specs.Str.{bytes_eq}
 use Rattle.lab_drawing.specs.Text.{escaped}

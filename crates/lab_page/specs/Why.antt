@@ -1,4 +1,4 @@
--- Why: the sentences of the verdict, and below each step the versions of its row.
+-- The steps of the verdict: each with its sentence and the versions of its row.
 use Rattle.std.specs.Prelude.{ℕ, ◌+◌, ◌-◌, ◌==◌, nat_lt, cond, Option, Some, None, List, [], ◌∷◌, ◌++◌, length, codes}
 use Rattle.std.specs.Fmt.{decimal}
 use Rattle.lab_table.specs.Row.{Row}

@@ -1,6 +1,6 @@
--- The history of a run that was recorded in parts: what the histories of its parts make together.
+-- The history of a run that was recorded in parts: the histories of the parts, joined.
 --
--- A part is a history of its own, recorded when nobody was in a transaction before it and behind it. So what a statement
+-- A part is a history that was recorded while no transaction was open at its beginning and its end. What a statement
 -- sees at the initial version of its part is, in the run, the last version that an earlier part installed.
 use Rattle.std.specs.Prelude.{◌≡◌, ℕ, zero, suc, ◌+◌, max, ◌++◌, Option, Some, None, unwrap_or, List, [], ◌∷◌, map, ⊤}
 use Rattle.std.specs.List.{last_or}

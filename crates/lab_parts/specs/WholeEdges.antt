@@ -1,4 +1,4 @@
--- The dependencies of a run, made of those of its parts.
+-- The dependencies of a run, from those of its parts.
 use Rattle.std.specs.Prelude.{◌≡◌, ℕ, ◌<◌, Some, List, ◌∷◌, slice_get}
 use Rattle.lab_history.specs.History.{History}
 use Rattle.lab_history.specs.Version.{IsCommitted}

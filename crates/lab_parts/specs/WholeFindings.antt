@@ -1,4 +1,4 @@
--- What is found in a run, made of what is found in its parts.
+-- The findings of a run, from those of its parts.
 use Rattle.std.specs.Prelude.{◌≡◌, ◌↔◌, ℕ, nat_le, cond, Some, List, [], ◌∷◌, map, slice_get}
 use Rattle.std.specs.List.{All}
 use Rattle.lab_history.specs.History.{History}

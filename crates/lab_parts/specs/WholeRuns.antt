@@ -1,4 +1,4 @@
--- The order and the places of a run, made of those of its parts.
+-- The order and the timestamps of a run, from those of its parts.
 use Rattle.std.specs.Prelude.{ℕ, suc, ◌+◌, max, List, [], ◌∷◌, ◌++◌, map}
 use Rattle.lab_history.specs.History.{History}
 use Rattle.lab_judge.specs.Runs.{Span}

@@ -1,4 +1,6 @@
--- The text of operations' boxes.
+-- The text of the boxes of operations.
+--
+-- Origin: SVG 1.1.
 use Rattle.std.specs.Prelude.{ℕ, ◌+◌, ◌*◌, ◌==◌, nat_le, Bool, not, ◌||◌, cond, List, [], ◌∷◌, ◌++◌, length, codes}
 use Rattle.lab_printing.specs.Printed.{printed_statement}
 use Rattle.lab_table.specs.Row.{Row}

@@ -1,4 +1,6 @@
--- The classes of steps, by which a style finds the arrow and the boxes of each.
+-- The style classes of steps: they mark the arrow and the boxes of each step of a cycle.
+--
+-- Origin: HTML 4, SVG 1.1.
 use Rattle.std.specs.Prelude.{ℕ, ◌+◌, ◌==◌, nat_lt, min, Bool, true, false, ◌&&◌, cond, List, [], ◌∷◌, ◌++◌, flat_map, length, take, codes}
 use Rattle.std.specs.Fmt.{decimal}
 use Rattle.lab_drawing.specs.declared.drawing.Arrow.{Arrow}

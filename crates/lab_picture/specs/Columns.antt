@@ -1,4 +1,6 @@
 -- The text of a picture's columns.
+--
+-- Origin: SVG 1.1.
 use Rattle.std.specs.Prelude.{ℕ, ◌+◌, ◌==◌, min, max, Bool, cond, Option, Some, None, List, [], ◌∷◌, ◌++◌, length, take, codes}
 use Rattle.std.specs.Fmt.{decimal}
 use Rattle.std.specs.List.{list_any}

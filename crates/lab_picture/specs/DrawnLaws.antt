@@ -1,4 +1,4 @@
--- That an operation is drawn, and how many are.
+-- Which operations are drawn, how many at most, and how high a picture is at most.
 use Rattle.std.specs.Prelude.{◌≡◌, ◌≤◌, ℕ, ◌+◌, ◌*◌, max, true, length}
 use Rattle.lab_history.specs.History.{History}
 use Rattle.lab_picture.specs.Columns.{marked_in}

@@ -1,4 +1,4 @@
--- What an operation did, as its box tells it: which rows it listed, and how it left those that it wrote.
+-- What an operation's box shows: the rows that it listed with how it left them, and the other rows that it wrote.
 use Rattle.std.specs.Prelude.{ℕ, ℤ, ◌==◌, Bool, cond, Option, Some, None, is_none, List, [], ◌∷◌, ◌++◌, length, map, filter, codes}
 use Rattle.std.specs.Fmt.{decimal}
 use Rattle.std.specs.FinMap as finite

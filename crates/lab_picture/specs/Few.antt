@@ -1,4 +1,4 @@
--- Which operations are drawn where a column has many.
+-- Which operations are drawn in a column that has many.
 use Rattle.std.specs.Prelude.{ℕ, zero, suc, ◌+◌, ◌==◌, nat_le, Bool, not, ◌||◌, cond, List}
 use Rattle.std.specs.List.{list_any}
 use Rattle.lab_drawing.specs.declared.drawing.Arrow.{Arrow}

@@ -1,4 +1,4 @@
--- The dependencies of a yes that a picture has.
+-- The dependencies that the picture of a yes shows: of each two nearby transactions the least.
 use Rattle.std.specs.Prelude.{◌≡◌, ℕ, ◌+◌, ◌%◌, ◌==◌, min, false, cond, Option, Some, None, List, [], ◌∷◌, ◌++◌, map, flat_map, length, take, ⊤}
 use Rattle.std.specs.Ordering.{is_lt}
 use Rattle.lab_history.specs.History.{History}

@@ -1,4 +1,4 @@
--- What a box tells of an operation's rows where it tells only of those that arrows name.
+-- What a box shows where it shows only the rows that arrows name: two dots stand for each run of other rows.
 use Rattle.std.specs.Prelude.{ℕ, ℤ, ◌==◌, Bool, ◌||◌, cond, List, [], ◌∷◌, ◌++◌, length, map, filter, codes}
 use Rattle.std.specs.List.{list_any}
 use Rattle.std.specs.FinMap as finite

@@ -1,4 +1,4 @@
--- Which kinds of arrows a drawing has, and so which keys stand above its columns.
+-- Which kinds of arrows a drawing has, and so which keys are shown above its columns.
 use Rattle.std.specs.Prelude.{ℕ, Bool, true, false, not, ◌||◌, cond, List}
 use Rattle.std.specs.List.{list_any}
 use Rattle.lab_judge.specs.Places.{is_anti}

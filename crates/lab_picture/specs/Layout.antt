@@ -1,4 +1,5 @@
--- Where things stand, in pixels. Three columns side by side make a band, and bands stand below one another. All boxes of a picture have one size.
+-- Positions in pixels. Three columns side by side make a band, and bands are below one another. All boxes of a
+-- picture have the same size.
 use Rattle.std.specs.Prelude.{ℕ, ◌+◌, ◌-◌, ◌*◌, ◌/◌, ◌%◌, ◌==◌, nat_le, nat_lt, Bool, ◌&&◌, cond}
 use Rattle.lab_picture.specs.declared.layout.Corner.{Corner}
 use Rattle.lab_picture.specs.declared.layout.Frame.{Frame}

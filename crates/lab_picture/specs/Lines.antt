@@ -1,4 +1,4 @@
--- All lines of a text.
+-- The lines of a text that isn't cut.
 use Rattle.std.specs.Prelude.{ℕ, ◌+◌, ◌==◌, cond, List, [], ◌∷◌, ◌++◌, length}
 use Rattle.lab_picture.specs.Text.{front, back, line_at}
 

@@ -1,4 +1,4 @@
--- Which rows the arrows name that are drawn from and to an operation.
+-- The rows that are named by the arrows of a drawn operation.
 use Rattle.std.specs.Prelude.{ℕ, ◌==◌, Bool, ◌&&◌, ◌||◌, is_some, List, map, filter}
 use Rattle.lab_table.specs.Row.{Row}
 use Rattle.lab_drawing.specs.declared.drawing.Arrow.{Arrow}

@@ -1,4 +1,4 @@
--- That a row which an arrow names stands in the boxes at both its ends.
+-- A row that an arrow names is in the boxes at both ends of the arrow.
 use Rattle.std.specs.Prelude.{◌≡◌, ℕ, false, List, Contains}
 use Rattle.lab_table.specs.Row.{Row}
 use Rattle.lab_history.specs.History.{History}

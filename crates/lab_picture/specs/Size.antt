@@ -1,4 +1,6 @@
--- A size.
+-- A width and a height as attributes.
+--
+-- Origin: SVG 1.1.
 use Rattle.std.specs.Prelude.{ℕ, List, ◌++◌, codes}
 use Rattle.std.specs.Fmt.{decimal}
 

@@ -1,4 +1,4 @@
--- The places at which arrows' ends are drawn, and how many operations a column has that is drawn.
+-- The positions at which the ends of arrows are drawn, and when only a few operations of a long column are drawn.
 use Rattle.std.specs.Prelude.{ℕ, max, nat_lt, Bool, cond, Option, List, [], ◌∷◌, length, codes}
 use Rattle.lab_history.specs.History.{History}
 use Rattle.lab_history.specs.Version.{ops_of}

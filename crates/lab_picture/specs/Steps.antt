@@ -1,4 +1,6 @@
--- The text of the arrows that are steps.
+-- The text of the arrows that are steps of a cycle.
+--
+-- Origin: SVG 1.1.
 use Rattle.std.specs.Prelude.{ℕ, ◌+◌, false, List, [], ◌∷◌, ◌++◌}
 use Rattle.lab_picture.specs.Arrows.{arrow_text}
 use Rattle.lab_picture.specs.Classes.{arrow_class}

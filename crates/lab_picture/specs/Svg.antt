@@ -1,4 +1,6 @@
 -- The text of a drawing, in SVG.
+--
+-- Origin: SVG 1.1.
 use Rattle.std.specs.Prelude.{ℕ, ◌+◌, ◌*◌, Bool, ◌||◌, List, ◌++◌, map, flat_map, length, codes}
 use Rattle.std.specs.Fmt.{decimal}
 use Rattle.lab_history.specs.History.{History}

@@ -1,4 +1,6 @@
--- Texts of a picture.
+-- The texts of a picture: lines and words, cut to their width.
+--
+-- Origin: SVG 1.1.
 use Rattle.std.specs.Prelude.{ℕ, ◌+◌, ◌-◌, ◌==◌, nat_le, ◌&&◌, cond, List, [], ◌∷◌, ◌++◌, length, take, drop, codes}
 use Rattle.std.specs.Fmt.{decimal}
 use Rattle.lab_drawing.specs.Text.{escaped}

@@ -1,4 +1,4 @@
--- That a text stands whole in the lines of another.
+-- A text is whole in the lines into which it is broken.
 use Rattle.std.specs.Prelude.{◌≡◌, ◌⊎◌, ℕ, ◌+◌, List, [], ◌∷◌, ◌++◌, take, ⊤}
 use Rattle.lab_picture.specs.Text.{depth_behind, last_outside}
 

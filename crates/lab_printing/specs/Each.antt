@@ -1,4 +1,4 @@
--- What holds of each element of a list, from the first on.
+-- A property of each element of a list, from the first on.
 use Rattle.std.specs.Prelude.{List, [], ◌∷◌}
 
 abbrev pub Each : {X : Type 0} → (X → Type 0) → List X → Type 0

@@ -1,4 +1,4 @@
--- The limits of a statement's text, and what is printed: statements whose printed form keeps them.
+-- The limits of a statement's text, and the statements and commands whose printed form keeps them.
 use Rattle.std.specs.Prelude.{ℕ, ◌≤◌, ◌<◌, length}
 use Rattle.lab_table.specs.declared.statement.Statement.{Statement}
 use Rattle.lab_table.specs.declared.statement.Command.{Command}

@@ -1,4 +1,4 @@
--- Which predicates and statements have each number in its range.
+-- Predicates and statements whose numbers are all in range.
 use Rattle.std.specs.Prelude.{◌≡◌, true, ℕ, ◌≤◌, ℤ, pos, negsuc, ◌≤ℤ◌, Option, Some, None}
 use Rattle.lab_table.specs.Predicate.{Predicate}
 use Rattle.lab_table.specs.Predicate as predicate

@@ -1,4 +1,4 @@
--- What a sink says of a text that it was handed.
+-- What a sink holds after a text was written to it.
 use Rattle.std.specs.Prelude.{ℕ, ◌+◌, ◌≤◌, ◌≡◌, Bool, true, false, List, ◌++◌, length, map, MatchBool}
 
 -- where a text was taken, it stands behind an older one, as far as its bytes are kept; it is refused only where both together have so many bytes as this limit

@@ -1,4 +1,6 @@
--- The phenomena that a report speaks of, and their names.
+-- The phenomena in the order of a report's lines, with their names.
+--
+-- Origin: names: Adya, Liskov and O'Neil, "Generalized Isolation Level Definitions" (2000).
 use Rattle.std.specs.Prelude.{ℕ, Option, List, [], ◌∷◌, codes, find}
 use Rattle.std.specs.Str.{bytes_eq}
 use Rattle.lab_judge.specs.Findings as found

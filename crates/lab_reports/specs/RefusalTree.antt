@@ -1,4 +1,6 @@
--- The JSON values that tell why there is no report on a file.
+-- The JSON values for a file without a report: refused, with its fault, or unreadable.
+--
+-- Origin: JSON: RFC 8259; the keys are this project's profile.
 use Rattle.std.specs.Prelude.{ℕ, true, Option, Some, List, [], ◌∷◌, codes}
 use Rattle.serde_json.specs.Data.{Data, boolean, string}
 use Rattle.lab_history.specs.declared.fault.FileFault.{FileFault}

@@ -1,4 +1,4 @@
--- What a requirement asks of a history, and that a report tells whether it is so.
+-- What a requirement means for a history, and that a report decides it.
 use Rattle.std.specs.Prelude.{◌≡◌, ◌≢◌, true, false, List}
 use Rattle.lab_history.specs.History.{History}
 use Rattle.lab_judge.specs.Judgement.{IsExactJudgement}

@@ -1,4 +1,4 @@
--- What may be asked of a report, and when a report meets it.
+-- The requirements of `--require`, and when a report meets one.
 use Rattle.std.specs.Prelude.{ℕ, nat_le, Bool, true, false, Option, List, [], ◌∷◌, codes, find}
 use Rattle.std.specs.Str.{bytes_eq}
 use Rattle.lab_judge.specs.ReportText.{grade_name}

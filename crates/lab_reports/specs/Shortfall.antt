@@ -1,4 +1,5 @@
--- What is said of a report that doesn't meet what was asked of it.
+-- The line on a report that doesn't meet a requirement: its level, and the first phenomenon that keeps it from the
+-- next level.
 use Rattle.std.specs.Prelude.{ℕ, nat_le, Bool, true, false, Option, Some, None, List, [], ◌∷◌, ◌++◌, length, take, codes, find, if◌then◌else◌}
 use Rattle.lab_judge.specs.ReportText.{circle_text, fault_text, grade_name}
 use Rattle.lab_judge.specs.declared.places.Places.{Places}

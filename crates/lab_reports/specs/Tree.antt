@@ -1,4 +1,6 @@
--- The JSON value of a report. The keys of each object stand in the order of their bytes.
+-- The JSON value of a report. The keys of each object are in the order of their bytes.
+--
+-- Origin: JSON: RFC 8259; the keys are this project's profile.
 use Rattle.std.specs.Prelude.{ℕ, Option, Some, None, List, [], ◌∷◌, ◌++◌, fold, codes}
 use Rattle.serde_json.specs.Data.{Data, string, object, Members, no_members, member, put}
 use Rattle.serde_json.specs.Written.{compact_text}

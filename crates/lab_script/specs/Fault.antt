@@ -1,4 +1,8 @@
--- What the fault of a script's text says.
+-- What the fault of a script's text states.
+--
+-- It is in the first faulty line, or the text ends before its setup. A line is faulty where, after what the lines
+-- before it spell, it spells nothing. Its fault is then the first that applies: the line is over a limit; it has a
+-- byte that isn't allowed; there is no setup yet, or a second one; or its tokens have a first fault from the left.
 use Rattle.std.specs.Prelude.{◌≡◌, ℕ, ◌+◌, ◌-◌, ◌||◌, not, nat_lt, true, false, Bool, if◌then◌else◌, ◌⊎◌, List, length, take, Option, Some, None, slice_get, is_some}
 use Rattle.std.specs.Option.{option_or}
 use Rattle.std.specs.Str.Lines.{lines}

@@ -1,4 +1,4 @@
--- Reading the setup and the commands of a line from left to right, to the end or to the first fault.
+-- Reading the setup, or the commands of a line, from left to right: the value read, or the first fault.
 use Rattle.std.specs.Prelude.{ℕ, zero, suc, ℤ, Bool, ◌&&◌, nat_le, length, if◌then◌else◌, List, [], ◌∷◌, ◌++◌, Option, Some, None, option_to_list, ◌-◌, take, drop}
 use Rattle.lab_table.specs.Row.{Row, numbered}
 use Rattle.lab_table.specs.TableName.{test_name}

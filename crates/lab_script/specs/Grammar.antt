@@ -1,4 +1,6 @@
 -- The grammar of a line: which tokens spell commands, and which a setup. Each rule is a constructor.
+--
+-- Origin: SQL's grammar, cut to this project's profile.
 use Rattle.std.specs.Prelude.{◌≡◌, ℕ, ◌≤◌, ℤ, true, List, [], ◌∷◌, ◌++◌, length, None}
 use Rattle.std.specs.FinMap as finite
 use Rattle.std.specs.List.{list_all}

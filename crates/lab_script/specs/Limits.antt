@@ -1,4 +1,4 @@
--- The limits of a script's text, and scripts whose printed form keeps them.
+-- The limits of a script's text, and the scripts whose printed form keeps them.
 use Rattle.std.specs.Prelude.{ℕ, ◌≤◌, ◌<◌, List, length}
 use Rattle.std.specs.List.{Contains}
 use Rattle.lab_table.specs.declared.statement.Command.{Command}

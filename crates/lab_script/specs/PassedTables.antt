@@ -1,4 +1,4 @@
--- The tables that are named among tokens which were read before reading stopped.
+-- The tables named among the tokens that were read before reading stopped.
 use Rattle.std.specs.Prelude.{ℕ, Bool, true, false, not, ◌&&◌, if◌then◌else◌, List, [], ◌∷◌, Option, Some, None, is_some}
 use Rattle.lab_table.specs.TableName.{test_name}
 use Rattle.lab_table.specs.declared.word.Word.TheVariants as word

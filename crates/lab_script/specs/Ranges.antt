@@ -1,4 +1,4 @@
--- Which scripts have each number in its range.
+-- Scripts whose numbers are all in range.
 use Rattle.std.specs.Prelude.{ℕ, ◌≤◌}
 use Rattle.std.specs.FinMap as finite
 use Rattle.lab_script.specs.declared.script.Line.{Line}

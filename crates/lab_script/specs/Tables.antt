@@ -1,4 +1,4 @@
--- The tables that a script names.
+-- The tables that a script names, each once, and their limit.
 use Rattle.std.specs.Prelude.{ℕ, ℤ, List, [], ◌∷◌, Option, Some, None}
 use Rattle.std.specs.FinMap as finite
 use Rattle.lab_table.specs.Row.{Row}

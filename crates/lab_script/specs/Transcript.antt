@@ -1,4 +1,7 @@
--- What a script does where its transactions run whole, in the order of their begins.
+-- The transcript of a script: its transactions run one after another, in the order of their begins.
+--
+-- Origin: serial execution: Bernstein, Hadzilacos and Goodman, "Concurrency Control and Recovery in Database Systems"
+-- (1987).
 use Rattle.std.specs.Prelude.{ℕ, ◌+◌, Bool, true, false, not, ◌==◌, if◌then◌else◌, List, [], ◌∷◌, ◌++◌, unwrap_or, ◌&&◌, Option, Some, None, option_map, codes}
 use Rattle.std.specs.Fmt.{decimal}
 use Rattle.lab_table.specs.Row.{Row, numbered}

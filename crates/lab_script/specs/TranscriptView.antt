@@ -1,4 +1,4 @@
--- A transcript as contracts see it, and the limits that its statements may break.
+-- A transcript as contracts see it: its text, and the limit that a statement in it breaks, if one does.
 use Rattle.std.specs.Prelude.{ℕ, nat_lt, cond, List, [], ◌∷◌, ◌++◌, length, Option, Some, None, codes}
 use Rattle.std.specs.Option.{option_or}
 use Rattle.lab_table.specs.Table.{Table}

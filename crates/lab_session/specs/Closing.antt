@@ -1,4 +1,4 @@
--- When the seats of a run have what its log says, and why a run isn't closed.
+-- When the handles of a run agree with its log, and why a run can't be closed.
 use Rattle.std.specs.Prelude.{◌≡◌, ℕ, ◌≤◌, ◌<◌, ◌==◌, List, count_by, Contains}
 use Rattle.std.specs.List.{All}
 use Rattle.lab_table.specs.Table.{Table}

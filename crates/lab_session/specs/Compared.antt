@@ -1,4 +1,4 @@
--- How far the list of a session's seat is its session's calls, in a walk of a log.
+-- How far the calls of a session handle agree with the log, while the log is read.
 use Rattle.std.specs.Prelude.{◌≡◌, ℕ, ◌≤◌, List, ◌++◌, length, take, Contains}
 use Rattle.lab_session.specs.declared.seat.Call.{Call}
 use Rattle.lab_session.specs.declared.comparison.Comparison.{Comparison}

@@ -1,4 +1,4 @@
--- What the threads of a free play hand on.
+-- What the threads of a free play return, and when a refusal of one is true.
 use Rattle.std.specs.Prelude.{◌≡◌, ◌≢◌, ℕ, ◌≤◌, ◌<◌, List, [], ◌∷◌, ◌++◌, Option, Some, None, IfSome, map, length, take, slice_index_or}
 use Rattle.std.specs.List.{All}
 use Rattle.lab_table.specs.Table.{Table}

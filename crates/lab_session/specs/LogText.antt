@@ -1,4 +1,4 @@
--- The text of a log: one line for each event.
+-- The text of a log: one line for each event, and whether all of its commands keep the limits of a text.
 use Rattle.std.specs.Prelude.{ℕ, List, [], ◌∷◌, ◌++◌, map, flat_map, codes}
 use Rattle.std.specs.List.{Contains}
 use Rattle.std.specs.Fmt.{decimal}

@@ -1,4 +1,4 @@
--- The line that tells why a play has no recording.
+-- The line that reports why a play has no recording.
 use Rattle.std.specs.Prelude.{ℕ, List, [], ◌++◌, codes}
 use Rattle.lab_printing.specs.Printed.{newline}
 use Rattle.lab_history.specs.LimitName.{limit_name}

@@ -1,4 +1,4 @@
--- What a turn under the lock of a lab does to the log and to a seat, and the turns in which a command is answered.
+-- What one turn under a lab's lock does to the log and to a session handle, and which turns return a result.
 use Rattle.std.specs.Prelude.{◌≡◌, ◌⊎◌, Bool, true, false, Some, None, length}
 use Rattle.lab_table.specs.declared.statement.Command.{Command}
 use Rattle.lab_engine.specs.Engine.{IsStep, IsRetry}

@@ -1,4 +1,4 @@
--- What a play by one thread knows after each event.
+-- A play by one thread after each event.
 use Rattle.std.specs.Prelude.{◌≡◌, ◌==◌, ℕ, ◌+◌, ◌≤◌, cond, List, [], ◌∷◌, ◌++◌, length, drop, unwrap_or, ⊤}
 use Rattle.lab_table.specs.Sessions.{of_session}
 use Rattle.lab_table.specs.Table.{Table}

@@ -1,4 +1,4 @@
--- What a seat holds after a call in a lab was refused, and what the refusal says.
+-- What a session handle holds after a refused call, and what the refusal states.
 use Rattle.std.specs.Prelude.{◌≡◌, ℕ, Bool, true, false, cond, Some, None, IsSome}
 use Rattle.lab_table.specs.declared.statement.Command.{Command}
 use Rattle.lab_engine.specs.Journal.{EngineRun}

@@ -1,4 +1,7 @@
--- What a history has to show while it is made smaller.
+-- What a history must still show while it is made smaller: a no by a cycle, a fault of a kind, or a phenomenon.
+--
+-- Origin: test cases and their outcomes: Zeller and Hildebrandt, "Simplifying and Isolating Failure-Inducing Input"
+-- (2002); the goals are this project's profile.
 use Rattle.std.specs.Prelude.{◌≡◌, ℕ, Bool, true, false, cond, Option, Some, None, List, ⊤}
 use Rattle.lab_table.specs.Row.{Row}
 use Rattle.lab_history.specs.History.{History}

@@ -1,4 +1,4 @@
--- What is left of a history that was made smaller.
+-- The result of making a history smaller: part of it, which still shows the goal.
 use Rattle.lab_history.specs.History.{History}
 use Rattle.lab_cut.specs.PartOf.{IsPartOf}
 use Rattle.lab_shrink.specs.Goals.{Shows}

@@ -1,4 +1,5 @@
--- What `shrink` says of an input.
+-- The output of `shrink`: the file of a smaller history that shows the same, the input itself, or the first fault of
+-- the file.
 use Rattle.std.specs.Prelude.{◌≡◌, ℕ, List, Option, Some}
 use Rattle.serde_json.specs.Written.{compact_text}
 use Rattle.lab_history.specs.History.{History}

@@ -1,4 +1,4 @@
--- What is said of as much of an input as is read is said of all of it.
+-- A lemma: a fact about the part of an input that was read holds for the whole input.
 use Rattle.std.proofs.Common.{inl, inr, ℕ, ◌≤◌, List, Option, length, take_all, subst, arith}
 use Rattle.lab_history.specs.Limits.{max_file_bytes}
 use Rattle.lab_reports.specs.declared.phenomenon.Phenomenon.{Phenomenon}

@@ -113,6 +113,8 @@ struct Shrinker<'p, P: Write> {
     asked: Option<Phenomenon>,
     progress: Progress<'p, P>,
     remark: Remark,
+    /// Why the file was refused, once it was.
+    fault: Option<FileFault>,
 }
 
 impl<'p, P: Write> Shrinker<'p, P> {
@@ -153,15 +155,18 @@ impl<'p, P: Write> Subcommand for Shrinker<'p, P> {
         match read_history(alloc, input) {
             Ok(history) => self.shrunk(alloc, input, &history),
             Err(FileFault::NoMemory) => Err(AllocError),
-            Err(fault) => Ok(Answer {
-                text: print_refused(alloc, Format::Lines, None, &fault)?,
-                ending: Ending::Refused,
-            }),
+            Err(fault) => {
+                self.fault = Some(fault);
+                Ok(Answer {
+                    text: print_refused(alloc, Format::Lines, None, &fault)?,
+                    ending: Ending::Refused,
+                })
+            }
         }
     }
 
     fn note<N: Write>(&self, alloc: Global, input: &[u8], ending: Ending, notes: &mut N) {
-        note_file(alloc, input, ending == Ending::Refused, notes);
+        note_file(alloc, input, self.fault, notes);
         self.remark.note(notes);
     }
 
@@ -190,6 +195,7 @@ pub fn shrink<R: Read, W: Write, N: Write, P: Write>(
         asked,
         progress,
         remark: Remark::Nothing,
+        fault: None,
     };
     answer_input(alloc, shrinker, reader, writer, notes)
 }

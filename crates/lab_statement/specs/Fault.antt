@@ -1,4 +1,4 @@
--- What a fault says of the text of one statement, and its line.
+-- What the fault of a statement's text states, and the line that reports it.
 use Rattle.std.specs.Prelude.{◌≡◌, ℕ, ◌<◌, ◌≤◌, ◌⊎◌, true, false, List, [], ◌++◌, length, Some, codes}
 use Rattle.std.specs.Fmt.{decimal}
 use Rattle.std.specs.List.{list_all}

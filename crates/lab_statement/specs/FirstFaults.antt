@@ -1,4 +1,5 @@
--- Reading a statement from left to right, to the end or to the first fault: the fault that the text of one statement has.
+-- Reading a statement from left to right: the statement, or the first fault. An unknown token after a `where` is a
+-- bad predicate.
 use Rattle.std.specs.Prelude.{◌≡◌, ℕ, ◌-◌, Bool, true, false, nat_le, ◌==◌, length, take, if◌then◌else◌, List, [], ◌∷◌, Option, Some, None, Result, Ok, Err}
 use Rattle.lab_table.specs.declared.statement.Command.{Command}
 use Rattle.lab_table.specs.declared.statement.Command.TheVariants as command

@@ -1,4 +1,6 @@
 -- The grammar of a statement: which tokens spell what. Each rule is a constructor.
+--
+-- Origin: SQL's grammar, cut to this project's profile.
 use Rattle.std.specs.Prelude.{◌≡◌, ℕ, suc, ◌≤◌, ℤ, pos, ◌-ℤ◌, List, [], ◌∷◌, ◌++◌, length, Option, Some, None}
 use Rattle.lab_table.specs.Predicate.{Predicate}
 use Rattle.lab_table.specs.Predicate as predicate

@@ -1,4 +1,4 @@
--- Reading tokens from left to right: a value and the tokens behind it, or nothing.
+-- Reading tokens from left to right: a value and the tokens after it, or nothing.
 use Rattle.std.specs.Prelude.{Bool, if◌then◌else◌, List, [], ◌∷◌, Option, Some, None}
 use Rattle.lab_statement.specs.declared.token.Token.{Token}
 use Rattle.lab_statement.specs.contracts.token.TokenPartialEq.TheImpl as compared

@@ -1,4 +1,4 @@
--- The statement that a text spells, as a function of the text.
+-- The statement that a text spells, as a function of the text. The function agrees with the grammar.
 use Rattle.std.specs.Prelude.{ℕ, Bool, ◌&&◌, ◌==◌, nat_le, if◌then◌else◌, List, length, Option, None}
 use Rattle.std.specs.List.{list_all}
 use Rattle.lab_table.specs.declared.statement.Statement.{Statement}

@@ -1,4 +1,5 @@
--- Reading tokens from left to right: what is read, or the first fault and the tokens that are left where it stands.
+-- Reading tokens from left to right, rule by rule of the grammar: the value read, or the first fault and the tokens
+-- from there on.
 use Rattle.std.specs.Prelude.{◌≡◌, ℕ, zero, suc, ℤ, pos, ◌-ℤ◌, ◌&&◌, nat_le, length, if◌then◌else◌, List, [], ◌∷◌, ◌++◌, Option, Some, None, Result, Ok, Err}
 use Rattle.lab_table.specs.Predicate.{Predicate}
 use Rattle.lab_table.specs.Predicate as predicate

@@ -1,4 +1,4 @@
--- The tokens of a text, as they are read: byte after byte, with what has been read of a token so far.
+-- The tokens of a text as a function, byte by byte. A byte that begins no token is unknown.
 use Rattle.std.specs.Prelude.{ℕ, ◌+◌, ◌-◌, ◌*◌, Bool, true, false, ◌||◌, ◌==◌, if◌then◌else◌, List, [], ◌∷◌, ◌++◌, Option, Some, None, is_some, option_map, unwrap_or, min}
 use Rattle.std.specs.Char.{to_ascii_lowercase, is_ascii_alphabetic, is_ascii_digit}
 use Rattle.lab_table.specs.TableName.{is_table_name}

@@ -1,4 +1,6 @@
--- Which tokens a text has: each is as long as it can be, and spaces and tabs only separate.
+-- Which tokens a text has: each is as long as possible, and spaces and tabs only separate.
+--
+-- Origin: longest match, as usual for lexers.
 use Rattle.std.specs.Prelude.{◌≡◌, ℕ, ◌≤◌, ◌+◌, ◌-◌, ◌*◌, true, List, [], ◌∷◌, ◌++◌, Contains, fold, length, map, min, codes}
 use Rattle.std.specs.List.{list_all}
 use Rattle.std.specs.Char.{to_ascii_lowercase, is_ascii_digit}

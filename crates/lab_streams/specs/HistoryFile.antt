@@ -1,4 +1,4 @@
--- What is said of an input that is to be a history file.
+-- The output for an input that should be a history file: its result, or the file's first fault.
 use Rattle.std.specs.Prelude.{◌≡◌, ◌⊎◌, ℕ, None, List}
 use Rattle.lab_history.specs.History.{History}
 use Rattle.lab_history.specs.declared.fault.FileFault.{FileFault}

@@ -1,4 +1,4 @@
--- What is read of an input.
+-- What is read from an input: at most 8,388,609 bytes, one more than a history file may have.
 use Rattle.std.specs.Prelude.{◌≡◌, ◌≢◌, ◌⊎◌, ℕ, ◌+◌, List, ◌++◌, take, Option, IfSome, Result, MatchResult}
 use Rattle.std.specs.Io.KnownBytes.{Consumes}
 use Rattle.lab_history.specs.Limits.{max_file_bytes}

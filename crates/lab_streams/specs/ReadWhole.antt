@@ -1,4 +1,4 @@
--- What is so of as much of an input as is read is so of all of it.
+-- Lemmas: a fact about the part of an input that was read holds for the whole input.
 use Rattle.std.proofs.Common.{◌≡◌, inl, inr, ℕ, ◌≤◌, ◌<◌, List, length, take_all, arith}
 use Rattle.std.proofs.lemmas.List.{length-take}
 use Rattle.std.specs.Prelude.{min}

@@ -1,4 +1,4 @@
--- What is written of a report or of a file without one, and how that ends.
+-- The output of a report, in lines or in JSON, or of a refused file, and how the run ends.
 use Rattle.std.specs.Prelude.{ℕ, List, [], ◌++◌, Option, Some, None, cond, codes}
 use Rattle.lab_history.specs.declared.fault.FileFault.{FileFault}
 use Rattle.lab_judge.specs.FileFaultText.{file_fault_text}

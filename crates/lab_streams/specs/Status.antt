@@ -1,4 +1,4 @@
--- The program's exit statuses.
+-- The program's exit status for each ending and each fault.
 use Rattle.std.specs.Prelude.{ℕ}
 use Rattle.lab_streams.specs.declared.ending.Ending.{Ending}
 use Rattle.lab_streams.specs.declared.ending.Ending.TheVariants.{Done, Unmet, Refused}

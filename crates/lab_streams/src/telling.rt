@@ -37,6 +37,8 @@ pub trait Teller: Drop {
 struct OfFile<T: Teller> {
     teller: T,
     format: Format,
+    /// Why the file was refused, once it was.
+    fault: Option<FileFault>,
 }
 
 impl<T: Teller> Subcommand for OfFile<T> {
@@ -48,15 +50,18 @@ impl<T: Teller> Subcommand for OfFile<T> {
         match read_history(alloc, input) {
             Ok(history) => self.teller.tell(alloc, &history),
             Err(FileFault::NoMemory) => Err(AllocError),
-            Err(fault) => Ok(Answer {
-                text: print_refused(alloc, self.format, None, &fault)?,
-                ending: Ending::Refused,
-            }),
+            Err(fault) => {
+                self.fault = Some(fault);
+                Ok(Answer {
+                    text: print_refused(alloc, self.format, None, &fault)?,
+                    ending: Ending::Refused,
+                })
+            }
         }
     }
 
     fn note<N: Write>(&self, alloc: Global, input: &[u8], ending: Ending, notes: &mut N) {
-        note_file(alloc, input, ending == Ending::Refused, notes);
+        note_file(alloc, input, self.fault, notes);
         self.teller.note(notes);
     }
 
@@ -81,5 +86,10 @@ pub fn tell_history<T: Teller, R: Read, W: Write, N: Write>(
     ensures silent { IfErr result (λ fault. (fault ≡ RunFault.Unwritten) ⊎ Keeps (W.contents writer.old) (W.contents writer.new)) }
     ensures hint_last { OnErr result (Keeps (N.contents notes.old) (N.contents notes.new)) }
 {
-    answer_input(alloc, OfFile { teller, format }, reader, writer, notes)
+    let of_file = OfFile {
+        teller,
+        format,
+        fault: None,
+    };
+    answer_input(alloc, of_file, reader, writer, notes)
 }

@@ -1,4 +1,4 @@
--- Where two texts of the same length differ.
+-- Where two texts of the same length differ, as the bits of a number.
 use Rattle.std.specs.Prelude.{ℕ, Bool, not, ◌==◌, List}
 use Rattle.std.specs.Simd.Lanes.{zip2, mask_l}
 

@@ -1,4 +1,4 @@
--- Which rows a statement names by their numbers.
+-- Which rows a statement names by their numbers: by `id = n`, by `id in (..)`, or as the row of an insert.
 use Rattle.std.specs.Prelude.{◌≡◌, ◌≤◌, ℕ, ℤ, pos, ◌⊎◌, Bool, Option, Some, None, List}
 use Rattle.std.specs.List.{list_any}
 use Rattle.std.specs.Ordering.{int_eq}

@@ -1,4 +1,4 @@
--- A short text in sixteen bytes, with zeros behind it.
+-- A short text in sixteen bytes, with zeros after it.
 use Rattle.std.specs.Prelude.{ℕ, ◌-◌, Bool, not, ◌==◌, List, ◌++◌, length, replicate}
 use Rattle.std.specs.List.{take_while}
 

@@ -1,4 +1,4 @@
--- A row's entry in a list.
+-- The position of a row's entry in a list.
 use Rattle.std.specs.Prelude.{ℕ, Bool, false, Option, Some, None, List, slice_get}
 use Rattle.lab_table.specs.Row.{Row, row_test, is_in}
 

@@ -1,4 +1,6 @@
--- The names of tables.
+-- The names of tables: 1 to 16 lower-case letters and underscores that are no reserved word.
+--
+-- Origin: SQL's identifiers, cut to this project's profile.
 use Rattle.std.specs.Prelude.{ℕ, Bool, not, ◌&&◌, ◌||◌, ◌==◌, nat_le, List, length, map, codes}
 use Rattle.std.specs.List.{list_all}
 use Rattle.std.specs.Char.{to_ascii_lowercase, is_ascii_lowercase}

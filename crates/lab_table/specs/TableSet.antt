@@ -1,4 +1,4 @@
--- Sets of names of tables.
+-- Sets of table names, and their limit.
 use Rattle.std.specs.Prelude.{ℕ, ◌≤◌, Bool, cond, nat_le, List, [], ◌∷◌, ◌++◌, length, take}
 use Rattle.std.specs.List.{list_any}
 use Rattle.std.proofs.Common.{sym, subst}

@@ -1,4 +1,4 @@
--- Whether a condition has a test of a row's value, and not of the row's number alone.
+-- Whether a condition tests a row's value, or the row's number alone.
 use Rattle.std.specs.Prelude.{ℤ, Bool, false, ◌≡◌, ◌||◌, Option, Some, None}
 use Rattle.lab_table.specs.Row.{Row}
 use Rattle.lab_table.specs.Predicate.{Predicate, Compare, Remainder, OneOf, Not, And, Or, by_id}

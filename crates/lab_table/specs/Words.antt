@@ -1,4 +1,6 @@
--- The reserved words of scripts.
+-- The reserved words of scripts, each with its spelling.
+--
+-- Origin: SQL's reserved words, cut to this project's profile.
 use Rattle.std.specs.Prelude.{ℕ, Bool, List, [], ◌∷◌, find, Option, is_some, option_map, codes}
 use Rattle.std.specs.Str.{bytes_eq}
 use Rattle.lab_table.specs.declared.word.Word.{Word}
