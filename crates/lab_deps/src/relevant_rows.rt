@@ -33,7 +33,7 @@ pub fn passes_by(
         return true;
     }
     if asked.is_ready() {
-        // The answers were asked for; the condition is long, and its test of the id alone costs as much as a walk.
+        // The condition is long: its tests of the id cost more than a walk along the results.
         return false;
     }
     !op.statement.may_match(row)

@@ -32,9 +32,9 @@ impl Rows {
 pub struct Listed {
     /// The row and the value of each, 0 where the row is absent.
     rows: Vec<(RowName, Value)>,
-    /// For each the index of its value among the values.
+    /// The index of each one's value among the values.
     numbers: Vec<u32>,
-    /// The different values, by rising value.
+    /// The different values, ascending.
     values: Vec<Value>,
 }
 
@@ -48,7 +48,7 @@ impl Listed {
         }
     }
 
-    /// The states of rows before and after the version that a transaction installed of each, in turn.
+    /// For each of these rows the state before the version that the installer installed, and the state after it.
     pub fn around(
         alloc: Global,
         history: &History,
@@ -77,12 +77,12 @@ impl Listed {
         self.rows.len()
     }
 
-    /// The values of the states from one on and before another.
+    /// The states from index `from` to before `to`.
     pub fn between(&self, from: usize, to: usize) -> &[(RowName, Value)] {
         self.rows.get(from..to).unwrap_or(&[])
     }
 
-    /// For each state the index of its value.
+    /// The index of each state's value.
     pub fn numbers(&self) -> &[u32] {
         &self.numbers
     }
@@ -108,7 +108,7 @@ impl Listed {
         Ok(())
     }
 
-    /// Numbers the values.
+    /// Collects the different values, and notes the index of each state's value.
     fn number(&mut self) -> Result<(), NoMemory> {
         self.values.try_reserve(self.rows.len())?;
         for row in &self.rows {
