@@ -12,8 +12,8 @@ returns-then-not-reaches c =
 pub mark_installers-requires-clause-most : goal.mark_installers-requires-clause-most
 mark_installers-requires-clause-most c k = subst (λ ns. get_or ns k 0 ≤ c.greatest-most.result) (c.deref.ensures.value ∙ sym c.deref-2.ensures.value) (c.greatest-most.ensures k)
 
-pub returns-else-not-reaches : goal.returns-else-not-reaches
-returns-else-not-reaches c made es so_far fit =
+pub returns : goal.returns
+returns c made es so_far fit =
     let s = c.args.statement.now in
     let r = c.args.reading in
     let chain = c.args.versions.now in
