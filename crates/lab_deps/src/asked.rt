@@ -171,13 +171,7 @@ impl<'a> Asked<'a> {
 
     /// Whether there are results for all of these versions of a row, all equal to `answer`. The index is that of the state
     /// before the versions. False doesn't say that a result differs.
-    pub fn all_answer(
-        &self,
-        row: RowName,
-        answer: bool,
-        index: usize,
-        versions: &[Version],
-    ) -> bool
+    pub fn all_answer(&self, row: RowName, answer: bool, index: usize, versions: &[Version]) -> bool
         ensures { result ≡ true → list_all (λ v. not (differ answer (matches self.now row v.value))) versions.now ≡ true }
     {
         if self.is_ready() && row.table == self.statement.table {
@@ -232,7 +226,12 @@ impl<'a> Asked<'a> {
             let place = index.wrapping_sub(self.first);
             answer_of_row(self.rows, &self.by_row, place, row, value)
         } else {
-            answer_of_value(self.values, &self.by_value, number_at(self.numbers, index), value)
+            answer_of_value(
+                self.values,
+                &self.by_value,
+                number_at(self.numbers, index),
+                value,
+            )
         }
     }
 }
@@ -258,12 +257,7 @@ fn answer_of_row(
 
 /// The result at a position, if it is for this value.
 #[inline(always)]
-fn answer_of_value(
-    values: &[Value],
-    answers: &[bool],
-    place: usize,
-    value: Value,
-) -> Option<bool>
+fn answer_of_value(values: &[Value], answers: &[bool], place: usize, value: Value) -> Option<bool>
     ensures { IfSome result (λ answer. (slice_get values.now place ≡ Some value) × (slice_get answers.now place ≡ Some answer)) }
 {
     let found = *values.get(place)?;
@@ -285,7 +279,10 @@ fn condition(statement: &Statement) -> Option<&Pred>
 {
     match &statement.kind {
         StatementKind::Select { pred: Some(pred) } => Some(pred),
-        StatementKind::Update { pred: Some(pred), .. } => Some(pred),
+        StatementKind::Update {
+            pred: Some(pred),
+            ..
+        } => Some(pred),
         StatementKind::Delete { pred: Some(pred) } => Some(pred),
         StatementKind::Select { pred: None }
         | StatementKind::Update { pred: None, .. }

@@ -116,14 +116,7 @@ pub fn first_meeting(
     let mut near = Near::new();
     for row in rows {
         if meets(
-            history,
-            kind,
-            installer,
-            reader,
-            op,
-            statement,
-            *row,
-            &mut near,
+            history, kind, installer, reader, op, statement, *row, &mut near,
         ) {
             return Some(*row);
         }
@@ -279,13 +272,7 @@ fn turns_in(
 }
 
 /// Whether exactly one of the version of a row at a place, counted from 1, and the one before matches a statement.
-fn turns(
-    history: &History,
-    statement: &Asked,
-    row: RowName,
-    place: usize,
-    near: &mut Near,
-) -> bool
+fn turns(history: &History, statement: &Asked, row: RowName, place: usize, near: &mut Near) -> bool
     ensures { result ≡ turns history.now statement.now row place }
 {
     let installers = installers(history, row);

@@ -60,7 +60,9 @@ impl Listed {
         let mut first = Hints::new();
         let mut second = Hints::new();
         for row in rows {
-            let place = history.installer_place_near(*row, installer, &mut near).unwrap_or(0);
+            let place = history
+                .installer_place_near(*row, installer, &mut near)
+                .unwrap_or(0);
             let installers = installers(history, *row);
             let start = place.saturating_sub(1);
             let before = state_after_near(history, *row, installers, start, &mut first);
@@ -142,11 +144,7 @@ fn value_or_zero(value: Option<Value>) -> Option<Value> {
 
 /// The rows that have installers, numbered in their order, with their versions, by the places of the committed
 /// transactions; NoMemory where an allocation was refused.
-pub fn versions_of_rows(
-    alloc: Global,
-    history: &History,
-    places: &[u16],
-) -> Result<Rows, NoMemory>
+pub fn versions_of_rows(alloc: Global, history: &History, places: &[u16]) -> Result<Rows, NoMemory>
     requires { HasPlaces history.now places.now }
     ensures { IfOk result (λ rows. rows.versions.entries ≡ rows_of history.now) }
 {
@@ -155,10 +153,21 @@ pub fn versions_of_rows(
     let mut rows = IndexMap::new(alloc);
     for (row, installers) in history.installed().entries() {
         let first = listed.len();
-        let versions = Versions::of(alloc, history, places, most, *row, installers.as_slice(), first)?;
+        let versions = Versions::of(
+            alloc,
+            history,
+            places,
+            most,
+            *row,
+            installers.as_slice(),
+            first,
+        )?;
         listed.add(*row, &versions)?;
         rows.insert(*row, versions)?;
     }
     listed.number()?;
-    Ok(Rows { versions: rows, listed })
+    Ok(Rows {
+        versions: rows,
+        listed,
+    })
 }
