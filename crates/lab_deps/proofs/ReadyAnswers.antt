@@ -34,7 +34,7 @@ module _ (s : Statement) (p : Predicate) (condition : (row : Row) (value : ℤ) 
   rows_asked rows by_row are = record {
     of_values = λ k row value answer own there answered. absurd (none_there k value there);
     of_rows = λ k row other value answer own same there answered.
-      condition row value own ∙ (ap (λ i. holds p i value) (sym same) ∙ mapped_there (λ e. holds p e.0.id e.1) rows by_row are k (other, value) answer there answered);
+        condition row value own ∙ (ap (λ i. holds p i value) (sym same) ∙ mapped_there (λ e. holds p e.0.id e.1) rows by_row are k (other, value) answer there answered);
   }
 
 module _ (s t : Statement) (values : List ℤ) (by_value : List Bool) (rows : List (Row × ℤ)) (by_row : List Bool) (are : AreAsked s values by_value rows by_row) (same : s ≡ t) (row : Row) (value : ℤ) (own : row.table ≡ t.table) where

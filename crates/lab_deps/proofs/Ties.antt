@@ -44,7 +44,7 @@ module _ (h : History) (s : Statement) (row : Row) where
     of_either is u turned =
         elim is [
           | inl may ↦ ap (λ b. b && u) (sym may)
-          | inr turns ↦ either_test (may_match s row) (turns_in h s row place) u (λ off. turns_off off place) turned ∙ ap (λ b. b && u) (sym turns)
+          | inr turn ↦ either_test (may_match s row) (turns_in h s row place) u (λ off. turns_off off place) turned ∙ ap (λ b. b && u) (sym turn)
         ]
 
     pub read_tested : ((test ≡ may_match s row) ⊎ (test ≡ turns_in h s row place)) → (seen : Option ℕ)

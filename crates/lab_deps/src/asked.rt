@@ -1,4 +1,4 @@
-//! A statement that is asked of many versions of rows.
+//! A statement whose condition is tested on many versions of rows.
 
 ghost use Rattle.std.specs.Prelude.{◌≡◌, ℕ, ℤ, true, false, not, Some, slice_get, IfOk, IfSome};
 ghost use Rattle.std.specs.List.{list_all};
@@ -16,22 +16,22 @@ use lab_table::{NoMemory, Pred, PredKind, RowName, Statement, StatementKind, Val
 use std::alloc::Global;
 use std::marker::Model;
 
-/// A statement, and of which values or rows its condition is true.
+/// A statement, with results of its condition that were computed beforehand.
 ///
-/// A condition without a test of the id is asked once for each different value, any other once for each version of a row.
-/// A statement without a condition, or whose condition is short, is asked of each version when that is met.
+/// There is a result for each different value if the condition has no test of the id, else for each version of some rows.
+/// There is none if the statement has no condition or a short one: then each version is tested when it is met.
 #[derive(Drop)]
 pub struct Asked<'a> {
     statement: &'a Statement,
-    /// For each listed version the index of its value.
+    /// The index of each listed version's value.
     numbers: &'a [u32],
     values: &'a [Value],
-    /// For each value whether the condition is true of it and any id.
+    /// For each value, whether the condition is true of it, with any id.
     by_value: Vec<bool>,
     rows: &'a [(RowName, Value)],
-    /// For each row whether the condition is true of its id and its value.
+    /// For each of these versions, whether the condition is true of the row's id and this value.
     by_row: Vec<bool>,
-    /// The index of the first of these rows among the listed versions.
+    /// The index of the first of these versions among all that are listed.
     first: usize,
 }
 
@@ -50,7 +50,7 @@ impl<'a> Model for Asked<'a> {
 }
 
 impl<'a> Asked<'a> {
-    /// A statement that is asked of each version when that is met.
+    /// A statement that is tested on each version when that is met.
     pub fn by_version(alloc: Global, statement: &'a Statement) -> Asked<'a>
         ensures { result ≡ statement.now }
     {
@@ -65,7 +65,7 @@ impl<'a> Asked<'a> {
         }
     }
 
-    /// A statement that is asked now of the versions that are listed from one on and before another, or of all values.
+    /// A statement with its results for the listed versions from index `from` to before `to`, or for all listed values.
     pub fn of(
         alloc: Global,
         statement: &'a Statement,
@@ -82,7 +82,8 @@ impl<'a> Asked<'a> {
                     Ok(Asked::by_version(alloc, statement))
                 } else if names_id(pred) {
                     Asked::by_row(alloc, statement, pred, listed.between(from, to), from)
-                } else if listed.values().len() > to.wrapping_sub(from) {
+                } else if listed.values().len() / 64 > to.wrapping_sub(from) {
+                    // 64 values at a time cost about as much as a version.
                     Asked::by_row(alloc, statement, pred, listed.between(from, to), from)
                 } else {
                     Asked::by_value(alloc, statement, pred, listed)
@@ -91,7 +92,7 @@ impl<'a> Asked<'a> {
         }
     }
 
-    /// The same, where the condition has no test of an id.
+    /// A statement with its results for all listed values; its condition has no test of the id.
     fn by_value(
         alloc: Global,
         statement: &'a Statement,
@@ -116,7 +117,7 @@ impl<'a> Asked<'a> {
         })
     }
 
-    /// The same, where it may have one.
+    /// A statement with its results for versions of rows, the first of which has the index `first`.
     fn by_row(
         alloc: Global,
         statement: &'a Statement,
@@ -140,7 +141,7 @@ impl<'a> Asked<'a> {
         })
     }
 
-    /// Whether answers are ready.
+    /// Whether there are results.
     pub fn is_ready(&self) -> bool {
         !self.by_value.is_empty() || !self.by_row.is_empty()
     }
@@ -152,7 +153,7 @@ impl<'a> Asked<'a> {
         self.statement.tests_values()
     }
 
-    /// Whether a row in a state matches the statement. The answer is looked for at an index of the listed versions first.
+    /// Whether a row in a state matches the statement. The result at the index is used if it is for this state.
     #[inline(always)]
     pub fn matches(&self, row: RowName, state: Option<Value>, index: usize) -> bool
         ensures { result ≡ matches self.now row state }
@@ -168,15 +169,9 @@ impl<'a> Asked<'a> {
         self.statement.matches(row, Some(value))
     }
 
-    /// Whether answers are ready for all of these versions of a row, and all are the same as this one. The index is that of
-    /// the state before them.
-    pub fn all_answer(
-        &self,
-        row: RowName,
-        answer: bool,
-        index: usize,
-        versions: &[Version],
-    ) -> bool
+    /// Whether there are results for all of these versions of a row, all equal to `answer`. The index is that of the state
+    /// before the versions. False doesn't say that a result differs.
+    pub fn all_answer(&self, row: RowName, answer: bool, index: usize, versions: &[Version]) -> bool
         ensures { result ≡ true → list_all (λ v. not (differ answer (matches self.now row v.value))) versions.now ≡ true }
     {
         if self.is_ready() && row.table == self.statement.table {
@@ -185,7 +180,7 @@ impl<'a> Asked<'a> {
         false
     }
 
-    /// The same for a row of the statement's table.
+    /// As `all_answer`, for a row of the statement's table.
     fn all_answer_in_table(
         &self,
         row: RowName,
@@ -206,7 +201,7 @@ impl<'a> Asked<'a> {
         true
     }
 
-    /// Whether the answer for a state is ready, and is this one.
+    /// Whether there is a result for a state at the index, equal to `answer`.
     #[inline(always)]
     fn answers_so(&self, row: RowName, answer: bool, index: usize, state: Option<Value>) -> bool
         requires { row.table ≡ self.now.table }
@@ -221,7 +216,7 @@ impl<'a> Asked<'a> {
         }
     }
 
-    /// The answer for a row of the statement's table with this value, if it is ready there.
+    /// The result at the index, if it is for this row and value. The row is one of the statement's table.
     #[inline(always)]
     fn answer(&self, row: RowName, value: Value, index: usize) -> Option<bool>
         requires { row.table ≡ self.now.table }
@@ -231,12 +226,17 @@ impl<'a> Asked<'a> {
             let place = index.wrapping_sub(self.first);
             answer_of_row(self.rows, &self.by_row, place, row, value)
         } else {
-            answer_of_value(self.values, &self.by_value, number_at(self.numbers, index), value)
+            answer_of_value(
+                self.values,
+                &self.by_value,
+                number_at(self.numbers, index),
+                value,
+            )
         }
     }
 }
 
-/// The answer at a place, if there it is that for a row with this id and a value.
+/// The result at a position, if it is for a row with this id and for this value.
 #[inline(always)]
 fn answer_of_row(
     rows: &[(RowName, Value)],
@@ -255,14 +255,9 @@ fn answer_of_row(
     }
 }
 
-/// The answer at a place, if there it is that for a value.
+/// The result at a position, if it is for this value.
 #[inline(always)]
-fn answer_of_value(
-    values: &[Value],
-    answers: &[bool],
-    place: usize,
-    value: Value,
-) -> Option<bool>
+fn answer_of_value(values: &[Value], answers: &[bool], place: usize, value: Value) -> Option<bool>
     ensures { IfSome result (λ answer. (slice_get values.now place ≡ Some value) × (slice_get answers.now place ≡ Some answer)) }
 {
     let found = *values.get(place)?;
@@ -284,7 +279,10 @@ fn condition(statement: &Statement) -> Option<&Pred>
 {
     match &statement.kind {
         StatementKind::Select { pred: Some(pred) } => Some(pred),
-        StatementKind::Update { pred: Some(pred), .. } => Some(pred),
+        StatementKind::Update {
+            pred: Some(pred),
+            ..
+        } => Some(pred),
         StatementKind::Delete { pred: Some(pred) } => Some(pred),
         StatementKind::Select { pred: None }
         | StatementKind::Update { pred: None, .. }
@@ -293,7 +291,7 @@ fn condition(statement: &Statement) -> Option<&Pred>
     }
 }
 
-/// Whether a condition is so short that it costs no more than to look for its answer: a comparison, or two that are joined.
+/// Whether testing the condition costs no more than looking up a result: one comparison, or two that are joined.
 fn is_short(pred: &Pred) -> bool {
     match &pred.kind {
         PredKind::Compare { .. } => true,

@@ -13,9 +13,9 @@ use crate::asked::Asked;
 use crate::edge::Edge;
 use crate::reading::Reading;
 use crate::row_sink::RowSink;
+use crate::rows::versions_of_rows;
 use crate::scope::{Scope, add_edges};
 use crate::sink::EdgeSink;
-use crate::rows::versions_of_rows;
 use crate::turns::greatest;
 use crate::versions::Versions;
 use crate::walk::turned_along;
@@ -127,7 +127,8 @@ impl Gatherer {
         if !self.arrows.reaches(reader, most) {
             return reading.unlisted().add_edges(self, statement, versions);
         }
-        self.arrows.mark_installers(&self.turned, most, reader, reading.place);
+        self.arrows
+            .mark_installers(&self.turned, most, reader, reading.place);
         Ok(())
     }
 }

@@ -171,8 +171,7 @@ fn least_among(
     Ok(row)
 }
 
-/// The states of rows before and after an installer's versions, where a kind of dependency is by what a statement matches;
-/// else none.
+/// The states of rows before and after an installer's versions, if this kind of dependency is by predicate; else none.
 fn changes_of(
     alloc: Global,
     history: &History,
@@ -187,7 +186,7 @@ fn changes_of(
     }
 }
 
-/// A statement that is asked of listed states now, where a kind of dependency is by what it matches.
+/// A statement, with its results for the listed states if this kind of dependency is by predicate.
 fn asked_of<'a>(
     alloc: Global,
     kind: Kind,
@@ -203,7 +202,7 @@ fn asked_of<'a>(
     }
 }
 
-/// Whether a dependency of this kind is by what a statement matches.
+/// Whether a dependency of this kind is by predicate.
 fn is_of_predicate(kind: Kind) -> bool {
     match kind {
         Kind::PredicateRead | Kind::PredicateAnti => true,

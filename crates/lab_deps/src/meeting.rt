@@ -80,7 +80,7 @@ struct Near {
     before: Hints,
     /// The installer's version.
     after: Hints,
-    /// The index of the state before the installer's version among the listed states.
+    /// The index of the result for the state before the installer's version.
     index: usize,
 }
 
@@ -99,8 +99,8 @@ impl Near {
     }
 }
 
-/// The first of these rows at which an operation of a reader is tied in a way to an installer. The statement's answers are
-/// looked for among those for the states before and after the installer's version of each row, in turn.
+/// The first of these rows at which an operation of a reader has a dependency of this kind with an installer. The
+/// statement's results, if there are any, are for the states before and after the installer's version of each row, in turn.
 pub fn first_meeting(
     history: &History,
     rows: &[RowName],
@@ -116,14 +116,7 @@ pub fn first_meeting(
     let mut near = Near::new();
     for row in rows {
         if meets(
-            history,
-            kind,
-            installer,
-            reader,
-            op,
-            statement,
-            *row,
-            &mut near,
+            history, kind, installer, reader, op, statement, *row, &mut near,
         ) {
             return Some(*row);
         }
@@ -156,8 +149,8 @@ fn meets(
     }
 }
 
-/// Whether a row's installer at a place has to be looked at for dependencies of a kind: where this is false, an operation
-/// isn't tied to it, whichever version it sees.
+/// Whether an operation can have a dependency of this kind at a row with the installer at this position. If not, it has
+/// none, whichever version it sees.
 fn may_meet(
     history: &History,
     kind: Kind,
@@ -180,7 +173,8 @@ fn may_meet(
     }
 }
 
-/// Whether the version at a place turns the row, where answers are ready; else whether the statement may match the row.
+/// Whether the version at this position changes whether the row matches, if there are results; else whether the row's name
+/// lets it match.
 fn may_turn(
     history: &History,
     op: &Op,
@@ -261,7 +255,7 @@ fn is_tied(
     }
 }
 
-/// Whether the version at a place turns the row; false where there is no place.
+/// Whether the version at this position changes whether the row matches; false if there is no position.
 fn turns_in(
     history: &History,
     statement: &Asked,
@@ -278,13 +272,7 @@ fn turns_in(
 }
 
 /// Whether exactly one of the version of a row at a place, counted from 1, and the one before matches a statement.
-fn turns(
-    history: &History,
-    statement: &Asked,
-    row: RowName,
-    place: usize,
-    near: &mut Near,
-) -> bool
+fn turns(history: &History, statement: &Asked, row: RowName, place: usize, near: &mut Near) -> bool
     ensures { result ≡ turns history.now statement.now row place }
 {
     let installers = installers(history, row);

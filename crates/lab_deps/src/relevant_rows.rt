@@ -15,13 +15,7 @@ use lab_table::{RowName, place_of};
 
 /// Whether an operation is found to have nothing to do with a row with these versions: it doesn't list the row, and either
 /// the versions don't change whether its statement matches, or the statement can't match the row at all.
-pub fn passes_by(
-    op: &Op,
-    asked: &Asked,
-    row: RowName,
-    listed: bool,
-    versions: &Versions,
-) -> bool
+pub fn passes_by(op: &Op, asked: &Asked, row: RowName, listed: bool, versions: &Versions) -> bool
     requires listed { listed ≡ is_some (map.get op.now.rows row) }
     requires asked { asked.now ≡ op.now.statement }
     ensures { result ≡ true → (h : Kept) (n : ℕ) → found_at_row h n op.now (row, versions.now) ≡ [] }
@@ -33,7 +27,7 @@ pub fn passes_by(
         return true;
     }
     if asked.is_ready() {
-        // The answers were asked for; the condition is long, and its test of the id alone costs as much as a walk.
+        // The condition is long: its tests of the id cost more than a walk along the results.
         return false;
     }
     !op.statement.may_match(row)

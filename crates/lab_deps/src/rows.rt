@@ -32,9 +32,9 @@ impl Rows {
 pub struct Listed {
     /// The row and the value of each, 0 where the row is absent.
     rows: Vec<(RowName, Value)>,
-    /// For each the index of its value among the values.
+    /// The index of each one's value among the values.
     numbers: Vec<u32>,
-    /// The different values, by rising value.
+    /// The different values, ascending.
     values: Vec<Value>,
 }
 
@@ -48,7 +48,7 @@ impl Listed {
         }
     }
 
-    /// The states of rows before and after the version that a transaction installed of each, in turn.
+    /// For each of these rows the state before the version that the installer installed, and the state after it.
     pub fn around(
         alloc: Global,
         history: &History,
@@ -60,7 +60,9 @@ impl Listed {
         let mut first = Hints::new();
         let mut second = Hints::new();
         for row in rows {
-            let place = history.installer_place_near(*row, installer, &mut near).unwrap_or(0);
+            let place = history
+                .installer_place_near(*row, installer, &mut near)
+                .unwrap_or(0);
             let installers = installers(history, *row);
             let start = place.saturating_sub(1);
             let before = state_after_near(history, *row, installers, start, &mut first);
@@ -77,12 +79,12 @@ impl Listed {
         self.rows.len()
     }
 
-    /// The values of the states from one on and before another.
+    /// The states from index `from` to before `to`.
     pub fn between(&self, from: usize, to: usize) -> &[(RowName, Value)] {
         self.rows.get(from..to).unwrap_or(&[])
     }
 
-    /// For each state the index of its value.
+    /// The index of each state's value.
     pub fn numbers(&self) -> &[u32] {
         &self.numbers
     }
@@ -108,7 +110,7 @@ impl Listed {
         Ok(())
     }
 
-    /// Numbers the values.
+    /// Collects the different values, and notes the index of each state's value.
     fn number(&mut self) -> Result<(), NoMemory> {
         self.values.try_reserve(self.rows.len())?;
         for row in &self.rows {
@@ -142,11 +144,7 @@ fn value_or_zero(value: Option<Value>) -> Option<Value> {
 
 /// The rows that have installers, numbered in their order, with their versions, by the places of the committed
 /// transactions; NoMemory where an allocation was refused.
-pub fn versions_of_rows(
-    alloc: Global,
-    history: &History,
-    places: &[u16],
-) -> Result<Rows, NoMemory>
+pub fn versions_of_rows(alloc: Global, history: &History, places: &[u16]) -> Result<Rows, NoMemory>
     requires { HasPlaces history.now places.now }
     ensures { IfOk result (λ rows. rows.versions.entries ≡ rows_of history.now) }
 {
@@ -155,10 +153,21 @@ pub fn versions_of_rows(
     let mut rows = IndexMap::new(alloc);
     for (row, installers) in history.installed().entries() {
         let first = listed.len();
-        let versions = Versions::of(alloc, history, places, most, *row, installers.as_slice(), first)?;
+        let versions = Versions::of(
+            alloc,
+            history,
+            places,
+            most,
+            *row,
+            installers.as_slice(),
+            first,
+        )?;
         listed.add(*row, &versions)?;
         rows.insert(*row, versions)?;
     }
     listed.number()?;
-    Ok(Rows { versions: rows, listed })
+    Ok(Rows {
+        versions: rows,
+        listed,
+    })
 }

@@ -12,9 +12,8 @@ use crate::turns::installer_if;
 use crate::versions::Version;
 use lab_table::{NoMemory, RowName, Value};
 
-/// Lists for each version the place of its installer where a row turns from what matches a statement to what doesn't, or the
-/// other way round, and 0 elsewhere; nothing where the row doesn't turn. The state before the versions has an index among
-/// those of all rows.
+/// Lists, for each version, the position of its installer if the version matches and the one before doesn't, or the
+/// reverse; else 0. The list is empty if no version does. The index is that of the state before the versions.
 pub fn turned_along(
     found: &mut Vec<u16>,
     statement: &Asked,

@@ -8,9 +8,11 @@ pub returns-then-all_answer : goal.returns-then-all_answer
 returns-then-all_answer c =
     let f = matches c.args.statement.now c.args.row in
     let vs = c.args.versions.now in
-    inr (c.clear.ensures.items,
+    inr (
+      c.clear.ensures.items,
       steady_classes f c.args.before vs
-      (subst (λ b. list_all (λ v. not (differ b (f v.value))) vs ≡ true) c.matches-first.ensures (c.all_answer.ensures c.if-all_answer.true)))
+          (subst (λ b. list_all (λ v. not (differ b (f v.value))) vs ≡ true) c.matches-first.ensures (c.all_answer.ensures c.if-all_answer.true)),
+    )
 
 pub loop-version-preserved : goal.loop-version-preserved
 loop-version-preserved c =

@@ -5,5 +5,5 @@ use Rattle.lab_deps.proofs.walk.turned_along.Given as goal
 
 abbrev pub invariant-loop-version : goal.invariant-loop-version
 invariant-loop-version l =
-    l.found.items ++ turned l.last (asked (matches l.statement l.row) l.before (states (drop l.version-index l.versions))) (drop l.version-index l.versions)
-    ≡ turned false (asked (matches l.statement l.row) l.before (states l.versions)) l.versions
+    l.found.items ++ turned l.last (asked (matches l.statement l.row) l.fn.before (states (drop l.version-index l.versions))) (drop l.version-index l.versions)
+    ≡ turned false (asked (matches l.statement l.row) l.fn.before (states l.versions)) l.versions

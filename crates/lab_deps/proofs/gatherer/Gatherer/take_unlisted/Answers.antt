@@ -2,11 +2,19 @@ use Rattle.std.{proofs.{Common.{◌++◌, sym, ap, ◌∙◌, subst}, lemmas.Res
 use Rattle.lab_deps.{specs.{EdgesByRow.{walked, unlisted}, KindBits.{Tells}, Marks.{turns_marked}, Numbering.{FitsVersions}, Turns.{TurnsFor}}, proofs.{MarkedTurns.{told_turns}}}
 use Rattle.lab_deps.proofs.gatherer.Gatherer.take_unlisted.Goals as goal
 
-pub returns-then-not-reaches : goal.returns-then-not-reaches
-returns-then-not-reaches c =
+pub returns-else-is_ready : goal.returns-else-is_ready
+returns-else-is_ready c =
     on_ok_weaker c.add_edges.result
     (λ grows made es so_far fit. subst (λ r. Tells c.add_edges.new.sink.arrows.places.items c.add_edges.new.sink.arrows.width c.add_edges.new.sink.arrows.cells.items made (es ++ walked c.args.statement.now r c.args.versions.now))
     c.unlisted.ensures (grows made es (so_far fit))) c.add_edges.ensures
+
+pub returns-then-not-reaches : goal.returns-then-not-reaches
+returns-then-not-reaches c =
+    let added = c.add_edges-then-not-reaches in
+    let arrows = added.new.sink.arrows in
+    on_ok_weaker added.result
+    (λ grows made es so_far fit. subst (λ r. Tells arrows.places.items arrows.width arrows.cells.items made (es ++ walked c.args.statement.now r c.args.versions.now))
+    c.unlisted-then-not-reaches.ensures (grows made es (so_far fit))) added.ensures
 
 pub mark_turns-requires-clause-most : goal.mark_turns-requires-clause-most
 mark_turns-requires-clause-most c =

@@ -1,6 +1,6 @@
 use Rattle.std.proofs.{Common.{◌++◌, ◌≤◌, false, get_or, sym, ap, ◌∙◌, subst}, lemmas.Result.{on_ok_weaker}}
 use Rattle.lab_table.specs.Statement.{matches}
-use Rattle.lab_deps.{specs.{EdgesByRow.{walked, unlisted}, KindBits.{Tells}, Marks.{turns_marked}, Numbering.{FitsVersions}, Turns.{asked, states, AreInstallers}}, proofs.{MarkedTurns.{told_installers}}}
+use Rattle.lab_deps.{specs.{EdgesByRow.{walked, unlisted}, KindBits.{place, Tells}, Marks.{turns_marked}, Numbering.{FitsVersions}, Turns.{asked, states, AreInstallers}}, proofs.{MarkedTurns.{told_installers}}}
 use Rattle.lab_deps.proofs.gatherer.Gatherer.take_walk.Goals as goal
 
 pub returns-then-not-reaches : goal.returns-then-not-reaches
@@ -12,8 +12,8 @@ returns-then-not-reaches c =
 pub mark_installers-requires-clause-most : goal.mark_installers-requires-clause-most
 mark_installers-requires-clause-most c k = subst (λ ns. get_or ns k 0 ≤ c.greatest-most.result) (c.deref.ensures.value ∙ sym c.deref-2.ensures.value) (c.greatest-most.ensures k)
 
-pub returns-else-not-reaches : goal.returns-else-not-reaches
-returns-else-not-reaches c made es so_far fit =
+pub returns : goal.returns
+returns c made es so_far fit =
     let s = c.args.statement.now in
     let r = c.args.reading in
     let chain = c.args.versions.now in
@@ -28,6 +28,6 @@ returns-else-not-reaches c made es so_far fit =
     let installers = subst (λ vs. AreInstallers false (asked f chain.before (states vs)) vs ns) c.as_slice.ensures first in
     let turned = told_installers ps a.width made s r chain ns installers (subst (FitsVersions chain.items) (sym told.same) fit) a.cells.items es told in
     let cells =
-    c.mark_installers.ensures.cells ∙ (ap (λ n. turns_marked a.width n r.place c.deref-2.result.now a.cells.items) c.place-reader.ensures ∙ ap (λ ms. turns_marked a.width _ r.place ms a.cells.items) c.deref-2.ensures.value) in
+    c.mark_installers.ensures.cells ∙ (ap (λ n. turns_marked a.width n r.place c.deref-2.result.now a.cells.items) c.place-reader.ensures ∙ ap (λ ms. turns_marked a.width (place ps r.txn) r.place ms a.cells.items) c.deref-2.ensures.value) in
     subst (λ p. Tells p next.width next.cells.items made all) (sym c.mark_installers.ensures.places)
     (subst (λ w. Tells ps w next.cells.items made all) (sym c.mark_installers.ensures.width) (subst (λ xs. Tells ps a.width xs made all) (sym cells) turned))
