@@ -1,4 +1,4 @@
--- The answers of a statement's condition that are ready.
+-- The results of a condition that were computed beforehand, for values or for versions of rows.
 use Rattle.std.specs.Prelude.{◌≡◌, ℕ, ℤ, Bool, Some, List, slice_get}
 use Rattle.lab_table.specs.Row.{Row}
 use Rattle.lab_table.specs.Statement.{matches}
