@@ -1,2 +1,6 @@
+mod Answered
 mod Blocks
+mod Bounded
+mod Lists
 mod ManyAnswers
+mod Words

@@ -2,6 +2,9 @@
 
 ghost use Rattle.std.specs.Prelude.{◌≡◌, ◌<◌, ◌&&◌, ◌||◌, ℕ, true, false, not, length, get_or};
 ghost use Rattle.lab_columns.specs.Answers.{answer_at};
+ghost use Rattle.lab_columns.specs.Bits.{has_bit};
+
+use crate::bits::packed;
 
 /// A yes or a no for each of 64 rows.
 #[derive(Drop)]
@@ -35,6 +38,17 @@ impl Answers {
             Answers::Never => [false; 64],
             Answers::Always => [true; 64],
             Answers::Each(each) => each,
+        }
+    }
+
+    /// The answers as bits of a word.
+    pub fn word(self) -> u64
+        ensures { (k : ℕ) → k < 64 → has_bit result k ≡ answer_at self k }
+    {
+        match self {
+            Answers::Never => 0,
+            Answers::Always => u64::MAX,
+            Answers::Each(each) => packed(&each),
         }
     }
 

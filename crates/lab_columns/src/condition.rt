@@ -2,7 +2,7 @@
 
 ghost use Rattle.std.specs.Prelude.{◌≡◌, ◌<◌, ◌≤◌, ℕ, ℤ, pos, false, Some, length, get_or};
 ghost use Rattle.lab_table.specs.Row.{Row};
-ghost use Rattle.lab_table.specs.Predicate.{compares, column, holds};
+ghost use Rattle.lab_table.specs.Predicate.{compares, holds};
 ghost use Rattle.lab_table.specs.Statement.{matches, where_holds};
 ghost use Rattle.lab_columns.specs.Answers.{answer_at};
 ghost use Rattle.lab_columns.specs.Bounds.{IsBounded};
@@ -10,43 +10,8 @@ ghost use Rattle.lab_columns.specs.Bounds.{IsBounded};
 use crate::answers::{Answers, both, either, negated};
 use crate::block::Block;
 use crate::comparisons::{among, equal, greater, leaving, less};
-use lab_table::{Cmp, Col, Pred, PredKind, RowName, Statement, StatementKind, Value};
-
-/// The ids and the values of 64 rows, side by side.
-#[derive(Drop)]
-pub struct Rows {
-    pub ids: Block,
-    pub values: Block,
-}
-
-impl Rows {
-    /// That of up to 64 rows.
-    pub fn of(rows: &[(RowName, Value)]) -> Rows
-        requires { length rows.now ≤ 64 }
-        ensures ids { (k : ℕ) (d : Row × ℤ) → k < length rows.now → get_or result.ids.numbers k (pos 0) ≡ pos (get_or rows.now k d).0.id }
-        ensures values { (k : ℕ) (d : Row × ℤ) → k < length rows.now → get_or result.values.numbers k (pos 0) ≡ (get_or rows.now k d).1 }
-        ensures bounded_ids { IsBounded result.ids }
-        ensures bounded_values { IsBounded result.values }
-    {
-        Rows {
-            ids: Block::of_ids(rows),
-            values: Block::of_values(rows),
-        }
-    }
-
-    /// What the rows have in a column.
-    fn column(&self, col: Col) -> &Block
-        requires ids { IsBounded self.now.ids }
-        requires values { IsBounded self.now.values }
-        ensures bounded { IsBounded result.now }
-        ensures numbers { (k id : ℕ) → get_or self.now.ids.numbers k (pos 0) ≡ pos id → get_or result.now.numbers k (pos 0) ≡ column col id (get_or self.now.values.numbers k (pos 0)) }
-    {
-        match col {
-            Col::Id => &self.ids,
-            Col::Value => &self.values,
-        }
-    }
-}
+use crate::rows::Rows;
+use lab_table::{Cmp, Pred, PredKind, RowName, Statement, StatementKind, Value};
 
 /// Whether each of up to 64 rows, which are there with these values, may match a statement: false only where one doesn't.
 // A row's table isn't looked at, so rows of other tables may seem to match.
@@ -106,6 +71,24 @@ pub fn holds_each(pred: &Pred, rows: &Rows) -> Answers
             }
         }
     }
+}
+
+/// Whether the condition is true of each of up to 64 rows.
+pub fn rows_asked(pred: &Pred, rows: &[(RowName, Value)]) -> [bool; 64]
+    requires { length rows.now ≤ 64 }
+    ensures length { length result ≡ 64 }
+    ensures answers { (k : ℕ) (d : Row × ℤ) → k < length rows.now → get_or result k false ≡ holds pred.now (get_or rows.now k d).0.id (get_or rows.now k d).1 }
+{
+    holds_each(pred, &Rows::of(rows)).each()
+}
+
+/// The same of up to 64 values, for the id 1.
+pub fn values_asked(pred: &Pred, values: &[Value]) -> [bool; 64]
+    requires { length values.now ≤ 64 }
+    ensures length { length result ≡ 64 }
+    ensures answers { (k : ℕ) (d : ℤ) → k < length values.now → get_or result k false ≡ holds pred.now 1 (get_or values.now k d) }
+{
+    holds_each(pred, &Rows::of_values(values)).each()
 }
 
 /// How each number of a block compares with a number.

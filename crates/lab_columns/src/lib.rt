@@ -8,11 +8,17 @@
 #![tactic(auto)]
 
 mod answers;
+mod bits;
 mod block;
+mod columns;
 mod comparisons;
 mod condition;
 mod first;
+mod kept;
 mod many;
+mod rows;
+mod whole;
 
+pub use columns::Columns;
 pub use first::first_matching;
 pub use many::{answers_for_rows, answers_for_values, names_id};

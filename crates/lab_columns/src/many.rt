@@ -3,8 +3,7 @@
 ghost use Rattle.std.specs.Prelude.{◌≡◌, ◌++◌, ◌≤◌, ℕ, ℤ, length, map, take, not, false, OnOk};
 ghost use Rattle.lab_table.specs.Predicate.{holds, by_id};
 
-use crate::block::Block;
-use crate::condition::{Rows, holds_each};
+use crate::columns::Columns;
 use lab_table::{Col, NoMemory, Pred, PredKind, RowName, Value};
 
 /// Whether the condition, or a part of it, is a test of the row's id. Where none is, the ids make no difference.
@@ -36,21 +35,22 @@ pub fn answers_for_values(
     answers: &mut Vec<bool>,
     pred: &Pred,
     values: &[Value],
+    columns: &mut Columns,
 ) -> Result<(), NoMemory>
     requires { (id other : ℕ) (value : ℤ) → holds pred.now id value ≡ holds pred.now other value }
     ensures { OnOk result ((id : ℕ) → answers.new.items ≡ map (holds pred.now id) values.now) }
 {
+    columns.take_values(values)?;
+    let bits = columns.ask(pred)?;
     answers.clear();
     let mut rest = values;
+    let mut index = 0usize;
     while !rest.is_empty() {
         let (block, behind) = rest.split_at(rest.len().min(64));
-        let rows = Rows {
-            ids: Block::of([1; 64]),
-            values: Block::of_list(block),
-        };
-        let each = holds_each(pred, &rows).each();
+        let each = columns.answers_of_values(&bits, pred, index, block);
         add_first(answers, &each, block.len())?;
         rest = behind;
+        index = index.wrapping_add(1);
     }
     Ok(())
 }
@@ -60,16 +60,21 @@ pub fn answers_for_rows(
     answers: &mut Vec<bool>,
     pred: &Pred,
     rows: &[(RowName, Value)],
+    columns: &mut Columns,
 ) -> Result<(), NoMemory>
     ensures { OnOk result (answers.new.items ≡ map (λ row. holds pred.now row.0.id row.1) rows.now) }
 {
+    columns.take_rows(rows)?;
+    let bits = columns.ask(pred)?;
     answers.clear();
     let mut rest = rows;
+    let mut index = 0usize;
     while !rest.is_empty() {
         let (block, behind) = rest.split_at(rest.len().min(64));
-        let each = holds_each(pred, &Rows::of(block)).each();
+        let each = columns.answers_of_rows(&bits, pred, index, block);
         add_first(answers, &each, block.len())?;
         rest = behind;
+        index = index.wrapping_add(1);
     }
     Ok(())
 }

@@ -7,10 +7,27 @@ ghost use Rattle.lab_table.specs.Statement.{matches};
 ghost use Rattle.lab_table.specs.ValueTests.{IsBlind};
 
 use crate::rows::Listed;
-use lab_columns::{answers_for_rows, answers_for_values, names_id};
+use lab_columns::{Columns, answers_for_rows, answers_for_values, names_id};
 use lab_table::{NoMemory, Pred, PredKind, RowName, Statement, StatementKind, Value};
 use std::alloc::Global;
 use std::marker::Model;
+
+/// The columns of the values and of the rows that were asked last.
+#[derive(Drop)]
+pub struct AskedColumns {
+    by_value: Columns,
+    by_row: Columns,
+}
+
+impl AskedColumns {
+    /// No columns yet.
+    pub fn new(alloc: Global) -> AskedColumns {
+        AskedColumns {
+            by_value: Columns::new(alloc),
+            by_row: Columns::new(alloc),
+        }
+    }
+}
 
 /// A statement, and of which values or rows its condition is true.
 ///
@@ -66,6 +83,7 @@ impl<'a> Asked<'a> {
         alloc: Global,
         statement: &'a Statement,
         listed: &'a Listed,
+        columns: &mut AskedColumns,
         from: usize,
         to: usize,
     ) -> Result<Asked<'a>, NoMemory>
@@ -77,9 +95,9 @@ impl<'a> Asked<'a> {
                 if is_short(pred) {
                     Ok(Asked::by_version(alloc, statement))
                 } else if names_id(pred) {
-                    Asked::by_row(alloc, statement, pred, listed.between(from, to), from)
+                    Asked::by_row(alloc, statement, pred, listed.between(from, to), &mut columns.by_row, from)
                 } else {
-                    Asked::by_value(alloc, statement, pred, listed)
+                    Asked::by_value(alloc, statement, pred, listed, &mut columns.by_value)
                 }
             }
         }
@@ -91,6 +109,7 @@ impl<'a> Asked<'a> {
         statement: &'a Statement,
         pred: &Pred,
         listed: &'a Listed,
+        columns: &mut Columns,
     ) -> Result<Asked<'a>, NoMemory>
         requires condition { (row : Row) (value : ℤ) → row.table ≡ statement.now.table → matches statement.now row (Some value) ≡ holds pred.now row.id value }
         requires any_id { (id other : ℕ) (value : ℤ) → holds pred.now id value ≡ holds pred.now other value }
@@ -98,7 +117,7 @@ impl<'a> Asked<'a> {
     {
         let values = listed.values();
         let mut by_value = Vec::new(alloc);
-        answers_for_values(&mut by_value, pred, values)?;
+        answers_for_values(&mut by_value, pred, values, columns)?;
         Ok(Asked {
             statement,
             numbers: listed.numbers(),
@@ -116,13 +135,14 @@ impl<'a> Asked<'a> {
         statement: &'a Statement,
         pred: &Pred,
         rows: &'a [(RowName, Value)],
+        columns: &mut Columns,
         first: usize,
     ) -> Result<Asked<'a>, NoMemory>
         requires { (row : Row) (value : ℤ) → row.table ≡ statement.now.table → matches statement.now row (Some value) ≡ holds pred.now row.id value }
         ensures { IfOk result (λ asked. asked ≡ statement.now) }
     {
         let mut by_row = Vec::new(alloc);
-        answers_for_rows(&mut by_row, pred, rows)?;
+        answers_for_rows(&mut by_row, pred, rows, columns)?;
         Ok(Asked {
             statement,
             numbers: &[],

@@ -1,5 +1,6 @@
-use Rattle.std.proofs.{Common.{◌≡◌, ◌≤◌, ◌<◌, ◌++◌, ℕ, ℤ, pos, Bool, false, [], List, length, get_or, map, ap, ◌∙◌, subst, arith}, lemmas.List.{map-append}}
+use Rattle.std.proofs.{Common.{◌≡◌, ◌≤◌, ◌<◌, ◌++◌, ℕ, ℤ, pos, Bool, false, [], List, length, get_or, map, sym, ap, ◌∙◌, subst, arith}, lemmas.List.{map-append}}
 use Rattle.lab_table.specs.{Row.{Row, numbered}, Predicate.{holds}}
+use Rattle.lab_columns.specs.Asked.{IsAnswer}
 use Rattle.lab_columns.proofs.ManyAnswers.{answers_next}
 use Rattle.lab_columns.proofs.many.answers_for_rows.Goals as goal
 
@@ -11,14 +12,12 @@ loop-rest-preserved c =
     let front : List (Row × ℤ) = c.split_at.result.0.now in
     let behind : List (Row × ℤ) = c.split_at.result.1.now in
     let all : List (Row × ℤ) = c.args.rows.now in
-    let each : List Bool = c.each-each.result in
+    let each : List Bool = c.answers_of_rows.result in
     let so_far : List Bool = c.loop-rest.answers.items in
     let few : length front ≤ 64 = omega (arith, c.split_at.ensures.front_len, c.min.ensures) in
-    let answered : (k : ℕ) → k < length front → get_or each k false ≡ f (get_or front k d) =
-    λ k at.
-    let within : k < 64 = omega (arith, at, few) in
-    let row = get_or front k d in
-    c.each-each.ensures.at k within ∙ (c.holds_each.ensures k row.0.id within (c.of.ensures.ids k d at) ∙ ap (holds p row.0.id) (c.of.ensures.values k d at)) in
-    let before : so_far ++ map f (front ++ behind) ≡ map f all = subst (λ ys. so_far ++ map f ys ≡ map f all) c.split_at.ensures.by_index.0 c.loop-rest.invariant in
-    ap (λ ys. ys ++ map f behind) c.in_ok-add_first.ensures
-    ∙ answers_next f each front d c.each-each.ensures.length few answered so_far behind all before (map-append f front behind)
+    let answered : (k : ℕ) → k < length front → get_or each k false ≡ f (get_or front k d) = λ k at. c.answers_of_rows.ensures.answers k d at in
+    let before : so_far ++ map f (front ++ behind) ≡ map f all = subst (λ ys. so_far ++ map f ys ≡ map f all) c.split_at.ensures.by_index.0 c.loop-rest.invariant.0 in (
+      ap (λ ys. ys ++ map f behind) c.in_ok-add_first.ensures
+      ∙ answers_next f each front d c.answers_of_rows.ensures.length few answered so_far behind all before (map-append f front behind),
+      subst (λ blocks. IsAnswer p blocks c.in_ok-bits.bits) (sym c.answers_of_rows.ensures.blocks) c.loop-rest.invariant.1,
+    )
