@@ -5,6 +5,15 @@ use Rattle.lab_table.specs.Predicate.{Predicate, Not, And, Or, holds}
 use Rattle.lab_columns.specs.{Bits.{has_bit, has}, Asked.{IsAnswerOf, AreAnswers, IsAnswer}}
 use Rattle.lab_columns.specs.declared.rows.Rows.{Rows}
 
+-- what the second of two answers decides
+pub never_both : (a b : Bool) → b ≡ false → (a && b) ≡ false
+never_both true b is = is
+never_both false b is = refl
+
+pub always_either : (a b : Bool) → b ≡ true → (a || b) ≡ true
+always_either true b is = refl
+always_either false b is = is
+
 module _ (blocks : List Rows) where
   -- the answers for a block more
   pub answers_more : (pred : Predicate) (words : List ℕ) (n word : ℕ) (rows : Rows) → slice_get blocks n ≡ Some rows → IsAnswerOf pred rows word → AreAnswers n pred blocks words → AreAnswers (n + 1) pred blocks (words ++ word ∷ [])
@@ -51,24 +60,16 @@ module _ (blocks : List Rows) where
         λ b rows within there k id small at.
         bits b k ∙ (or_swap (has second b k) (has first b k) ∙ (ap (λ x. x || has second b k) (is_first.1 b rows within there k id small at) ∙ ap (λ x. holds p id (get_or rows.values.numbers k (pos 0)) || x) (is_second.1 b rows within there k id small at)))
 
-  and_false : (a b : Bool) → b ≡ false → (a && b) ≡ false
-  and_false true b is = is
-  and_false false b is = refl
-
-  or_true : (a b : Bool) → b ≡ true → (a || b) ≡ true
-  or_true true b is = refl
-  or_true false b is = is
-
   -- the second answer decides
   pub answers_never : (p q : Predicate) (second : List ℕ) → IsAnswer q blocks second → ((b k : ℕ) → has second b k ≡ false) → IsAnswer (And p q) blocks second
   answers_never p q second is none =
       is.0,
       λ b rows within there k id small at.
-      none b k ∙ sym (and_false (holds p id (get_or rows.values.numbers k (pos 0))) (holds q id (get_or rows.values.numbers k (pos 0))) (sym (is.1 b rows within there k id small at) ∙ none b k))
+      none b k ∙ sym (never_both (holds p id (get_or rows.values.numbers k (pos 0))) (holds q id (get_or rows.values.numbers k (pos 0))) (sym (is.1 b rows within there k id small at) ∙ none b k))
 
   pub answers_always : (p q : Predicate) (second : List ℕ) → IsAnswer q blocks second → ((b k : ℕ) → b < length second → k < 64 → has second b k ≡ true) → IsAnswer (Or p q) blocks second
   answers_always p q second is all =
       is.0,
       λ b rows within there k id small at.
       let yes : has second b k ≡ true = all b k (omega (arith, within, is.0)) small in
-      yes ∙ sym (or_true (holds p id (get_or rows.values.numbers k (pos 0))) (holds q id (get_or rows.values.numbers k (pos 0))) (sym (is.1 b rows within there k id small at) ∙ yes))
+      yes ∙ sym (always_either (holds p id (get_or rows.values.numbers k (pos 0))) (holds q id (get_or rows.values.numbers k (pos 0))) (sym (is.1 b rows within there k id small at) ∙ yes))

@@ -1,5 +1,5 @@
 -- The answers for a block, of which as many count as it has members.
-use Rattle.std.proofs.{Common.{◌≡◌, ◌<◌, ◌≤◌, ◌++◌, ℕ, Bool, true, false, ◌&&◌, ◌||◌, List, length, get_or, map, take, refl, sym, ap, ◌∙◌, arith, append_assoc}, lemmas.List.{same_lists, length-take-le, length-map, get_or-take, get_or_default, get_or-map}}
+use Rattle.std.proofs.{Common.{◌≡◌, ◌<◌, ◌≤◌, ◌++◌, ℕ, Bool, false, List, length, get_or, map, take, sym, ap, ◌∙◌, arith, append_assoc}, lemmas.List.{same_lists, length-take-le, length-map, get_or-take, get_or_default, get_or-map}}
 
 module _ {A : Type 0} (f : A → Bool) (each : List Bool) (xs : List A) (d : A) (full : length each ≡ 64) (few : length xs ≤ 64) (answered : (k : ℕ) → k < length xs → get_or each k false ≡ f (get_or xs k d)) where
   pub answers_of : take (length xs) each ≡ map f xs
@@ -16,12 +16,3 @@ module _ {A : Type 0} (f : A → Bool) (each : List Bool) (xs : List A) (d : A) 
   pub answers_next : (so_far : List Bool) (rest all : List A) → so_far ++ map f (xs ++ rest) ≡ map f all → map f (xs ++ rest) ≡ map f xs ++ map f rest → (so_far ++ take (length xs) each) ++ map f rest ≡ map f all
   answers_next so_far rest all before parts =
       append_assoc so_far (take (length xs) each) (map f rest) ∙ (ap (λ ys. so_far ++ (ys ++ map f rest)) answers_of ∙ (ap (λ ys. so_far ++ ys) (sym parts) ∙ before))
-
--- what the second of two answers decides
-pub never_both : (a b : Bool) → b ≡ false → (a && b) ≡ false
-never_both true b is = is
-never_both false b is = refl
-
-pub always_either : (a b : Bool) → b ≡ true → (a || b) ≡ true
-always_either true b is = refl
-always_either false b is = is

@@ -122,6 +122,53 @@ pub fn packed(bits: &[bool; 64]) -> u64
     word
 }
 
+/// The bits that aren't set.
+#[inline(always)]
+pub fn negated(word: u64) -> u64
+    ensures { (k : ℕ) → k < 64 → has_bit result k ≡ not (has_bit word k) }
+{
+    !word
+}
+
+/// The bits that are set in both words.
+#[inline(always)]
+pub fn both(word: u64, other: u64) -> u64
+    ensures { (k : ℕ) → k < 64 → has_bit result k ≡ (has_bit word k && has_bit other k) }
+{
+    word & other
+}
+
+/// The bits that are set in at least one of the words.
+#[inline(always)]
+pub fn either(word: u64, other: u64) -> u64
+    ensures { (k : ℕ) → k < 64 → has_bit result k ≡ (has_bit word k || has_bit other k) }
+{
+    word | other
+}
+
+/// Whether no bit is set.
+#[inline(always)]
+pub fn is_none(word: u64) -> bool
+    ensures { result ≡ true → (k : ℕ) → has_bit word k ≡ false }
+{
+    word == 0
+}
+
+/// Whether each bit is set.
+#[inline(always)]
+pub fn is_all(word: u64) -> bool
+    ensures { result ≡ true → (k : ℕ) → k < 64 → has_bit word k ≡ true }
+{
+    word == u64::MAX
+}
+
+/// The word whose bits are all the same.
+pub fn same(bit: bool) -> u64
+    ensures { (k : ℕ) → k < 64 → has_bit result k ≡ bit }
+{
+    if bit { u64::MAX } else { 0 }
+}
+
 /// The word with a bit more, or as it is.
 #[inline(always)]
 fn with_bit(word: u64, place: usize, bit: bool) -> u64

@@ -1,67 +1,67 @@
-//! Tests of 64 numbers at once.
+//! Tests of 64 numbers at once, with a bit for each.
 //!
 //! What the least and the greatest number decide isn't asked of each.
 
 ghost use Rattle.std.specs.Prelude.{◌≡◌, ◌<◌, ℕ, pos, true, false, get_or, int_lt, int_rem};
 ghost use Rattle.std.specs.List.{list_any};
 ghost use Rattle.std.specs.Ordering.{int_eq};
-ghost use Rattle.lab_columns.specs.Answers.{answer_at};
+ghost use Rattle.lab_columns.specs.Bits.{has_bit};
 ghost use Rattle.lab_columns.specs.Bounds.{IsBounded};
 
-use crate::answers::{Answers, either};
+use crate::bits::{either, packed, same};
 use crate::block::Block;
 use lab_table::{Modulus, Value};
 
 /// Whether each number of a block is this one.
-pub fn equal(block: &Block, number: i32) -> Answers
+pub fn equal(block: &Block, number: i32) -> u64
     requires { IsBounded block.now }
-    ensures { (k : ℕ) → k < 64 → answer_at result k ≡ int_eq (get_or block.now.numbers k (pos 0)) number }
+    ensures { (k : ℕ) → k < 64 → has_bit result k ≡ int_eq (get_or block.now.numbers k (pos 0)) number }
 {
     if number < block.least {
-        Answers::Never
+        0
     } else if block.greatest < number {
-        Answers::Never
+        0
     } else if block.least == block.greatest {
-        Answers::Always
+        u64::MAX
     } else {
-        Answers::Each(each_equal(&block.numbers, number))
+        packed(&each_equal(&block.numbers, number))
     }
 }
 
 /// Whether each number of a block is less than this one.
-pub fn less(block: &Block, number: i32) -> Answers
+pub fn less(block: &Block, number: i32) -> u64
     requires { IsBounded block.now }
-    ensures { (k : ℕ) → k < 64 → answer_at result k ≡ int_lt (get_or block.now.numbers k (pos 0)) number }
+    ensures { (k : ℕ) → k < 64 → has_bit result k ≡ int_lt (get_or block.now.numbers k (pos 0)) number }
 {
     if block.greatest < number {
-        Answers::Always
+        u64::MAX
     } else if block.least < number {
-        Answers::Each(each_less(&block.numbers, number))
+        packed(&each_less(&block.numbers, number))
     } else {
-        Answers::Never
+        0
     }
 }
 
 /// Whether each number of a block is greater than this one.
-pub fn greater(block: &Block, number: i32) -> Answers
+pub fn greater(block: &Block, number: i32) -> u64
     requires { IsBounded block.now }
-    ensures { (k : ℕ) → k < 64 → answer_at result k ≡ int_lt number (get_or block.now.numbers k (pos 0)) }
+    ensures { (k : ℕ) → k < 64 → has_bit result k ≡ int_lt number (get_or block.now.numbers k (pos 0)) }
 {
     if number < block.least {
-        Answers::Always
+        u64::MAX
     } else if number < block.greatest {
-        Answers::Each(each_greater(&block.numbers, number))
+        packed(&each_greater(&block.numbers, number))
     } else {
-        Answers::Never
+        0
     }
 }
 
 /// Whether each number of a block is one of these.
-pub fn among(block: &Block, numbers: &[Value]) -> Answers
+pub fn among(block: &Block, numbers: &[Value]) -> u64
     requires { IsBounded block.now }
-    ensures { (k : ℕ) → k < 64 → answer_at result k ≡ list_any (int_eq (get_or block.now.numbers k (pos 0))) numbers.now }
+    ensures { (k : ℕ) → k < 64 → has_bit result k ≡ list_any (int_eq (get_or block.now.numbers k (pos 0))) numbers.now }
 {
-    let mut found = Answers::Never;
+    let mut found = 0;
     for number in numbers {
         found = either(equal(block, number.number() as i32), found);
     }
@@ -69,14 +69,14 @@ pub fn among(block: &Block, numbers: &[Value]) -> Answers
 }
 
 /// Whether each number of a block divided by the modulus leaves this rest, which has the sign of the number.
-pub fn leaving(block: &Block, modulus: Modulus, rest: Value) -> Answers
+pub fn leaving(block: &Block, modulus: Modulus, rest: Value) -> u64
     requires { IsBounded block.now }
-    ensures { (k : ℕ) → k < 64 → answer_at result k ≡ int_eq (int_rem (get_or block.now.numbers k (pos 0)) (pos modulus)) rest }
+    ensures { (k : ℕ) → k < 64 → has_bit result k ≡ int_eq (int_rem (get_or block.now.numbers k (pos 0)) (pos modulus)) rest }
 {
     if is_one(block) {
-        Answers::same(leaves(block.least, modulus, rest))
+        same(leaves(block.least, modulus, rest))
     } else {
-        Answers::Each(each_leaving(&block.numbers, modulus, rest))
+        packed(&each_leaving(&block.numbers, modulus, rest))
     }
 }
 

@@ -4,6 +4,7 @@ ghost use Rattle.std.specs.Prelude.{◌≡◌, ◌≤◌, ℤ, Bool, false, Some
 ghost use Rattle.lab_table.specs.Row.{Row};
 ghost use Rattle.lab_table.specs.Statement.{matches};
 
+use crate::bits::unpacked;
 use crate::condition::may_match_each;
 use lab_table::{RowName, Statement, Value};
 
@@ -39,7 +40,7 @@ fn first_of_block<F: Fn(RowName, Value) -> bool>(
     requires callable { F.IsAlwaysCallable test.now }
     ensures { (passes : Row → ℤ → Bool) → ((row : Row) (value : ℤ) (b : Bool) → F.post test.now row value b → b ≡ passes row value) → ((row : Row) (value : ℤ) → matches statement.now row (Some value) ≡ false → passes row value ≡ false) → result ≡ option_map (λ e. e.0) (find (λ e. passes e.0 e.1) rows.now) }
 {
-    let may_match = may_match_each(statement, rows).each();
+    let may_match = unpacked(may_match_each(statement, rows));
     for (place, row) in rows.iter().enumerate() {
         if may_match[place] && test(row.0, row.1) {
             return Some(row.0);

@@ -97,7 +97,7 @@ fn asked(
 {
     let mut bits = Bits::with_capacity(alloc, blocks.len())?;
     for rows in blocks {
-        bits.push(leaving(rows.column(col), modulus, rest).word())?;
+        bits.push(leaving(rows.column(col), modulus, rest))?;
     }
     Ok(bits)
 }

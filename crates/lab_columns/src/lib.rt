@@ -7,7 +7,6 @@
 //! and a test that no other row passes; the test is made of those rows alone that may match.
 #![tactic(auto)]
 
-mod answers;
 mod bits;
 mod block;
 mod columns;

@@ -1,13 +1,15 @@
 //! Conditions that are asked of all rows of a list at once.
 
 ghost use Rattle.std.specs.Prelude.{◌≡◌, IfOk};
+ghost use Rattle.lab_table.specs.Predicate.{Compare, OneOf};
 ghost use Rattle.lab_columns.specs.Asked.{AreBounded, AreRight, IsAnswer};
 
 use crate::bits::Bits;
-use crate::condition::holds_each;
+use crate::comparisons::among;
+use crate::condition::compared;
 use crate::kept::{Kept, remainders};
 use crate::rows::Rows;
-use lab_table::{NoMemory, Pred, PredKind};
+use lab_table::{Cmp, Col, NoMemory, Pred, PredKind, Value};
 use std::alloc::Global;
 
 /// Of which rows the condition is true.
@@ -24,8 +26,11 @@ pub fn holds_all(
     ensures answer { IfOk result (λ bits. IsAnswer pred.now blocks.now bits) }
 {
     match &pred.kind {
-        PredKind::Compare { .. } | PredKind::OneOf { .. } => {
-            by_block(*kept.allocator(), pred, blocks)
+        PredKind::Compare { col, cmp, number } => {
+            comparison(*kept.allocator(), blocks, *col, *cmp, *number)
+        }
+        PredKind::OneOf { col, numbers } => {
+            members(*kept.allocator(), blocks, *col, numbers.as_slice())
         }
         PredKind::Remainder { col, modulus, rest } => {
             remainders(blocks, kept, *col, *modulus, *rest)
@@ -52,14 +57,37 @@ pub fn holds_all(
     }
 }
 
-/// The same, asked of one block after another.
-fn by_block(alloc: Global, pred: &Pred, blocks: &[Rows]) -> Result<Bits, NoMemory>
+/// In which rows a column compares so with a number.
+fn comparison(
+    alloc: Global,
+    blocks: &[Rows],
+    col: Col,
+    cmp: Cmp,
+    number: Value,
+) -> Result<Bits, NoMemory>
     requires { AreBounded blocks.now }
-    ensures { IfOk result (λ bits. IsAnswer pred.now blocks.now bits) }
+    ensures { IfOk result (λ bits. IsAnswer (Compare col cmp number) blocks.now bits) }
 {
     let mut bits = Bits::with_capacity(alloc, blocks.len())?;
     for rows in blocks {
-        bits.push(holds_each(pred, rows).word())?;
+        bits.push(compared(rows.column(col), cmp, number.number() as i32))?;
+    }
+    Ok(bits)
+}
+
+/// In which rows a column is one of these numbers.
+fn members(
+    alloc: Global,
+    blocks: &[Rows],
+    col: Col,
+    numbers: &[Value],
+) -> Result<Bits, NoMemory>
+    requires { AreBounded blocks.now }
+    ensures { IfOk result (λ bits. IsAnswer (OneOf col numbers.now) blocks.now bits) }
+{
+    let mut bits = Bits::with_capacity(alloc, blocks.len())?;
+    for rows in blocks {
+        bits.push(among(rows.column(col), numbers))?;
     }
     Ok(bits)
 }
