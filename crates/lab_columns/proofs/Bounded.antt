@@ -2,8 +2,8 @@
 use Rattle.std.proofs.{Common.{◌≡◌, ℕ, ◌+◌, ◌<◌, Option, None, Some, [], ◌∷◌, ◌++◌, List, get_or, set, length, refl, ap, sym, ◌∙◌, subst, inl, inr, arith}, lemmas.{Bool.{cases_eq}, List.{get_or_append_left, get_or_push, length_push, get_or-set_same, get_or-set_other, length-set}, Option.{same_Some, none-some, slice_get_within, slice_get-get_or, get_or_from_slice_get}}}
 use Rattle.std.specs.Prelude.{slice_get}
 use Rattle.lab_table.specs.Predicate.{Remainder}
-use Rattle.lab_columns.specs.{Bounds.{IsBounded}, Asked.{AreBounded, AreRight, IsAnswer}}
-use Rattle.lab_columns.specs.declared.{rows.Rows.{Rows}, kept.Kept.{Kept}}
+use Rattle.lab_columns.specs.{Bounds.{IsBounded}, Asked.{AreBounded, AreAnswersRight, IsAnswer}}
+use Rattle.lab_columns.specs.declared.{rows.Rows.{Rows}, kept.Answer.{Answer}}
 
 -- what stands in a list with one member more
 pub pushed : {X : Type 0} (xs : List X) (y x : X) (j : ℕ) → slice_get (xs ++ y ∷ []) j ≡ Some x → (slice_get xs j ≡ Some x) ⊎ (x ≡ y)
@@ -25,7 +25,7 @@ bounded_more blocks rows ids values before b other there =
       | inr new ↦ subst (λ r. IsBounded r.ids × IsBounded r.values) (sym new) (ids, values)
     ]
 
-pub none_more : (blocks : List Rows) (kept : List (Option Kept)) → AreRight blocks kept → AreRight blocks (kept ++ None ∷ [])
+pub none_more : (blocks : List Rows) (kept : List (Option Answer)) → AreAnswersRight blocks kept → AreAnswersRight blocks (kept ++ None ∷ [])
 none_more blocks kept before j one there =
     elim (pushed kept None (Some one) j there) [
       | inl old ↦ before j one old
@@ -33,7 +33,7 @@ none_more blocks kept before j one there =
     ]
 
 -- a slot is written
-pub right_set : (blocks : List Rows) (kept : List (Option Kept)) (i : ℕ) (new : Kept) → i < length kept → IsAnswer (Remainder new.col new.modulus new.rest) blocks new.bits → AreRight blocks kept → AreRight blocks (set kept i (Some new))
+pub right_set : (blocks : List Rows) (kept : List (Option Answer)) (i : ℕ) (new : Answer) → i < length kept → IsAnswer (Remainder new.col new.modulus new.rest) blocks new.bits → AreAnswersRight blocks kept → AreAnswersRight blocks (set kept i (Some new))
 right_set blocks kept i new within is before j one there =
     let inside = slice_get_within (set kept i (Some new)) j (Some one) there in
     let same_length = length-set kept i (Some new) in

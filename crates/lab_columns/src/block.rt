@@ -1,10 +1,10 @@
 //! Blocks of 64 numbers, with the least and the greatest of them.
 
-ghost use Rattle.std.specs.Prelude.{◌≡◌, ◌<◌, ◌≤◌, ℕ, ℤ, pos, true, length, int_le, get_or};
+ghost use Rattle.std.specs.Prelude.{◌≡◌, ◌<◌, ◌≤◌, ℕ, ℤ, pos, true, length, int_le, int_lt, int_rem, get_or};
 ghost use Rattle.lab_table.specs.Row.{Row};
 ghost use Rattle.lab_columns.specs.Bounds.{IsBounded};
 
-use lab_table::{RowName, Value};
+use lab_table::{Modulus, RowName, Value};
 
 /// 64 numbers of a column.
 #[derive(Drop)]
@@ -69,6 +69,25 @@ impl Block {
         }
         Block::of(numbers)
     }
+
+    /// What is left of its numbers, divided by a modulus.
+    pub fn divided(&self, modulus: Modulus) -> Block
+        ensures numbers { (k : ℕ) → k < 64 → get_or result.numbers k (pos 0) ≡ int_rem (get_or self.now.numbers k (pos 0)) (pos modulus) }
+        ensures bounded { IsBounded result }
+    {
+        Block::of(each_divided(&self.numbers, modulus.number() as i32))
+    }
+}
+
+fn each_divided(numbers: &[i32; 64], modulus: i32) -> [i32; 64]
+    requires { int_lt (pos 0) modulus ≡ true }
+    ensures { (k : ℕ) → k < 64 → get_or result k (pos 0) ≡ int_rem (get_or numbers.now k (pos 0)) modulus }
+{
+    let mut left = [0; 64];
+    for place in 0..64 {
+        left[place] = numbers[place] % modulus;
+    }
+    left
 }
 
 fn first_id(rows: &[(RowName, Value)]) -> i32 {

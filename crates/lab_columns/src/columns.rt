@@ -8,7 +8,7 @@ ghost use Rattle.lab_columns.specs.declared.rows.Rows.{Rows as Block};
 
 use crate::bits::{Bits, unpacked};
 use crate::condition::{rows_asked, values_asked};
-use crate::kept::{Kept, no_answers};
+use crate::kept::Kept;
 use crate::rows::Rows;
 use crate::whole::holds_all;
 use lab_table::{NoMemory, Pred, RowName, Value};
@@ -18,11 +18,11 @@ use std::marker::Model;
 /// The columns of the rows that were asked last, with answers of remainder tests. A caller that asks many conditions of
 /// the same rows in turn hands in the same columns.
 ///
-/// They take up to 32 MiB beside a copy of the rows.
+/// They take up to 48 MiB beside a copy of the rows.
 #[derive(Drop)]
 pub struct Columns {
     blocks: Vec<Rows>,
-    kept: Vec<Option<Kept>>,
+    kept: Kept,
     /// How many rows there are.
     len: usize,
     /// Whether other rows were met.
@@ -42,7 +42,7 @@ impl Model for Columns {
 
     ghost view = { λ c. c.blocks.items };
 
-    ghost invariant = { λ c. AreBounded c.blocks.items × AreRight c.blocks.items c.kept.items };
+    ghost invariant = { λ c. AreBounded c.blocks.items × AreRight c.blocks.items c.kept };
 }
 
 impl Columns {
@@ -50,7 +50,7 @@ impl Columns {
     pub fn new(alloc: Global) -> Columns {
         Columns {
             blocks: Vec::new(alloc),
-            kept: Vec::new(alloc),
+            kept: Kept::none(alloc),
             len: 0,
             stale: true,
         }
@@ -88,7 +88,8 @@ impl Columns {
     fn begin(&mut self, blocks: Vec<Rows>, len: usize) -> Result<(), NoMemory>
         requires { AreBounded blocks.items }
     {
-        let kept = no_answers(*blocks.allocator(), slots_for(blocks.len()))?;
+        let count = blocks.len();
+        let kept = Kept::with_room(*blocks.allocator(), answers_for(count), divided_for(count))?;
         *self = Columns {
             blocks,
             kept,
@@ -191,8 +192,13 @@ fn blocks_of_values(alloc: Global, values: &[Value]) -> Result<Vec<Rows>, NoMemo
     Ok(blocks)
 }
 
-/// How many answers are kept of rows in this many blocks: up to 64 for each block, and no more than 32 MiB.
-fn slots_for(blocks: usize) -> usize {
-    let most = 4_194_304 / blocks.max(1);
+/// How many answers are kept of rows in this many blocks: up to 64 for each block, and no more than 24 MiB.
+fn answers_for(blocks: usize) -> usize {
+    let most = 3_145_728 / blocks.max(1);
     blocks.saturating_mul(64).min(most).min(16_384)
+}
+
+/// How many divided columns are kept of rows in this many blocks: no more than 24 MiB.
+fn divided_for(blocks: usize) -> usize {
+    (95_000 / blocks.max(1)).min(256)
 }

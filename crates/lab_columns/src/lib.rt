@@ -12,6 +12,7 @@ mod block;
 mod columns;
 mod comparisons;
 mod condition;
+mod divided;
 mod first;
 mod kept;
 mod many;

@@ -7,7 +7,7 @@ ghost use Rattle.lab_columns.specs.Asked.{AreBounded, AreRight, IsAnswer};
 use crate::bits::Bits;
 use crate::comparisons::among;
 use crate::condition::compared;
-use crate::kept::{Kept, remainders};
+use crate::kept::Kept;
 use crate::rows::Rows;
 use lab_table::{Cmp, Col, NoMemory, Pred, PredKind, Value};
 use std::alloc::Global;
@@ -18,22 +18,22 @@ use std::alloc::Global;
 pub fn holds_all(
     pred: &Pred,
     blocks: &[Rows],
-    kept: &mut Vec<Option<Kept>>,
+    kept: &mut Kept,
 ) -> Result<Bits, NoMemory>
     requires bounded { AreBounded blocks.now }
-    requires right { AreRight blocks.now kept.old.items }
-    ensures right { AreRight blocks.now kept.new.items }
+    requires right { AreRight blocks.now kept.old }
+    ensures right { AreRight blocks.now kept.new }
     ensures answer { IfOk result (λ bits. IsAnswer pred.now blocks.now bits) }
 {
     match &pred.kind {
         PredKind::Compare { col, cmp, number } => {
-            comparison(*kept.allocator(), blocks, *col, *cmp, *number)
+            comparison(*kept.answers.allocator(), blocks, *col, *cmp, *number)
         }
         PredKind::OneOf { col, numbers } => {
-            members(*kept.allocator(), blocks, *col, numbers.as_slice())
+            members(*kept.answers.allocator(), blocks, *col, numbers.as_slice())
         }
         PredKind::Remainder { col, modulus, rest } => {
-            remainders(blocks, kept, *col, *modulus, *rest)
+            kept.remainders(blocks, *col, *modulus, *rest)
         }
         PredKind::Not(p) => {
             let mut bits = holds_all(p, blocks, kept)?;

@@ -1,7 +1,7 @@
 use Rattle.std.proofs.Common.{List}
-use Rattle.lab_columns.specs.Asked.{AreRight}
+use Rattle.lab_columns.specs.Asked.{AreAnswersRight}
 use Rattle.lab_columns.specs.declared.rows.Rows.{Rows}
 use Rattle.lab_columns.proofs.kept.no_answers.Given as goal
 
 abbrev pub invariant-loop : goal.invariant-loop
-invariant-loop l = (blocks : List Rows) → AreRight blocks l.kept.items
+invariant-loop l = (blocks : List Rows) → AreAnswersRight blocks l.answers.items
