@@ -6,13 +6,13 @@ use Rattle.lab_columns.specs.{Bounds.{IsBounded}, Asked.{AreBounded, AreAnswersR
 use Rattle.lab_columns.specs.declared.{rows.Rows.{Rows}, kept.Answer.{Answer}}
 
 -- what stands in a list with one member more
-pub pushed : {X : Type 0} (xs : List X) (y x : X) (j : ℕ) → slice_get (xs ++ y ∷ []) j ≡ Some x → (slice_get xs j ≡ Some x) ⊎ (x ≡ y)
+pub pushed : {X : Type 0} (xs : List X) (y x : X) (j : ℕ) → slice_get (xs ++ y ∷ []) j ≡ Some x → (slice_get xs j ≡ Some x) ⊎ ((j ≡ length xs) × (x ≡ y))
 pushed xs y x j there =
     let within = slice_get_within (xs ++ y ∷ []) j x there in
     let long = length_push xs y in
     let at = get_or_from_slice_get (xs ++ y ∷ []) j x y there in
     elim (cases_eq j (length xs)) [
-      | inl last ↦ inr (sym at ∙ get_or_push xs y y j (sym last))
+      | inl last ↦ inr (last, sym at ∙ get_or_push xs y y j (sym last))
       | inr apart ↦
           let inside : j < length xs = omega (arith, within, long, apart) in
           inl (slice_get-get_or xs j y inside ∙ ap Some (sym (get_or_append_left xs (y ∷ []) y j inside) ∙ at))
@@ -22,14 +22,14 @@ pub bounded_more : (blocks : List Rows) (rows : Rows) → IsBounded rows.ids →
 bounded_more blocks rows ids values before b other there =
     elim (pushed blocks rows other b there) [
       | inl old ↦ before b other old
-      | inr new ↦ subst (λ r. IsBounded r.ids × IsBounded r.values) (sym new) (ids, values)
+      | inr new ↦ subst (λ r. IsBounded r.ids × IsBounded r.values) (sym new.1) (ids, values)
     ]
 
 pub none_more : (blocks : List Rows) (kept : List (Option Answer)) → AreAnswersRight blocks kept → AreAnswersRight blocks (kept ++ None ∷ [])
 none_more blocks kept before j one there =
     elim (pushed kept None (Some one) j there) [
       | inl old ↦ before j one old
-      | inr new ↦ absurd (none-some (sym new))
+      | inr new ↦ absurd (none-some (sym new.1))
     ]
 
 -- a slot is written

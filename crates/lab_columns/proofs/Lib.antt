@@ -3,4 +3,5 @@ mod Blocks
 mod Bounded
 mod Lists
 mod ManyAnswers
+mod Remainders
 mod Words
