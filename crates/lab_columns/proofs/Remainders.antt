@@ -39,7 +39,7 @@ pub leaving_more : (blocks : List Rows) (divided : Divided) (rest : ℤ) (bits :
 leaving_more blocks divided rest bits n word left is here answer before =
     let within : n < length blocks = omega (arith, slice_get_within divided.left.items n left here, is.0) in
     elim (there blocks n within) [
-      | (rows, at) ↦ answers_more blocks (Remainder divided.col divided.modulus rest) bits n word rows at (λ k id small ids. answer k small ∙ ap (λ x. int_eq x rest) (is.1.1 n rows left at here k id small ids)) before
+      | (rows, at) ↦ answers_more blocks (Remainder divided.col divided.modulus rest) bits n word rows at (λ k id small ids. answer k small ∙ ap (λ x. int_eq x rest) (is.2 n rows left at here k id small ids)) before
     ]
   where
     there : {X : Type 0} (xs : List X) (i : ℕ) → i < length xs → (x : X) × (slice_get xs i ≡ Some x)

@@ -66,7 +66,7 @@ impl Columns {
 
     /// Makes the columns those of some rows, unless they seem to be.
     pub fn take_rows(&mut self, rows: &[(RowName, Value)]) -> Result<(), NoMemory> {
-        if self.stale || self.len != rows.len() {
+        if !self.seem_rows(rows) {
             let alloc = *self.blocks.allocator();
             let blocks = blocks_of_rows(alloc, rows)?;
             self.begin(blocks, rows.len())?;
@@ -76,12 +76,24 @@ impl Columns {
 
     /// The same of values.
     pub fn take_values(&mut self, values: &[Value]) -> Result<(), NoMemory> {
-        if self.stale || self.len != values.len() {
+        if !self.seem_values(values) {
             let alloc = *self.blocks.allocator();
             let blocks = blocks_of_values(alloc, values)?;
             self.begin(blocks, values.len())?;
         }
         Ok(())
+    }
+
+    /// Whether they seem to be those of these rows: as many, and the first ones are the same.
+    fn seem_rows(&self, rows: &[(RowName, Value)]) -> bool {
+        let first = rows.split_at(rows.len().min(64)).0;
+        !self.stale && self.len == rows.len() && self.has_rows(0, first)
+    }
+
+    /// The same of values.
+    fn seem_values(&self, values: &[Value]) -> bool {
+        let first = values.split_at(values.len().min(64)).0;
+        !self.stale && self.len == values.len() && self.has_values(0, first)
     }
 
     /// Makes the columns these, of so many rows.

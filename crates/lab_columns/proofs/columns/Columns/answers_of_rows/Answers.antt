@@ -1,0 +1,14 @@
+use Rattle.std.proofs.{Common.{◌<◌, ℤ, get_or, ap, ◌∙◌, arith}, lemmas.Option.{slice_get_within}}
+use Rattle.lab_table.specs.{Row.{Row}, Predicate.{holds}}
+use Rattle.lab_columns.specs.Bits.{has_bit}
+use Rattle.lab_columns.proofs.columns.Columns.answers_of_rows.Goals as goal
+
+pub returns-then-has_rows-clause-answers : goal.returns-then-has_rows-clause-answers
+returns-then-has_rows-clause-answers c = λ k d at.
+    let found = c.has_rows.ensures c.if-has_rows.true in
+    let within : k < 64 = omega (arith, at, c.requires.few) in
+    let row : Row × ℤ = get_or c.args.rows.now k d in
+    let inside = slice_get_within _ c.args.index found.0 found.1 in
+    c.unpacked.ensures.bits k within
+    ∙ ap (λ word. has_bit word k) c.word.ensures
+    ∙ (c.requires.answer.1 c.args.index found.0 inside found.1 k row.0.id within (found.2 k d at).0 ∙ ap (holds c.args.pred.now row.0.id) (found.2 k d at).1)
