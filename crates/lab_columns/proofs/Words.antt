@@ -1,10 +1,10 @@
 -- Bits of words.
-use Rattle.std.proofs.Common.{◌≡◌, ℕ, zero, suc, ◌+◌, ◌-◌, ◌*◌, ◌/◌, ◌%◌, ◌^◌, ◌<◌, ◌≤◌, ◌==◌, ◌||◌, ◌&&◌, ◌≢◌, not, min, max, Bool, true, false, List, get_or, refl, ap, sym, ◌∙◌, inl, inr, arith}
+use Rattle.std.proofs.Common.{◌≡◌, ℕ, zero, suc, ◌+◌, ◌-◌, ◌*◌, ◌/◌, ◌%◌, ◌^◌, ◌<◌, ◌≤◌, ◌==◌, ◌||◌, ◌&&◌, ◌≢◌, not, min, max, Bool, true, false, refl, ap, sym, ◌∙◌, inl, inr, arith}
 use Rattle.std.specs.{Prelude.{bit_or, bit_and}, Int.{bit_at, bit_not}}
 use Rattle.std.proofs.lemmas.{Bool.{cases_eq, cases_lt}, Nat.Bits.{bit_at_or, bit_at_and, bit_at_not, bit_at_ones, bit_at-lt, bit_at-zero, bit_at-pow_same, bit_at-pow_other, shr_and_one}}
 use Rattle.std.proofs.Math.{Pow.{pow-lt}, Nat.{mod-eq_of_lt}}
 use mir.Syntax.{w64}
-use Rattle.lab_columns.specs.Bits.{has_bit, has}
+use Rattle.lab_columns.specs.Bits.{has_bit}
 
 either : (a b : ℕ) → a < 2 → b < 2 → (max a b == 1) ≡ ((a == 1) || (b == 1))
 either zero zero _ _ = refl
@@ -56,8 +56,8 @@ pub tested : (a k : ℕ) → (bit_and (a / 2 ^ k) 1 == 1) ≡ has_bit a k
 unfolding has_bit
 tested a k = ap (λ x. x == 1) (shr_and_one a k)
 
-bit_of : (k : ℕ) → k < 64 → 1 * 2 ^ k % 18446744073709551616 ≡ 2 ^ k
-bit_of k small = let fits : 2 ^ k < 2 ^ 64 = pow-lt small in ap (λ x. x % 18446744073709551616) (omega arith) ∙ mod-eq_of_lt fits
+bit_of : (k : ℕ) → k < 32 → 1 * 2 ^ k % 4294967296 ≡ 2 ^ k
+bit_of k small = let fits : 2 ^ k < 2 ^ 32 = pow-lt small in ap (λ x. x % 4294967296) (omega arith) ∙ mod-eq_of_lt fits
 
 or_true : (x : Bool) → (x || true) ≡ true
 or_true true = refl
@@ -75,20 +75,20 @@ pow_other : (k j : ℕ) → j ≢ k → has_bit (2 ^ k) j ≡ false
 unfolding has_bit
 pow_other k j apart = ap (λ x. x == 1) (bit_at-pow_other k j apart)
 
--- a word with a bit more has it
-pub set_same : (word k : ℕ) → k < 64 → has_bit (bit_or word (1 * 2 ^ k % 18446744073709551616)) k ≡ true
+-- a word of 32 with a bit more has it
+pub set_same : (word k : ℕ) → k < 32 → has_bit (bit_or word (1 * 2 ^ k % 4294967296)) k ≡ true
 set_same word k small = ap (λ b. has_bit (bit_or word b) k) (bit_of k small) ∙ or_has word (2 ^ k) k ∙ ap (λ x. has_bit word k || x) (pow_same k) ∙ or_true (has_bit word k)
 
 -- and else those that it had
-pub set_other : (word k : ℕ) → k < 64 → (j : ℕ) → j ≢ k → has_bit (bit_or word (1 * 2 ^ k % 18446744073709551616)) j ≡ has_bit word j
+pub set_other : (word k : ℕ) → k < 32 → (j : ℕ) → j ≢ k → has_bit (bit_or word (1 * 2 ^ k % 4294967296)) j ≡ has_bit word j
 set_other word k small j apart = ap (λ b. has_bit (bit_or word b) j) (bit_of k small) ∙ or_has word (2 ^ k) j ∙ ap (λ x. has_bit word j || x) (pow_other k j apart) ∙ or_false (has_bit word j)
 
 -- ---- a word that is made bit by bit
-module _ (bits : List Bool) (old new k : ℕ) (is : has_bit new k ≡ (get_or bits k false || has_bit old k)) (others : (j : ℕ) → j ≢ k → has_bit new j ≡ has_bit old j) (done : (j : ℕ) → j < k → has_bit old j ≡ get_or bits j false) (left : (j : ℕ) → k ≤ j → has_bit old j ≡ false) where
-  pub done_more : (j : ℕ) → j < k + 1 → has_bit new j ≡ get_or bits j false
+module _ (f : ℕ → Bool) (old new k : ℕ) (is : has_bit new k ≡ (f k || has_bit old k)) (others : (j : ℕ) → j ≢ k → has_bit new j ≡ has_bit old j) (done : (j : ℕ) → j < k → has_bit old j ≡ f j) (left : (j : ℕ) → k ≤ j → has_bit old j ≡ false) where
+  pub done_more : (j : ℕ) → j < k + 1 → has_bit new j ≡ f j
   done_more j within =
       elim (cases_eq j k) [
-        | inl same ↦ ap (has_bit new) same ∙ (is ∙ (ap (λ x. get_or bits k false || x) (left k (omega arith)) ∙ or_false (get_or bits k false)) ∙ ap (λ i. get_or bits i false) (sym same))
+        | inl same ↦ ap (has_bit new) same ∙ (is ∙ (ap (λ x. f k || x) (left k (omega arith)) ∙ or_false (f k)) ∙ ap f (sym same))
         | inr apart ↦ others j apart ∙ done j (omega (arith, within, apart))
       ]
 

@@ -1,6 +1,6 @@
 //! Lists of bits, 64 in a word.
 
-ghost use Rattle.std.specs.Prelude.{◌≡◌, ◌<◌, ◌≢◌, ◌++◌, ◌∷◌, [], ◌&&◌, ◌||◌, ℕ, not, true, false, length, get_or, IfOk, OnOk};
+ghost use Rattle.std.specs.Prelude.{◌≡◌, ◌+◌, ◌<◌, ◌≢◌, ◌++◌, ◌∷◌, [], ◌&&◌, ◌||◌, ℕ, not, true, false, length, get_or, IfOk, OnOk};
 ghost use Rattle.lab_columns.specs.Bits.{has, has_bit};
 
 use lab_table::NoMemory;
@@ -111,17 +111,6 @@ impl Bits {
     }
 }
 
-/// The word with these bits.
-pub fn packed(bits: &[bool; 64]) -> u64
-    ensures { (k : ℕ) → k < 64 → has_bit result k ≡ get_or bits.now k false }
-{
-    let mut word = 0u64;
-    for place in 0..64 {
-        word = with_bit(word, place, bits[place]);
-    }
-    word
-}
-
 /// The bits that aren't set.
 #[inline(always)]
 pub fn negated(word: u64) -> u64
@@ -171,12 +160,21 @@ pub fn same(bit: bool) -> u64
 
 /// The word with a bit more, or as it is.
 #[inline(always)]
-fn with_bit(word: u64, place: usize, bit: bool) -> u64
-    requires { place < 64 }
+pub fn with_bit(word: u32, place: usize, bit: bool) -> u32
+    requires { place < 32 }
     ensures bit { has_bit result place ≡ (bit || has_bit word place) }
     ensures others { (k : ℕ) → k ≢ place → has_bit result k ≡ has_bit word k }
 {
-    if bit { word | 1u64 << place } else { word }
+    word | u32::from(bit) << place
+}
+
+/// The bits of two words, one after the other.
+#[inline(always)]
+pub fn joined(low: u32, high: u32) -> u64
+    ensures low { (k : ℕ) → k < 32 → has_bit result k ≡ has_bit low k }
+    ensures high { (k : ℕ) → k < 32 → has_bit result (k + 32) ≡ has_bit high k }
+{
+    u64::from(low) | u64::from(high) << 32
 }
 
 /// The bits of a word.

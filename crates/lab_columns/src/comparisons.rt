@@ -1,6 +1,7 @@
 //! Tests of 64 numbers at once, with a bit for each.
 //!
-//! What the least and the greatest number decide isn't asked of each.
+//! What the least and the greatest number decide isn't asked of each. The bits of both halves are found side by side, in words
+//! of 32, which the compiler makes of four at a time.
 
 ghost use Rattle.std.specs.Prelude.{◌≡◌, ◌<◌, ℕ, pos, true, false, get_or, int_lt, int_rem};
 ghost use Rattle.std.specs.List.{list_any};
@@ -8,7 +9,7 @@ ghost use Rattle.std.specs.Ordering.{int_eq};
 ghost use Rattle.lab_columns.specs.Bits.{has_bit};
 ghost use Rattle.lab_columns.specs.Bounds.{IsBounded};
 
-use crate::bits::{either, packed, same};
+use crate::bits::{either, joined, same, with_bit};
 use crate::block::Block;
 use lab_table::{Modulus, Value};
 
@@ -24,7 +25,7 @@ pub fn equal(block: &Block, number: i32) -> u64
     } else if block.least == block.greatest {
         u64::MAX
     } else {
-        packed(&each_equal(&block.numbers, number))
+        each_equal(&block.numbers, number)
     }
 }
 
@@ -36,7 +37,7 @@ pub fn less(block: &Block, number: i32) -> u64
     if block.greatest < number {
         u64::MAX
     } else if block.least < number {
-        packed(&each_less(&block.numbers, number))
+        each_less(&block.numbers, number)
     } else {
         0
     }
@@ -50,7 +51,7 @@ pub fn greater(block: &Block, number: i32) -> u64
     if number < block.least {
         u64::MAX
     } else if number < block.greatest {
-        packed(&each_greater(&block.numbers, number))
+        each_greater(&block.numbers, number)
     } else {
         0
     }
@@ -76,7 +77,7 @@ pub fn leaving(block: &Block, modulus: Modulus, rest: Value) -> u64
     if is_one(block) {
         same(leaves(block.least, modulus, rest))
     } else {
-        packed(&each_leaving(&block.numbers, modulus, rest))
+        each_leaving(&block.numbers, modulus, rest)
     }
 }
 
@@ -88,44 +89,52 @@ fn is_one(block: &Block) -> bool
     block.least == block.greatest
 }
 
-fn each_equal(numbers: &[i32; 64], number: i32) -> [bool; 64]
-    ensures { (k : ℕ) → k < 64 → get_or result k false ≡ int_eq (get_or numbers.now k (pos 0)) number }
+fn each_equal(numbers: &[i32; 64], number: i32) -> u64
+    ensures { (k : ℕ) → k < 64 → has_bit result k ≡ int_eq (get_or numbers.now k (pos 0)) number }
 {
-    let mut answers = [false; 64];
-    for place in 0..64 {
-        answers[place] = numbers[place] == number;
+    let mut low = 0;
+    let mut high = 0;
+    for place in 0..32 {
+        low = with_bit(low, place, numbers[place] == number);
+        high = with_bit(high, place, numbers[place + 32] == number);
     }
-    answers
+    joined(low, high)
 }
 
-fn each_less(numbers: &[i32; 64], number: i32) -> [bool; 64]
-    ensures { (k : ℕ) → k < 64 → get_or result k false ≡ int_lt (get_or numbers.now k (pos 0)) number }
+fn each_less(numbers: &[i32; 64], number: i32) -> u64
+    ensures { (k : ℕ) → k < 64 → has_bit result k ≡ int_lt (get_or numbers.now k (pos 0)) number }
 {
-    let mut answers = [false; 64];
-    for place in 0..64 {
-        answers[place] = numbers[place] < number;
+    let mut low = 0;
+    let mut high = 0;
+    for place in 0..32 {
+        low = with_bit(low, place, numbers[place] < number);
+        high = with_bit(high, place, numbers[place + 32] < number);
     }
-    answers
+    joined(low, high)
 }
 
-fn each_greater(numbers: &[i32; 64], number: i32) -> [bool; 64]
-    ensures { (k : ℕ) → k < 64 → get_or result k false ≡ int_lt number (get_or numbers.now k (pos 0)) }
+fn each_greater(numbers: &[i32; 64], number: i32) -> u64
+    ensures { (k : ℕ) → k < 64 → has_bit result k ≡ int_lt number (get_or numbers.now k (pos 0)) }
 {
-    let mut answers = [false; 64];
-    for place in 0..64 {
-        answers[place] = number < numbers[place];
+    let mut low = 0;
+    let mut high = 0;
+    for place in 0..32 {
+        low = with_bit(low, place, number < numbers[place]);
+        high = with_bit(high, place, number < numbers[place + 32]);
     }
-    answers
+    joined(low, high)
 }
 
-fn each_leaving(numbers: &[i32; 64], modulus: Modulus, rest: Value) -> [bool; 64]
-    ensures { (k : ℕ) → k < 64 → get_or result k false ≡ int_eq (int_rem (get_or numbers.now k (pos 0)) (pos modulus)) rest }
+fn each_leaving(numbers: &[i32; 64], modulus: Modulus, rest: Value) -> u64
+    ensures { (k : ℕ) → k < 64 → has_bit result k ≡ int_eq (int_rem (get_or numbers.now k (pos 0)) (pos modulus)) rest }
 {
-    let mut answers = [false; 64];
-    for place in 0..64 {
-        answers[place] = leaves(numbers[place], modulus, rest);
+    let mut low = 0;
+    let mut high = 0;
+    for place in 0..32 {
+        low = with_bit(low, place, leaves(numbers[place], modulus, rest));
+        high = with_bit(high, place, leaves(numbers[place + 32], modulus, rest));
     }
-    answers
+    joined(low, high)
 }
 
 /// Whether a number divided by the modulus leaves this rest, which has the sign of the number.
