@@ -35,7 +35,7 @@ IsDivided blocks divided =
     (length divided.left.items ≡ length blocks)
     × LieBetween divided.left.items
     × ((b : ℕ) (rows : Rows) (left : Block) → slice_get blocks b ≡ Some rows → slice_get divided.left.items b ≡ Some left
-        → (k id : ℕ) → k < 64 → get_or rows.ids.numbers k (pos 0) ≡ pos id → get_or left.numbers k (pos 0) ≡ int_rem (column divided.col id (get_or rows.values.numbers k (pos 0))) (pos divided.modulus))
+    → (k id : ℕ) → k < 64 → get_or rows.ids.numbers k (pos 0) ≡ pos id → get_or left.numbers k (pos 0) ≡ int_rem (column divided.col id (get_or rows.values.numbers k (pos 0))) (pos divided.modulus))
 
 abbrev pub AreDivided : List Rows → List Divided → Type 0
 AreDivided blocks list = (j : ℕ) (divided : Divided) → slice_get list j ≡ Some divided → IsDivided blocks divided

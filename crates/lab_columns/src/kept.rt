@@ -133,7 +133,11 @@ impl Kept {
 
 /// The place after this one among so many, after the last one the first.
 fn next_place(place: usize, places: usize) -> usize {
-    if place < places && places - place > 1 { place + 1 } else { 0 }
+    if place < places && places - place > 1 {
+        place + 1
+    } else {
+        0
+    }
 }
 
 /// The answer, if it is kept in this slot.
@@ -181,7 +185,11 @@ fn no_answers(alloc: Global, slots: usize) -> Result<Vec<Option<Answer>>, NoMemo
 /// A slot for a remainder test among this many.
 fn slot_of(slots: usize, col: Col, modulus: Modulus, rest: Value) -> usize {
     let rest = rest.number() as u32;
-    let mixed = modulus.number().wrapping_mul(2_654_435_761).wrapping_add(rest).wrapping_mul(2_246_822_519);
+    let mixed = modulus
+        .number()
+        .wrapping_mul(2_654_435_761)
+        .wrapping_add(rest)
+        .wrapping_mul(2_246_822_519);
     let mixed = match col {
         Col::Id => !mixed,
         Col::Value => mixed,

@@ -15,11 +15,7 @@ use std::alloc::Global;
 /// Of which rows the condition is true.
 ///
 /// The second of two conditions is asked first: where many are joined, it is one test.
-pub fn holds_all(
-    pred: &Pred,
-    blocks: &[Rows],
-    kept: &mut Kept,
-) -> Result<Bits, NoMemory>
+pub fn holds_all(pred: &Pred, blocks: &[Rows], kept: &mut Kept) -> Result<Bits, NoMemory>
     requires bounded { AreBounded blocks.now }
     requires right { AreRight blocks.now kept.old }
     ensures right { AreRight blocks.now kept.new }
@@ -76,12 +72,7 @@ fn comparison(
 }
 
 /// In which rows a column is one of these numbers.
-fn members(
-    alloc: Global,
-    blocks: &[Rows],
-    col: Col,
-    numbers: &[Value],
-) -> Result<Bits, NoMemory>
+fn members(alloc: Global, blocks: &[Rows], col: Col, numbers: &[Value]) -> Result<Bits, NoMemory>
     requires { AreBounded blocks.now }
     ensures { IfOk result (λ bits. IsAnswer (OneOf col numbers.now) blocks.now bits) }
 {

@@ -18,6 +18,6 @@ loop-rest-preserved c =
     let answered : (k : ℕ) → k < length front → get_or each k false ≡ f (get_or front k d) = λ k at. c.answers_of_rows.ensures.answers k d at in
     let before : so_far ++ map f (front ++ behind) ≡ map f all = subst (λ ys. so_far ++ map f ys ≡ map f all) c.split_at.ensures.by_index.0 c.loop-rest.invariant.0 in (
       ap (λ ys. ys ++ map f behind) c.in_ok-add_first.ensures
-      ∙ answers_next f each front d c.answers_of_rows.ensures.length few answered so_far behind all before (map-append f front behind),
+          ∙ answers_next f each front d c.answers_of_rows.ensures.length few answered so_far behind all before (map-append f front behind),
       subst (λ blocks. IsAnswer p blocks c.in_ok-bits.bits) (sym c.answers_of_rows.ensures.blocks) c.loop-rest.invariant.1,
     )
