@@ -4,3 +4,5 @@ pub mod Sets
 pub mod Pairs
 pub mod More
 pub mod Tables
+pub mod Blocks
+pub mod Filing

@@ -1,3 +1,4 @@
 pub mod Column
 pub mod Conditions
+pub mod Filed
 pub mod Index

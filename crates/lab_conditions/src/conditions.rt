@@ -1,11 +1,8 @@
 //! The conditions on the rows of one table.
 
-ghost use Rattle.std.specs.Prelude.{◌≡◌, ℤ, not};
-ghost use Rattle.std.specs.List.{list_any};
-ghost use Rattle.lab_table.specs.Predicate.{compares};
-ghost use Rattle.lab_conditions.specs.Conditions.{is_true_of};
-
 use crate::column_tests::ColumnTests;
+use crate::comparison::opposite;
+use crate::filed::Filed;
 use lab_table::{Cmp, Col, Modulus, NoMemory, Pred, PredKind, RowId, StatementKind, Value};
 use std::alloc::Global;
 use std::marker::Model;
@@ -20,7 +17,7 @@ pub(crate) struct Conditions {
     /// Tests of the column value alone.
     values: ColumnTests,
     /// All other conditions.
-    others: Vec<Pred>,
+    others: Filed,
 }
 
 impl Model for Conditions {
@@ -30,7 +27,7 @@ impl Model for Conditions {
 
     ghost coded = { coded_conditions };
 
-    ghost view = { λ c. record { whole = c.whole; ids = c.ids; values = c.values; others = c.others.items } };
+    ghost view = { λ c. record { whole = c.whole; ids = c.ids; values = c.values; others = c.others } };
 }
 
 impl Conditions {
@@ -50,7 +47,7 @@ impl Conditions {
             whole: false,
             ids: ColumnTests::new(alloc),
             values: ColumnTests::new(alloc),
-            others: Vec::new(alloc),
+            others: Filed::new(alloc),
         }
     }
 
@@ -61,7 +58,7 @@ impl Conditions {
         self.whole
             || self.ids.passes(i64::from(id.number()))
             || self.values.passes(value.number())
-            || any_of(&self.others, id, value)
+            || self.others.any_holds(id, value)
     }
 
     /// Adds what a statement on the table matches.
@@ -108,7 +105,7 @@ impl Conditions {
             }
             PredKind::OneOf { col, numbers } => self.add_numbers(*col, numbers.as_slice()),
             PredKind::Not(p) => self.add_opposite(alloc, p),
-            PredKind::And(..) => self.add_other(pred.copy(alloc)?),
+            PredKind::And(..) => self.add_other(alloc, pred.copy(alloc)?),
             PredKind::Or(p, q) => {
                 self.add_condition(alloc, p)?;
                 self.add_condition(alloc, q)
@@ -132,9 +129,8 @@ impl Conditions {
             }
             PredKind::Remainder { .. } | PredKind::OneOf { .. } | PredKind::Or(..) => {
                 let pred = pred.copy(alloc)?;
-                self.add_other(Pred {
-                    kind: PredKind::Not(Box::new(alloc, pred)?),
-                })
+                let kind = PredKind::Not(Box::new(alloc, pred)?);
+                self.add_other(alloc, Pred { kind })
             }
         }
     }
@@ -169,32 +165,10 @@ impl Conditions {
         }
     }
 
-    /// Adds a condition that is tested for itself.
-    fn add_other(&mut self, pred: Pred) -> Result<(), NoMemory>
+    /// Adds a condition that is filed by one of its parts.
+    fn add_other(&mut self, alloc: Global, pred: Pred) -> Result<(), NoMemory>
         ensures { OnOk result ((id : ℕ) (value : ℤ) → any_holds self.new id value ≡ (any_holds self.old id value || holds pred id value)) }
     {
-        self.others.push(pred)?;
-        Ok(())
-    }
-}
-
-/// Whether one of these conditions is true of the row `id` with this value.
-fn any_of(others: &[Pred], id: RowId, value: Value) -> bool
-    ensures { result ≡ list_any (is_true_of id value) others.now }
-{
-    others.iter().any(|pred| pred.matches(id, value))
-}
-
-/// The comparison that is true exactly where this one is false.
-fn opposite(cmp: Cmp) -> Cmp
-    ensures { (a b : ℤ) → compares result a b ≡ not (compares cmp a b) }
-{
-    match cmp {
-        Cmp::Eq => Cmp::Ne,
-        Cmp::Ne => Cmp::Eq,
-        Cmp::Lt => Cmp::Ge,
-        Cmp::Le => Cmp::Gt,
-        Cmp::Gt => Cmp::Le,
-        Cmp::Ge => Cmp::Lt,
+        self.others.add(alloc, pred)
     }
 }
