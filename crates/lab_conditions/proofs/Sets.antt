@@ -1,5 +1,5 @@
 -- What a set's keys pass once one more key is put in.
-use Rattle.std.proofs.{Common.{◌≡◌, ◌<◌, ℕ, zero, suc, Bool, true, false, not, ◌||◌, List, [], ◌∷◌, length, get_or, refl, sym, ap, arith, ◌∙◌}, lemmas.{Bool.{true≢false}, List.Sorted.{list_any-IsPermutation}}}
+use Rattle.std.proofs.{Common.{◌≡◌, Bool, true, false, not, ◌||◌, List, [], ◌∷◌, refl, sym, ap, ◌∙◌}, lemmas.{Bool.{true≢false}, List.Sorted.{list_any-IsPermutation}}}
 use Rattle.std.specs.{List.{list_any}, List.Sorted.{IsPermutation}, Bool.{MatchBool}, BTreeSet.{insert_key}, Ordering.{match_ordering}, declared.cmp.Ordering.{Ordering, TheVariants.{Less, Equal, Greater}}}
 use Rattle.lab_conditions.proofs.Ors.{or_comm, or_assoc, or_again}
 
@@ -34,8 +34,3 @@ module _ {K : Type 0} (f : K → Bool) where
         at rest Less q = or_comm (f k) (f x || list_any f xs)
         at rest Equal q = or_again (f x) (list_any f xs) ∙ ap (λ b. (f x || list_any f xs) || b) (ap f (sym (apart k x q)))
         at rest Greater q = ap (λ b. f x || b) rest ∙ sym (or_assoc (f x) (list_any f xs) (f k))
-  -- an element that is there adds nothing
-  pub any_there : (xs : List K) (i : ℕ) (x : K) → i < length xs → get_or xs i x ≡ x → list_any f xs ≡ (list_any f xs || f x)
-  any_there [] i x within is = absurd (omega (arith, within))
-  any_there (y ∷ ys) zero x within is = or_again (f y) (list_any f ys) ∙ ap (λ b. (f y || list_any f ys) || b) (ap f is)
-  any_there (y ∷ ys) (suc i) x within is = ap (λ b. f y || b) (any_there ys i x (omega (arith, within)) is) ∙ sym (or_assoc (f y) (list_any f ys) (f x))

@@ -69,7 +69,11 @@ fn bounds_of_opposite(pred: &Pred) -> Bounds
     ensures { (id : ℕ) (value : ℤ) → holds pred.now id value ≡ false → IsWithin result value }
 {
     match &pred.kind {
-        PredKind::Compare { col, cmp, number } => bounds_of_comparison(*col, opposite(*cmp), *number),
+        PredKind::Compare { col, cmp, number } => bounds_of_comparison(
+            *col,
+            opposite(*cmp),
+            *number,
+        ),
         PredKind::Not(p) => bounds_of(p),
         PredKind::Or(p, q) => bounds_of_opposite(p).and(bounds_of_opposite(q)),
         PredKind::Remainder { .. } | PredKind::OneOf { .. } | PredKind::And(..) => Bounds::NONE,
@@ -141,18 +145,9 @@ fn block_of(low: i64, high: i64) -> Key
     Key::ANYTHING
 }
 
-/// The last number of the first block, for several sizes of blocks; the highest power of 2 is above all values.
+/// The last number of the first block, for several sizes of blocks from 64 to 2^28.
 const LASTS: [u32; 10] = [
-    0x3f,
-    0x3ff,
-    0x3fff,
-    0xffff,
-    0x3_ffff,
-    0xf_ffff,
-    0x3f_ffff,
-    0xff_ffff,
-    0x3ff_ffff,
-    0xfff_ffff,
+    0x3f, 0x3ff, 0x3fff, 0xffff, 0x3_ffff, 0xf_ffff, 0x3f_ffff, 0xff_ffff, 0x3ff_ffff, 0xfff_ffff,
 ];
 
 /// A key by the block that has both numbers, or None where they are in different blocks.

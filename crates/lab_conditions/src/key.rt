@@ -82,5 +82,9 @@ fn key_of_comparison(col: Col, cmp: Cmp, number: Value) -> Key
 fn better(a: Key, b: Key) -> Key
     ensures { (id : ℕ) (value : ℤ) → looked a.lens id value ≡ a.number → looked b.lens id value ≡ b.number → looked result.lens id value ≡ result.number }
 {
-    if a.lens.worth() < b.lens.worth() { b } else { a }
+    if a.lens.worth() < b.lens.worth() {
+        b
+    } else {
+        a
+    }
 }
