@@ -23,7 +23,7 @@ pub use Rattle.lab_engine.specs.Laws.{AllApart, AllDone, AllNumbered, AllRan, Al
 pub use Rattle.lab_engine.specs.LeastCircle.{IsLeastCircle, NamesLeastOf, NamesLeastOfWaiting, NotAfter}
 pub use Rattle.lab_engine.specs.Log.{active, active_after, asked, begun, begun_after, commits, commits_after, committed_version, has_read, initial_version, installers, is_fatal, last_installed, last_version, ops_after, Past, past_of, seen, sight, Txn, Version, version_by, version_or, waiting, waiting_after, writers}
 pub use Rattle.lab_engine.specs.{Merging.{initial_entry, merged, without_row, written_version}, Others.{IsOther}, OverLimit.{BreaksLimit, fault_of, HasTooMuch, IsFirstFault, IsOfParts, IsRecordFault, KeepsBefore}}
-pub use Rattle.lab_engine.specs.Overlay.{AreMatching, laid_over, matching_entries, matching_rows, name_over, seen_of, seen_over}
+pub use Rattle.lab_engine.specs.Overlay.{AreMatching, laid_over, matching_entries, name_over, present_rows, seen_of, seen_over}
 pub use Rattle.lab_engine.specs.{Recording.{end_of, has_number, if_any, IsLeastRetryable, IsLegalRecording, IsRecording, IsRetryable, NoneRetryable, numbers_from, op_of, ops_of, recorded_txn, recorded_txns}, RuleTable.{If, rules_of, Where}}
 pub use Rattle.lab_engine.specs.Rules.{Asks, BlockedBy, Blocks, ChangesRead, ComesFirst, Conflicts, ConflictsBy, ConflictsRead, Gives, HasRead, HoldsMatch, HoldsWrite, in_view, IsBelow, IsChain, IsCircle, IsEffect, IsEffectOn, IsFirstCommitter, IsFirstConflict, IsFree, IsInsertOf, IsLegal, IsUpdate, MayAsk, MayCommit, NoneChangesRead, Permitted, ReadsStand, state_after}
 pub use Rattle.lab_engine.specs.{SessionBits.{AreSessions}, Sight.{comes_after, initially}}

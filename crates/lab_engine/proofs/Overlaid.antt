@@ -1,6 +1,6 @@
 -- Which rows match a statement, of a setup's and of written rows over them.
 use Rattle.std.proofs.lemmas.List.{drop-map, take-map, Elements.{filter_map-append}}
-use Rattle.lab_engine.proofs.{Common.{ap, append_assoc, AreMatching, Asker, Bool, comes_after, cond, cons_option, drop, each_row, entries, entries_in, false, false_from_ne_true, false≢true, find, from_sorted, get, get-from_sorted, in_view, initial_entry, initially, is_gt, is_sorted, Kept, kept_at, laid_over, List, map, matching_entries, matching_rows, may_match, merged, name_over, no_match, None, Option, option_and_then, prefix_len, refl, Row, row_cmp, row_eq, row_eq_self, row_test, same_row, seen_in, seen_of, seen_over, Some, State, Statement, subst, sym, T, take, true, unwrap_or, Version, VersionName, with_row, without_row, ℕ, ℤ, [], ◌++◌, ◌+◌, ◌∙◌, ◌∷◌, ◌≡◌, IsStrictlySortedBy, is_at, keys_of, lookup, matched, or_none}, Effects.{find_made}, KeptChains.{each_found, each_kept, seen_kept}, Merging.{Entries, over_found, over_sorted}}
+use Rattle.lab_engine.proofs.{Common.{ap, append_assoc, AreMatching, Asker, Bool, comes_after, cond, cons_option, drop, each_row, entries, entries_in, false, false_from_ne_true, false≢true, filter, find, from_sorted, get, get-from_sorted, in_view, initial_entry, initially, is_gt, is_sorted, Kept, kept_at, laid_over, List, map, matching_entries, matches, may_match, present_rows, merged, name_over, no_match, None, Option, option_and_then, prefix_len, refl, Row, row_cmp, row_eq, row_eq_self, row_test, same_row, seen_in, seen_of, seen_over, Some, State, Statement, subst, sym, T, take, true, unwrap_or, Version, VersionName, with_row, without_row, ℕ, ℤ, [], ◌++◌, ◌+◌, ◌∙◌, ◌∷◌, ◌≡◌, IsStrictlySortedBy, is_at, keys_of, lookup, matched, or_none}, Effects.{find_made}, KeptChains.{each_found, each_kept, seen_kept}, Merging.{Entries, over_found, over_sorted}}
 
 -- ---- the walk through both lists
 
@@ -16,48 +16,61 @@ behind_initial row (e ∷ es) = elim (row_test row e.0) as (λ b. cond b (map in
   | false ↦ refl
 ]
 
+one_first : (o : Option (Row × ℤ)) (es : List (Row × ℤ)) → cons_option o es ≡ cons_option o [] ++ es
+one_first None es = refl
+one_first (Some e) es = refl
+
+-- initial versions are present as their rows are
+pub present_initial : (es : List (Row × ℤ)) → present_rows (map initial_entry es) ≡ es
+present_initial [] = refl
+present_initial (e ∷ es) = ap (λ l. e ∷ l) (present_initial es)
+
+-- up to the first written row those that are present are these
+laid_step : (row : Row) (v : Version) (n : ℕ) (left rest : List (Row × ℤ)) (over : Entries) → n ≡ prefix_len (comes_after row) left → rest ≡ without_row row (drop n left)
+    → present_rows (laid_over left ((row, v) ∷ over)) ≡ take n left ++ cons_option (with_row row v.state) (present_rows (laid_over rest over))
+laid_step row v n left rest over at is =
+    let f : Row × Version → Option (Row × ℤ) = λ e. with_row e.0 e.1.state in
+    let own : Option (Row × ℤ) = with_row row v.state in
+    let place : prefix_len (comes_after row) (map initial_entry left) ≡ n = front_initial row left ∙ sym at in
+    let whole : ℕ → Entries = λ k. take k (map initial_entry left) ++ (row, v) ∷ merged (without_row row (drop k (map initial_entry left))) over in
+    let below : without_row row (drop n (map initial_entry left)) ≡ map initial_entry rest =
+    ap (without_row row) (drop-map initial_entry n left) ∙ behind_initial row (drop n left) ∙ ap (map initial_entry) (sym is) in
+    ap (λ k. present_rows (whole k)) place
+    ∙ filter_map-append f (take n (map initial_entry left)) ((row, v) ∷ merged (without_row row (drop n (map initial_entry left))) over)
+    ∙ ap (λ l. present_rows l ++ cons_option own (present_rows (merged (without_row row (drop n (map initial_entry left))) over))) (take-map initial_entry n left)
+    ∙ ap (λ l. l ++ cons_option own (present_rows (merged (without_row row (drop n (map initial_entry left))) over))) (present_initial (take n left))
+    ∙ ap (λ l. take n left ++ cons_option own (present_rows (merged l over))) below
+
+-- with these put behind the others, those that are left are those of the rest
+pub walk_step : (found some news : List (Row × ℤ)) (row : Row) (v : Version) (n : ℕ) (left rest : List (Row × ℤ)) (over : Entries) (all : List (Row × ℤ))
+    → found ++ present_rows (laid_over left ((row, v) ∷ over)) ≡ all → n ≡ prefix_len (comes_after row) left → rest ≡ without_row row (drop n left)
+    → some ≡ found ++ take n left → news ≡ some ++ cons_option (with_row row v.state) []
+    → news ++ present_rows (laid_over rest over) ≡ all
+walk_step found some news row v n left rest over all before at is front own =
+    let one : List (Row × ℤ) = cons_option (with_row row v.state) [] in
+    let after : List (Row × ℤ) = present_rows (laid_over rest over) in
+    ap (λ l. l ++ after) (own ∙ ap (λ l. l ++ one) front)
+    ∙ append_assoc (found ++ take n left) one after
+    ∙ append_assoc found (take n left) (one ++ after)
+    ∙ ap (λ l. found ++ (take n left ++ l)) (sym (one_first (with_row row v.state) after))
+    ∙ sym (ap (λ l. found ++ l) (laid_step row v n left rest over at is))
+    ∙ before
+
 module _ (s : Statement) where
-  -- initial versions match as their rows do
-  pub matching_initial : (es : List (Row × ℤ)) → matching_entries s (map initial_entry es) ≡ matching_rows s es
-  matching_initial [] = refl
-  matching_initial (e ∷ es) = ap (cons_option (with_row e.0 (matched s e.0 (Some e.1)))) (matching_initial es)
+  abbrev is_matching : Row × ℤ → Bool
+  is_matching e = matches s e.0 (Some e.1)
 
-  one_first : (o : Option (Row × ℤ)) (es : List (Row × ℤ)) → cons_option o es ≡ cons_option o [] ++ es
-  one_first None es = refl
-  one_first (Some e) es = refl
+  one_matching : (row : Row) (state : State) (es : List (Row × ℤ)) → filter is_matching (cons_option (with_row row state) es) ≡ cons_option (with_row row (matched s row state)) (filter is_matching es)
+  one_matching row None es = refl
+  one_matching row (Some value) es = elim (matches s row (Some value)) as (λ b. cond b ((row, value) ∷ filter is_matching es) (filter is_matching es) ≡ cons_option (with_row row (cond b (Some value) None)) (filter is_matching es)) [
+    | true ↦ refl
+    | false ↦ refl
+  ]
 
-  -- up to the first written row those that match are these
-  laid_step : (row : Row) (v : Version) (n : ℕ) (left rest : List (Row × ℤ)) (over : Entries) → n ≡ prefix_len (comes_after row) left → rest ≡ without_row row (drop n left)
-      → matching_entries s (laid_over left ((row, v) ∷ over))
-      ≡ matching_rows s (take n left) ++ cons_option (with_row row (matched s row v.state)) (matching_entries s (laid_over rest over))
-  laid_step row v n left rest over at is =
-      let f : Row × Version → Option (Row × ℤ) = λ e. with_row e.0 (matched s e.0 e.1.state) in
-      let own : Option (Row × ℤ) = with_row row (matched s row v.state) in
-      let place : prefix_len (comes_after row) (map initial_entry left) ≡ n = front_initial row left ∙ sym at in
-      let whole : ℕ → Entries = λ k. take k (map initial_entry left) ++ (row, v) ∷ merged (without_row row (drop k (map initial_entry left))) over in
-      let below : without_row row (drop n (map initial_entry left)) ≡ map initial_entry rest =
-      ap (without_row row) (drop-map initial_entry n left) ∙ behind_initial row (drop n left) ∙ ap (map initial_entry) (sym is) in
-      ap (λ k. matching_entries s (whole k)) place
-      ∙ filter_map-append f (take n (map initial_entry left)) ((row, v) ∷ merged (without_row row (drop n (map initial_entry left))) over)
-      ∙ ap (λ l. matching_entries s l ++ cons_option own (matching_entries s (merged (without_row row (drop n (map initial_entry left))) over))) (take-map initial_entry n left)
-      ∙ ap (λ l. l ++ cons_option own (matching_entries s (merged (without_row row (drop n (map initial_entry left))) over))) (matching_initial (take n left))
-      ∙ ap (λ l. matching_rows s (take n left) ++ cons_option own (matching_entries s (merged l over))) below
-
-  -- with these put behind the others, those that are left to find are those of the rest
-  pub walk_step : (found some news : List (Row × ℤ)) (row : Row) (v : Version) (n : ℕ) (left rest : List (Row × ℤ)) (over : Entries) (all : List (Row × ℤ))
-      → found ++ matching_entries s (laid_over left ((row, v) ∷ over)) ≡ all → n ≡ prefix_len (comes_after row) left → rest ≡ without_row row (drop n left)
-      → some ≡ found ++ matching_rows s (take n left) → news ≡ some ++ cons_option (with_row row (matched s row v.state)) []
-      → news ++ matching_entries s (laid_over rest over) ≡ all
-  walk_step found some news row v n left rest over all before at is front own =
-      let matching : List (Row × ℤ) = matching_rows s (take n left) in
-      let one : List (Row × ℤ) = cons_option (with_row row (matched s row v.state)) [] in
-      let after : List (Row × ℤ) = matching_entries s (laid_over rest over) in
-      ap (λ l. l ++ after) (own ∙ ap (λ l. l ++ one) front)
-      ∙ append_assoc (found ++ matching) one after
-      ∙ append_assoc found matching (one ++ after)
-      ∙ ap (λ l. found ++ (matching ++ l)) (sym (one_first (with_row row (matched s row v.state)) after))
-      ∙ sym (ap (λ l. found ++ l) (laid_step row v n left rest over at is))
-      ∙ before
+  -- of the rows that are present those that match
+  pub present_matching : (es : Entries) → filter is_matching (present_rows es) ≡ matching_entries s es
+  present_matching [] = refl
+  present_matching (e ∷ es) = one_matching e.0 e.1.state (present_rows es) ∙ ap (cons_option (with_row e.0 (matched s e.0 e.1.state))) (present_matching es)
 
 -- ---- what is found
 

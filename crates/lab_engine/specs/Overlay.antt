@@ -31,9 +31,9 @@ name_over version = option_and_then (λ v. in_view v.name) version
 abbrev pub matching_entries : Statement → List (Row × Version) → List (Row × ℤ)
 matching_entries s entries = each_row (λ row version. matched s row version.state) entries
 
--- of rows with their values those that match a statement
-abbrev pub matching_rows : Statement → List (Row × ℤ) → List (Row × ℤ)
-matching_rows s rows = each_row (λ row value. matched s row (Some value)) rows
+-- of rows with their versions those that are present, with their values
+abbrev pub present_rows : List (Row × Version) → List (Row × ℤ)
+present_rows entries = each_row (λ row version. version.state) entries
 
 -- a setup's rows with their values, and the versions of written rows over them
 abbrev pub laid_over : List (Row × ℤ) → List (Row × Version) → List (Row × Version)

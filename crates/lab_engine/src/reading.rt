@@ -1,6 +1,6 @@
 //! What a session sees of rows, and which of these match a statement.
 
-ghost use Rattle.std.specs.Prelude.{◌≡◌, ◌++◌, [], IfOk};
+ghost use Rattle.std.specs.Prelude.{◌≡◌, ◌++◌, ℤ, List, [], IfOk};
 ghost use Rattle.std.specs.List.{cons_option};
 ghost use Rattle.std.specs.BTreeMap.{IsOrdered};
 ghost use Rattle.std.specs.FinMap as map;
@@ -9,11 +9,12 @@ ghost use Rattle.lab_table.specs.Statement.{matched};
 ghost use Rattle.lab_engine.specs.Asker.{seen_in};
 ghost use Rattle.lab_engine.specs.EachRow.{with_row, each_row};
 ghost use Rattle.lab_engine.specs.Rules.{in_view};
-ghost use Rattle.lab_engine.specs.Overlay.{seen_of, name_over, matching_rows, AreMatching};
+ghost use Rattle.lab_engine.specs.Overlay.{seen_of, name_over, laid_over, present_rows, AreMatching};
 
 use crate::asker::Asker;
 use crate::row_state::RowState;
 use crate::version::{behind, place_near};
+use lab_columns::add_matching;
 use lab_history::{VersionName, View};
 use lab_table::{NoMemory, RowName, Session, Statement, Value};
 use std::alloc::Global;
@@ -120,8 +121,7 @@ fn entry_of(
     Ok(entries)
 }
 
-/// The rows that match, of the setup's and those that transactions have written: walks through both at once, and tests a
-/// row in the version that is seen alone.
+/// The rows that match, of the setup's and those that transactions have written, in the version that is seen.
 fn all_matching(
     alloc: Global,
     asker: &Asker,
@@ -129,37 +129,48 @@ fn all_matching(
 ) -> Result<Vec<(RowName, Value)>, NoMemory>
     ensures { IfOk result (λ v. AreMatching statement.now (seen_in asker.now) v.items) }
 {
+    let rows = asker.situation.rows.by_row();
+    let setup = asker.setup.rows();
+    let seen = rows_seen(alloc, setup, rows, asker.session, asker.sees_before)?;
     let mut found = Vec::new(alloc);
-    let mut left = asker.setup.rows();
-    for (row, kept) in asker.situation.rows.by_row() {
-        if let Some(version) = kept.seen_by(asker.session, asker.sees_before) {
-            let (before, rest) = left.split_at(place_near(left, *row));
-            put_matching(statement, before, &mut found)?;
-            put_entry(matching_entry(statement, *row, version.state), &mut found)?;
-            left = behind(rest, *row);
-        }
-    }
-    put_matching(statement, left, &mut found)?;
+    add_matching(statement, &seen, &mut found)?;
     Ok(found)
 }
 
-/// Puts those of some rows that match behind others.
-fn put_matching(
-    statement: &Statement,
-    rows: &[(RowName, Value)],
-    found: &mut Vec<(RowName, Value)>,
-) -> Result<(), NoMemory>
-    ensures { IfOk result (λ _. found.new.items ≡ found.old.items ++ matching_rows statement.now rows.now) }
+/// The rows that are present as a session sees them, with their values, by rising row. It goes through the setup's rows
+/// and those that transactions have written at once.
+fn rows_seen(
+    alloc: Global,
+    setup: &[(RowName, Value)],
+    rows: &BTreeMap<RowName, RowState>,
+    session: Session,
+    place: usize,
+) -> Result<Vec<(RowName, Value)>, NoMemory>
+    ensures ordered { IfOk result (λ _. IsOrdered row_cmp rows.now) }
+    ensures made { IfOk result (λ v. v.items ≡ present_rows (laid_over setup.now (each_row (λ row kept. seen_of session place kept) rows.now.entries))) }
 {
-    for row in rows {
-        if let Some(entry) = matching_entry(statement, row.0, Some(row.1)) {
-            found.push(entry)?;
+    let mut seen = Vec::with_capacity(alloc, setup.len())?;
+    let mut left = setup;
+    for (row, kept) in rows {
+        if let Some(version) = kept.seen_by(session, place) {
+            let (before, rest) = left.split_at(place_near(left, *row));
+            seen.extend_from_slice(before)?;
+            put_entry(present_entry(*row, version.state), &mut seen)?;
+            left = behind(rest, *row);
         }
     }
-    Ok(())
+    seen.extend_from_slice(left)?;
+    Ok(seen)
 }
 
-/// Puts this entry, if there is one, behind others.
+/// A row with its value in this state, where it is present.
+fn present_entry(row: RowName, state: Option<Value>) -> Option<(RowName, Value)>
+    ensures { result ≡ with_row row state }
+{
+    Some((row, state?))
+}
+
+/// Adds this entry, if there is one, after the others.
 fn put_entry(
     entry: Option<(RowName, Value)>,
     found: &mut Vec<(RowName, Value)>,
