@@ -1,6 +1,6 @@
 //! The statements that a transaction has run.
 
-ghost use Rattle.std.specs.Prelude.{◌≡◌, ◌+◌, ◌++◌, ◌∷◌, ◌≤◌, [], length, take, OnOk};
+ghost use Rattle.std.specs.Prelude.{◌≡◌, ◌+◌, ◌++◌, ◌∷◌, ◌||◌, ◌≤◌, [], length, take, OnOk};
 ghost use Rattle.std.specs.List.{list_any};
 ghost use Rattle.lab_table.specs.Statement.{matches};
 ghost use Rattle.lab_conditions.specs.Index.{Covers};
@@ -64,6 +64,17 @@ impl StatementsRun {
         self.index.matches_any(indexed, row, state) || any_matches(rest, &row, &state)
     }
 
+    /// Whether one of the statements matches a row in one of two states.
+    pub fn has_read_either(&self, row: RowName, old: Option<Value>, new: Option<Value>) -> bool
+        ensures { result ≡ (list_any (λ s. matches s row old) self.now.items || list_any (λ s. matches s row new) self.now.items) }
+    {
+        let (indexed, rest) = self.list.split_at(self.indexed);
+        if any_matches_either(rest, &row, &old, &new) {
+            return true;
+        }
+        self.index.matches_any(indexed, row, old) || self.index.matches_any(indexed, row, new)
+    }
+
     /// Makes room for one more statement.
     pub(crate) fn reserve(&mut self) -> Result<(), NoMemory>
         ensures items { self.new.items ≡ self.old.items }
@@ -93,6 +104,19 @@ fn any_matches(statements: &[Statement], row: &RowName, state: &Option<Value>) -
     statements
         .iter()
         .any(|statement| statement.matches(*row, *state))
+}
+
+/// Whether one of some statements matches a row in one of two states.
+fn any_matches_either(
+    statements: &[Statement],
+    row: &RowName,
+    old: &Option<Value>,
+    new: &Option<Value>,
+) -> bool
+    ensures { result ≡ list_any (λ s. matches s row.now old.now || matches s row.now new.now) statements.now }
+{
+    statements.iter().any(|statement| statement.matches(*row, *old)
+        || statement.matches(*row, *new))
 }
 
 /// Adds to an index that covers so many statements of a list the others of the list.

@@ -9,20 +9,8 @@ ghost use Rattle.lab_engine.specs.Rules.{HasRead};
 ghost use Rattle.lab_engine.specs.SessionBits.{has};
 ghost use Rattle.lab_locking.specs.Reads as spec;
 
-use lab_engine::{Asker, RunningTxn, SessionSet};
+use lab_engine::{Asker, SessionSet};
 use lab_table::{RowName, Statement, Value};
-
-/// Whether a transaction has run a statement that matches a row in one of two states.
-fn has_read_either(
-    holder: &RunningTxn,
-    row: RowName,
-    old: Option<Value>,
-    new: Option<Value>,
-) -> bool
-    ensures { result ≡ spec.has_read_either row old new holder.now }
-{
-    holder.statements.has_read(row, old) || holder.statements.has_read(row, new)
-}
 
 /// The sessions of a set, and the other sessions that have run a statement that matches a row in one of two states. A
 /// session of the set isn't asked.
@@ -36,7 +24,7 @@ fn with_row_readers(
     ensures { (n : ℕ) → has result n ≡ (has known n || spec.is_reader asker.now row old new n) }
 {
     known.with(asker.others_that(|other, holder| !known.has(other)
-        && has_read_either(holder, row, old, new)))
+        && holder.statements.has_read_either(row, old, new)))
 }
 
 /// The sessions of a set, and the other sessions that have read a row in this state, where the statement would write it,
