@@ -52,6 +52,7 @@ pub mod RecordedCommits
 pub mod RecordedViews
 mod AfterCommits
 mod AfterReads
+mod AfterWrites
 mod WaitsAfter
 pub mod Overlaid
 pub mod OneRecording

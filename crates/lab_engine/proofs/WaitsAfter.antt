@@ -1,5 +1,5 @@
 -- Whom a session waits for after an event that leaves this as it was.
-use Rattle.lab_engine.proofs.{Common.{active, active_after, AlreadyBegun, ap, Begun, Blocks, both_ways, Busy, cases_eq, Command, Committed, cond, eq-eqb, grown, inl, inr, is_over, IsLegal, IsTrue, Level, Listed, ne_eqb, None, none_some, NoTransaction, Op, Outcome, Past, Permitted, refl, Refused, Rows, Run, same_Some, Some, some_of, Statement, subst, sym, Table, Txn, version_by, View, waiting, waiting_after, Waits, WaitsOn, Writes, ℕ, ⊤, ◌==◌, ◌↔◌, ◌∙◌, ◌∷◌, ◌≡◌, ◌≢◌, ◌⊎◌}, Blockers.{blocks_none}, LockSteps.{fresh}, Locks.{are_off}, AfterCommits.{blocks_alike, still_blocked}, AfterReads.{reads_off, reads_on, Unasked}}
+use Rattle.lab_engine.proofs.{Common.{active, active_after, AlreadyBegun, ap, Begun, Blocks, both_ways, Busy, cases_eq, Command, Committed, cond, eq-eqb, grown, inl, inr, is_over, IsEffect, IsLegal, IsTrue, Level, Listed, ne_eqb, None, none_some, NoTransaction, Op, Outcome, Past, Permitted, refl, Refused, Rows, Run, same_Some, Some, some_of, Statement, subst, sym, Table, Txn, version_by, View, waiting, waiting_after, Waits, WaitsOn, Writes, ℕ, ⊤, ◌==◌, ◌↔◌, ◌∙◌, ◌∷◌, ◌≡◌, ◌≢◌, ◌⊎◌}, Blockers.{blocks_none}, LockSteps.{fresh}, Locks.{are_off}, AfterCommits.{blocks_alike, still_blocked}, AfterReads.{reads_off, reads_on, Unasked}, AfterWrites.{NoneListed, writes_on}}
 use Rattle.std.specs.FinMap as map
 
 -- where nothing commits, who blocks whom is the same
@@ -12,7 +12,8 @@ same_blocks level setup past e command other commits asker holder s =
 
 -- an outcome lets another session that waits with a statement wait for the same, but for a transaction that it ends
 abbrev pub LeavesWaiter : Level → Table → Past → ℕ → ℕ → Outcome → Statement → Type 0
-LeavesWaiter level setup past e k (Listed view rows writes) s = IsTrue (map.len writes == 0) × (Unasked level s ⊎ WaitsOn level setup past k e)
+LeavesWaiter level setup past e k (Listed view rows writes) s = (IsTrue (map.len writes == 0) × Unasked level s)
+    ⊎ (WaitsOn level setup past k e × (IsTrue (map.len writes == 0) ⊎ NoneListed s rows))
 LeavesWaiter level setup past e k other s = ⊤
 
 module _ (level : Level) (setup : Table) (past : Past) (e k : ℕ) (off : e ≢ k) (command : Command) where
@@ -86,9 +87,8 @@ module _ (level : Level) (setup : Table) (past : Past) (e k : ℕ) (off : e ≢ 
       let v = some_of (version_by holder row) some in
       (are_off level locks setup past legal other e holder t row v.0 (λ same. there (sym same)) held gives.active_is v.1).0)))
 
-  -- a statement ran that wrote nothing, and what was read is of no weight, or its session was waited for
-  module _ (s t : Statement) (view : View) (rows : Rows) (writes : Writes) (txn : Txn) (run : command ≡ Run s) (is_txn : active past e ≡ Some txn) (waits : waiting past k ≡ Some t)
-      (none : IsTrue (map.len writes == 0)) where
+  -- a statement ran
+  module _ (s t : Statement) (view : View) (rows : Rows) (writes : Writes) (txn : Txn) (run : command ≡ Run s) (is_txn : active past e ≡ Some txn) (waits : waiting past k ≡ Some t) where
     abbrev op : Op
     op = record { statement = s; view = view; rows = rows; writes = writes }
 
@@ -98,27 +98,32 @@ module _ (level : Level) (setup : Table) (past : Past) (e k : ℕ) (off : e ≢ 
     grew : active (after ran) e ≡ Some (grown txn op)
     grew = own_active ran ∙ (λ i. active_after (run i) ran past (is_txn i))
 
-    before : Unasked level t ⊎ WaitsOn level setup past k e → WaitsOn level setup (after ran) k e → WaitsOn level setup past k e
-    before (inl unasked) = waits_map (after ran) past e (same_waiting ran) (other_active ran k off) (λ u asker holder is own held b.
+    -- that wrote nothing, and what was read is of no weight
+    before : IsTrue (map.len writes == 0) → Unasked level t → WaitsOn level setup (after ran) k e → WaitsOn level setup past k e
+    before none unasked = waits_map (after ran) past e (same_waiting ran) (other_active ran k off) (λ u asker holder is own held b.
         let now = subst (Blocks level setup (after ran) asker u) (sym (same_Some (grown txn op) holder (sym grew ∙ held))) b in
         let lists = subst (Unasked level) (same_Some t u (sym waits ∙ sym (same_waiting ran) ∙ is)) unasked in
         (txn, is_txn, reads_off level setup past asker u txn op none lists ((same_blocks level setup past e command ran (λ eq. cc) asker (grown txn op) u).0 now)))
-    before (inr was) = λ _. was
 
-    behind : WaitsOn level setup past k e → WaitsOn level setup (after ran) k e
-    behind = waits_map past (after ran) e (sym (same_waiting ran)) (sym (other_active ran k off)) (λ u asker holder is own held b.
+    -- by which its transaction goes on to block what it blocked
+    behind : ((asker : Txn) → Blocks level setup past asker t txn → Blocks level setup past asker t (grown txn op)) → WaitsOn level setup past k e → WaitsOn level setup (after ran) k e
+    behind go = waits_map past (after ran) e (sym (same_waiting ran)) (sym (other_active ran k off)) (λ u asker holder is own held b.
         let was = subst (Blocks level setup past asker u) (same_Some holder txn (sym held ∙ is_txn)) b in
-        (grown txn op, grew, (same_blocks level setup past e command ran (λ eq. cc) asker (grown txn op) u).1 (reads_on level setup past asker u txn op none was)))
+        let now = subst (λ v. Blocks level setup past asker v (grown txn op)) (same_Some t u (sym waits ∙ is))
+        (go asker (subst (λ v. Blocks level setup past asker v txn) (same_Some u t (sym is ∙ waits)) was)) in
+        (grown txn op, grew, (same_blocks level setup past e command ran (λ eq. cc) asker (grown txn op) u).1 now))
 
-    reads_waits : Unasked level t ⊎ WaitsOn level setup past k e → (other : ℕ) → SameFor ran other
-    reads_waits why = quiet ran (λ eq. cc) (before why, behind)
+    ran_waits : IsEffect level setup past txn s view rows writes → LeavesWaiter level setup past e k ran t → (other : ℕ) → SameFor ran other
+    ran_waits effect (inl (none, unasked)) = quiet ran (λ eq. cc) (before none unasked, behind (λ asker. reads_on level setup past asker t txn op none))
+    ran_waits effect (inr (was, inl none)) = quiet ran (λ eq. cc) ((λ _. was), behind (λ asker. reads_on level setup past asker t txn op none))
+    ran_waits effect (inr (was, inr unlisted)) = quiet ran (λ eq. cc) ((λ _. was), behind (λ asker. writes_on level setup past asker t txn op effect unlisted))
 
   -- another session that waits behind an event waits for the same, where it waited for no transaction that the event ended, and
   pub same_waits : (outcome : Outcome) (t : Statement) → IsLegal level setup past → Permitted level setup past e command outcome → (IsTrue (is_over outcome) → ¬ WaitsOn level setup past k e)
       → LeavesWaiter level setup past e k outcome t → waiting (after outcome) k ≡ Some t → (other : ℕ) → SameFor outcome other
   same_waits (Begun n) t legal permitted before leaves waits = begins_waits n permitted
   same_waits (Listed view rows writes) t legal (s, txn, asks, free, effect) before leaves waits =
-      reads_waits s t view rows writes txn asks.command_is asks.active_is (sym (same_waiting (Listed view rows writes)) ∙ waits) leaves.0 leaves.1
+      ran_waits s t view rows writes txn asks.command_is asks.active_is (sym (same_waiting (Listed view rows writes)) ∙ waits) effect leaves
   same_waits Committed t legal permitted before leaves waits = commits_waits legal permitted (before refl)
   same_waits (Waits on) t legal permitted before leaves waits = stays (Waits on) (λ eq. cc) refl
   same_waits (Refused Busy) t legal permitted before leaves waits = stays (Refused Busy) (λ eq. cc) refl

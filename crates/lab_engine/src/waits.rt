@@ -9,7 +9,8 @@ ghost use Rattle.lab_engine.specs.Asker.{IsAsker};
 ghost use Rattle.lab_engine.specs.Rules.{IsCircle, IsLegal, MayAsk};
 ghost use Rattle.lab_engine.specs.Recording.{NoneRetryable, IsLeastRetryable};
 ghost use Rattle.lab_engine.specs.Situation.{Describes, DescribesSession, keeps_statements};
-ghost use Rattle.lab_table.specs.Statement.{is_read_only};
+ghost use Rattle.lab_table.specs.Statement.{is_read_only, matches};
+ghost use Rattle.std.specs.List.{list_any};
 ghost use Rattle.std.specs.FinMap as map;
 ghost use Rattle.lab_engine.specs.WaitsFor.{AreBlockers, AreWaits, WaitsOn};
 ghost use Rattle.lab_engine.specs.SessionBits.{has};
@@ -25,8 +26,8 @@ use crate::session_set::SessionSet;
 use crate::session_state::SessionState;
 use crate::situation::Situation;
 use crate::wait_graph::WaitGraph;
-use lab_history::Writes;
-use lab_table::{NoMemory, Session, Statement, Table};
+use lab_history::{Rows, Writes};
+use lab_table::{NoMemory, RowName, Session, Statement, Table, Value};
 use std::alloc::Global;
 
 /// The sessions that block a statement, by rising number.
@@ -77,16 +78,30 @@ fn wrote_nothing(writes: &Writes) -> bool
     writes.entries().is_empty()
 }
 
-/// Whether a statement that ran, and wrote this, may block or free another session that waits with a statement, where
-/// that one is blocked `already` by the session that ran it or isn't. What was read blocks only a statement that would
-/// write, only where it is asked (`keeps`), and frees nobody.
-fn may_affect(keeps: bool, already: bool, writes: &Writes, statement: &Statement) -> bool
-    ensures { result ≡ false → IsTrue (map.len writes.now == 0) × ((keeps ≡ false) ⊎ (is_read_only statement.now ≡ true) ⊎ IsTrue already) }
+/// Whether a statement matches one of some rows with their values.
+fn any_matches(statement: &Statement, rows: &[(RowName, Value)]) -> bool
+    ensures { result ≡ list_any (λ e. matches statement.now e.0 (Some e.1)) rows.now }
 {
-    if !wrote_nothing(writes) {
-        return true;
+    rows.iter().any(|row| statement.matches(row.0, Some(row.1)))
+}
+
+/// Whether a statement that ran, listed this and wrote this may block or free another session that waits with a statement,
+/// where that one is blocked `already` by the session that ran it or isn't. One that is blocked is freed only by a write of
+/// a row that matched before. What was read blocks only a statement that would write, only where it is asked (`keeps`).
+fn may_affect(
+    keeps: bool,
+    already: bool,
+    rows: &Rows,
+    writes: &Writes,
+    statement: &Statement,
+) -> bool
+    ensures { result ≡ false → (IsTrue (map.len writes.now == 0) × ((keeps ≡ false) ⊎ (is_read_only statement.now ≡ true)))
+        ⊎ (IsTrue already × (IsTrue (map.len writes.now == 0) ⊎ (list_any (λ e. matches statement.now e.0 (Some e.1)) (map.entries rows.now) ≡ false))) }
+{
+    if already {
+        return !wrote_nothing(writes) && any_matches(statement, rows.entries());
     }
-    keeps && !already && !statement.is_read_only()
+    !wrote_nothing(writes) || keeps && !statement.is_read_only()
 }
 
 /// Whether an event may change whom another session waits for that waits with this statement, given who waited for whom
@@ -104,7 +119,7 @@ fn may_change(
 {
     let already = waits.on(session).has(event.session);
     match &event.outcome {
-        Outcome::Rows { writes, .. } => may_affect(keeps, already, writes, statement),
+        Outcome::Rows { rows, writes, .. } => may_affect(keeps, already, rows, writes, statement),
         outcome => already && is_over(outcome),
     }
 }

@@ -6,13 +6,13 @@ returns-in-Rows c = λ level setup past keeps legal h apart off waits.
     let event = c.args.event.now in
     let told = c.may_affect.ensures off in
     let k = c.args.session in
-    let leaves : Unasked level c.args.statement.now ⊎ WaitsOn level setup past k event.session = elim told.1 [
-      | inl none ↦ inl (inl (sym keeps ∙ none))
-      | inr (inl lists) ↦ inl (inr lists)
-      | inr (inr is) ↦ inr ((h k event.session).0 (sym (c.on.ensures event.session) ∙ sym c.has-already.ensures ∙ is))
-    ] in
     same_waits level setup past event.session k apart event.command event.outcome c.args.statement.now legal.0 legal.1 (λ over. absurd (both_ways _ (ap is_over c.in-Rows.is) over))
-    (subst (λ o. LeavesWaiter level setup past event.session k o c.args.statement.now) (sym c.in-Rows.is) (told.0, leaves)) waits
+    (subst (λ o. LeavesWaiter level setup past event.session k o c.args.statement.now) (sym c.in-Rows.is)
+    (elim told [
+      | inl (none, inl unkept) ↦ inl (none, inl (sym keeps ∙ unkept))
+      | inl (none, inr lists) ↦ inl (none, inr lists)
+      | inr (is, quiet) ↦ inr ((h k event.session).0 (sym (c.on.ensures event.session) ∙ sym c.has-already.ensures ∙ is), quiet)
+    ])) waits
 
 pub returns-then-already : goal.returns-then-already
 returns-then-already c = λ level setup past keeps legal h apart off waits.
