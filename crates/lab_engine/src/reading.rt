@@ -1,6 +1,6 @@
 //! What a session sees of rows, and which of these match a statement.
 
-ghost use Rattle.std.specs.Prelude.{◌≡◌, ◌++◌, ℤ, List, [], IfOk};
+ghost use Rattle.std.specs.Prelude.{◌≡◌, ◌++◌, [], IfOk};
 ghost use Rattle.std.specs.List.{cons_option};
 ghost use Rattle.std.specs.BTreeMap.{IsOrdered};
 ghost use Rattle.std.specs.FinMap as map;
