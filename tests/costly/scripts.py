@@ -86,12 +86,12 @@ def nine_at_once(part: int) -> bytes:
 
 
 def waiting(part: int, maker: Maker = small_remainder, change: str = "update test set value = value + 2520 where id = {row}",
-            tail: str = " or id = 1") -> bytes:
+            tail: str = " or id = 1", first: tuple[str, ...] = ()) -> bytes:
     """T1 writes row 1; eight sessions wait for it, each by a long condition of which the last part names the row; T1 then
     writes other rows, one by one."""
     head = "delete from test where "
     deletes = long_conditions(maker, head, 900 - len(tail))
-    lines = [setup(300), of(1, "begin"), of(1, f"update test set value = value + {STEP} where id = 1")]
+    lines = [setup(300), of(1, "begin", *first), of(1, f"update test set value = value + {STEP} where id = 1")]
     lines += [of(session, "begin") for session in range(2, 10)]
     lines += [of(session, next(deletes) + tail) for session in range(2, 10)]
     lines += [of(1, change.format(row=number % 50 + 10)) for number in range(1_900 // part)]
@@ -101,6 +101,11 @@ def waiting(part: int, maker: Maker = small_remainder, change: str = "update tes
 def waiting_for_all(part: int) -> bytes:
     """The same where T1 writes all rows each time; a history may not have so many entries."""
     return waiting(part, change=f"update test set value = value + {STEP}")
+
+
+def waiting_for_last(part: int) -> bytes:
+    """The same where T1 has written all other rows before row 1, which alone makes the others wait."""
+    return waiting(part, first=(f"update test set value = value + {STEP} where id > 1",))
 
 
 def waiting_over_reads(part: int) -> bytes:
@@ -188,6 +193,7 @@ SCRIPTS: dict[str, Made] = {
     "waiting_mixed": partial(waiting, maker=mixed),
     "waiting_by_value": partial(waiting, tail=f" or value = {STEP}"),
     "waiting_for_all": waiting_for_all,
+    "waiting_for_last": waiting_for_last,
     "waiting_over_reads": waiting_over_reads,
     "waiting_for_reader": waiting_for_reader,
     "unseen_rows": unseen_rows,
