@@ -42,6 +42,8 @@ pub mod TokensSpell
 pub mod Slots
 pub mod Gathered
 pub mod WholeNumbers
+pub mod ReadTurns
+pub mod SkippedValues
 pub mod MembersSpell
 pub mod OperationFields
 pub mod TransactionFields

@@ -1,5 +1,5 @@
 -- What digits are read as.
-use Rattle.std.{proofs.{Common.{◌≡◌, ◌≢◌, ℕ, zero, suc, ◌+◌, ◌-◌, ◌*◌, ◌^◌, ◌<◌, ◌≤◌, ◌==◌, Bool, true, false, List, [], ◌∷◌, ◌++◌, length, Option, Some, None, IfSome, option_and_then, pos, negsuc, ◌-ℤ◌, to_z, of_z, w64, if◌then◌else◌, refl, sym, ap, subst, ◌∙◌, arith, lt-ltb, le-leb, append-nil}, lemmas.{Float.Parse.{scan_numeral-text_of}, Int.{ints, to_z_pos}}}, specs.{Char.{digit_value, is_ascii_digit}, Float.Numeral.{Parts, scan_numeral, IsWellFormed}, Str.Parse.{AllDigits, digits_value, digits_value_after}}}
+use Rattle.std.{proofs.{Common.{◌≡◌, ◌≢◌, ℕ, zero, suc, ◌+◌, ◌-◌, ◌*◌, ◌^◌, ◌<◌, ◌≤◌, ◌==◌, Bool, true, false, List, [], ◌∷◌, ◌++◌, length, Option, Some, None, IfSome, option_and_then, pos, negsuc, ◌-ℤ◌, to_z, of_z, w64, if◌then◌else◌, drop, get_or, refl, sym, ap, subst, ◌∙◌, arith, lt-ltb, le-leb, append-nil}, lemmas.{Float.Parse.{scan_numeral-text_of}, Int.{ints, to_z_pos}}}, specs.{Char.{digit_value, is_ascii_digit}, Float.Numeral.{Parts, scan_numeral, IsWellFormed}, Str.Parse.{AllDigits, digits_value, digits_value_after}}}
 use Rattle.serde_json.specs.{Data.{unsigned, negative}, Read.{number_of, number_from}}
 use Rattle.serde_json.specs.Find.{as_i64}
 use Rattle.lab_history_file.specs.Numbers.{digits_on}
@@ -95,3 +95,15 @@ pub negative_spelled : (text ds : List ℕ) (n : ℕ) → text ≡ 45 ∷ ds →
 negative_spelled text ds zero same e some small = absurd (some refl)
 negative_spelled text ds (suc n) same e some small =
     ap (λ s. option_and_then as_i64 (number_of s)) same ∙ ap (option_and_then as_i64) (negative_by ds n e small) ∙ ap (λ z. Some z) (sym (negated n (omega (arith, small))))
+
+-- ---- signs
+
+-- a number without a minus in front is read from its text
+pub unsigned_from : (s : List ℕ) → (get_or s 0 0 == 45) ≡ false → number_of s ≡ number_from false (scan_numeral s)
+unfolding number_of
+unsigned_from s plain = rw plain refl
+
+-- and one with a minus from what follows it
+pub signed_from : (s : List ℕ) → (get_or s 0 0 == 45) ≡ true → number_of s ≡ number_from true (scan_numeral (drop 1 s))
+unfolding number_of
+signed_from s signed = rw signed refl

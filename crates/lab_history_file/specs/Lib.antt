@@ -17,5 +17,6 @@ pub mod Slots
 pub mod Gathered
 pub mod Fields
 pub mod Numbers
+pub mod Rest
 pub mod Reads
 pub mod Behind

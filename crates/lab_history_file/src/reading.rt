@@ -14,6 +14,7 @@ mod keys;
 mod lists;
 mod number;
 mod operation;
+mod skip;
 mod stop;
 mod stream;
 mod transaction;

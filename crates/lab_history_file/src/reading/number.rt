@@ -1,10 +1,14 @@
-//! The whole numbers of JSON. A number of more than ten digits isn't read: no number of a history file is as large.
+//! The numbers of JSON.
+//!
+//! Whole numbers are read here, and other numbers are only checked. A whole number of more than ten digits isn't read: no number of a history file is as large.
 
-ghost use Rattle.std.specs.Prelude.{◌≡◌, ◌≤◌, [], Some, IfSome, option_and_then};
+ghost use Rattle.std.specs.Prelude.{◌≡◌, ◌≤◌, ◌<◌, ◌==◌, [], length, slice_index, true, false, Some, IfSome, IsTrue, is_some, option_and_then};
 ghost use Rattle.serde_json.specs.Data.{unsigned};
 ghost use Rattle.serde_json.specs.Find.{as_i64};
-ghost use Rattle.serde_json.specs.Read.{number_of};
+ghost use Rattle.serde_json.specs.Read.{number_of, number_from};
 ghost use Rattle.lab_history_file.specs.Numbers.{digits_on};
+
+use fast_float::Numeral;
 
 /// The number that digits spell, if it is at most 10,000,000,009. No digits spell 0.
 #[inline(always)]
@@ -53,4 +57,43 @@ pub fn integer_of(text: &str) -> Option<i64>
     } else {
         Some(whole_of(text)? as i64)
     }
+}
+
+/// Whether a number that isn't too large for a float has this text: `serde_json` reads no other number.
+pub fn number_reads(text: &str) -> bool
+    ensures { result ≡ is_some (number_of text.now) }
+{
+    let bytes = text.as_bytes();
+    if has_minus(bytes) {
+        negative_reads(&Numeral::scan(&bytes[1..]))
+    } else {
+        unsigned_reads(&Numeral::scan(bytes))
+    }
+}
+
+fn has_minus(bytes: &[u8]) -> bool
+    ensures value { result ≡ (slice_index bytes.now 0 == 45) }
+    ensures some { IsTrue result → 0 < length bytes.now }
+{
+    !bytes.is_empty() && bytes[0] == b'-'
+}
+
+fn unsigned_reads(numeral: &Numeral<'_>) -> bool
+    ensures { result ≡ is_some (number_from false numeral.now) }
+{
+    if numeral.to_u64().is_some() {
+        return true;
+    }
+    numeral.to_float::<f64>(false).is_finite()
+}
+
+fn negative_reads(numeral: &Numeral<'_>) -> bool
+    ensures { result ≡ is_some (number_from true numeral.now) }
+{
+    if let Some(n) = numeral.to_i64(true) {
+        if n < 0 {
+            return true;
+        }
+    }
+    numeral.to_float::<f64>(true).is_finite()
 }
