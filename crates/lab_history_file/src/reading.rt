@@ -26,6 +26,7 @@ use lab_history::{FileFault, History, Installed, Limit, ListPlace, MAX_FILE_BYTE
 use lab_table::Table;
 use lists::entries_at;
 use serde_json::Value as Json;
+use skip::is_json;
 use std::alloc::Global;
 use stop::Stop;
 use transaction::txns_of;
@@ -102,15 +103,28 @@ fn parts_in_value(alloc: Global, bytes: &[u8]) -> Result<Parts, FileFault>
     }
 }
 
-/// The parts of the history that a file holds. A value is made only of a file with a fault, to find the first one.
+/// The parts of the history that a file holds. A value is made only of JSON with a fault, to find the first one.
 fn parts_in_file(alloc: Global, bytes: &[u8]) -> Result<Parts, FileFault>
     ensures { ReadsAs parts_in bytes.now result }
 {
     match stream::parts_in(alloc, bytes) {
         Ok(parts) => Ok(parts),
         Err(Stop::NoMemory) => Err(FileFault::NoMemory),
-        Err(Stop::Fault) => parts_in_value(alloc, bytes),
+        Err(Stop::Fault) => parts_in_faulty(alloc, bytes),
     }
+}
+
+/// The parts of the history that a file with a fault holds. No value is made of a file that isn't JSON.
+fn parts_in_faulty(alloc: Global, bytes: &[u8]) -> Result<Parts, FileFault>
+    ensures { ReadsAs parts_in bytes.now result }
+{
+    let Ok(text) = std::str::from_utf8(bytes) else {
+        return Err(FileFault::NotJson);
+    };
+    if !is_json(alloc, text)? {
+        return Err(FileFault::NotJson);
+    }
+    parts_in_value(alloc, bytes)
 }
 
 /// The history that a file of any length holds.
