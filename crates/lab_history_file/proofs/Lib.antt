@@ -44,6 +44,9 @@ pub mod Gathered
 pub mod WholeNumbers
 pub mod ReadTurns
 pub mod SkippedValues
+pub mod MembersPut
+pub mod RootNotes
+pub mod RootRead
 pub mod MembersSpell
 pub mod OperationFields
 pub mod TransactionFields

@@ -14,11 +14,11 @@ rest_map : {A B : Type 0} (f : A → B) (o : Option (A × List Token)) → rest 
 rest_map f None = refl
 rest_map f (Some p) = refl
 
-rest_none : {A : Type 0} (o : Option (A × List Token)) → rest o ≡ None → o ≡ None
+pub rest_none : {A : Type 0} (o : Option (A × List Token)) → rest o ≡ None → o ≡ None
 rest_none None e = refl
 rest_none (Some p) e = absurd cc
 
-rest_some : {A : Type 0} (o : Option (A × List Token)) (r : List Token) → rest o ≡ Some r → (a : A) × (o ≡ Some (a, r))
+pub rest_some : {A : Type 0} (o : Option (A × List Token)) (r : List Token) → rest o ≡ Some r → (a : A) × (o ≡ Some (a, r))
 rest_some None r e = absurd cc
 rest_some (Some p) r e = let same : p.1 ≡ r = cc in (p.0, ap (λ s. Some (p.0, s)) same)
 

@@ -1,7 +1,7 @@
 -- What digits are read as.
-use Rattle.std.{proofs.{Common.{◌≡◌, ◌≢◌, ℕ, zero, suc, ◌+◌, ◌-◌, ◌*◌, ◌^◌, ◌<◌, ◌≤◌, ◌==◌, Bool, true, false, List, [], ◌∷◌, ◌++◌, length, Option, Some, None, IfSome, option_and_then, pos, negsuc, ◌-ℤ◌, to_z, of_z, w64, if◌then◌else◌, drop, get_or, refl, sym, ap, subst, ◌∙◌, arith, lt-ltb, le-leb, append-nil}, lemmas.{Float.Parse.{scan_numeral-text_of}, Int.{ints, to_z_pos}}}, specs.{Char.{digit_value, is_ascii_digit}, Float.Numeral.{Parts, scan_numeral, IsWellFormed}, Str.Parse.{AllDigits, digits_value, digits_value_after}}}
-use Rattle.serde_json.specs.{Data.{unsigned, negative}, Read.{number_of, number_from}}
-use Rattle.serde_json.specs.Find.{as_i64}
+use Rattle.std.{proofs.{Common.{◌≡◌, ◌≢◌, ℕ, ℤ, Float, zero, suc, ◌+◌, ◌-◌, ◌*◌, ◌^◌, ◌<◌, ◌≤◌, ◌==◌, Bool, true, false, List, [], ◌∷◌, ◌++◌, length, Option, Some, None, IfSome, option_and_then, pos, negsuc, ◌-ℤ◌, to_z, of_z, w64, if◌then◌else◌, drop, get_or, refl, sym, ap, subst, ◌∙◌, arith, lt-ltb, le-leb, append-nil}, lemmas.{Float.Parse.{scan_numeral-text_of}, Int.{ints, to_z_pos}}}, specs.{Char.{digit_value, is_ascii_digit}, Float.Numeral.{Parts, scan_numeral, IsWellFormed}, Str.Parse.{AllDigits, digits_value, digits_value_after}}}
+use Rattle.serde_json.specs.{Data.{unsigned, negative, float}, Read.{number_of, number_from}}
+use Rattle.serde_json.specs.Find.{as_i64, as_u64}
 use Rattle.lab_history_file.specs.Numbers.{digits_on}
 
 -- ---- digits
@@ -107,3 +107,12 @@ unsigned_from s plain = rw plain refl
 pub signed_from : (s : List ℕ) → (get_or s 0 0 == 45) ≡ true → number_of s ≡ number_from true (scan_numeral (drop 1 s))
 unfolding number_of
 signed_from s signed = rw signed refl
+
+-- a number with a minus in front is no whole number without a sign
+pub signed_is_no_whole : (p : Parts) → option_and_then as_u64 (number_from true p) ≡ None
+signed_is_no_whole p = by _ _ _ _
+  where
+    by : (a b : Bool) (z : ℤ) (x : Float) → option_and_then as_u64 (if a then Some (negative z) else (if b then Some (float x) else None)) ≡ None
+    by true b z x = refl
+    by false true z x = refl
+    by false false z x = refl

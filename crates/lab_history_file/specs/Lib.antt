@@ -18,5 +18,6 @@ pub mod Gathered
 pub mod Fields
 pub mod Numbers
 pub mod Rest
+pub mod Root
 pub mod Reads
 pub mod Behind

@@ -14,6 +14,7 @@ mod keys;
 mod lists;
 mod number;
 mod operation;
+mod root;
 mod skip;
 mod stop;
 mod stream;
@@ -25,6 +26,7 @@ use keys::{has_keys, text_at};
 use lab_history::{FileFault, History, Installed, Limit, ListPlace, MAX_FILE_BYTES, Parts, Path};
 use lab_table::Table;
 use lists::entries_at;
+use root::check_root;
 use serde_json::Value as Json;
 use std::alloc::Global;
 use stop::Stop;
@@ -109,8 +111,19 @@ fn parts_in_file(alloc: Global, bytes: &[u8]) -> Result<Parts, FileFault>
     match stream::parts_in(alloc, bytes) {
         Ok(parts) => Ok(parts),
         Err(Stop::NoMemory) => Err(FileFault::NoMemory),
-        Err(Stop::Fault) => parts_in_value(alloc, bytes),
+        Err(Stop::Fault) => parts_in_faulty(alloc, bytes),
     }
+}
+
+/// The parts of the history that a file holds. A value is made only where the root is that of a history file.
+fn parts_in_faulty(alloc: Global, bytes: &[u8]) -> Result<Parts, FileFault>
+    ensures { ReadsAs parts_in bytes.now result }
+{
+    let Ok(text) = std::str::from_utf8(bytes) else {
+        return Err(FileFault::NotJson);
+    };
+    check_root(alloc, text)?;
+    parts_in_value(alloc, bytes)
 }
 
 /// The history that a file of any length holds.

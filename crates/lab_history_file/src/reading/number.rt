@@ -4,7 +4,7 @@
 
 ghost use Rattle.std.specs.Prelude.{◌≡◌, ◌≤◌, ◌<◌, ◌==◌, [], length, slice_index, true, false, Some, IfSome, IsTrue, is_some, option_and_then};
 ghost use Rattle.serde_json.specs.Data.{unsigned};
-ghost use Rattle.serde_json.specs.Find.{as_i64};
+ghost use Rattle.serde_json.specs.Find.{as_i64, as_u64};
 ghost use Rattle.serde_json.specs.Read.{number_of, number_from};
 ghost use Rattle.lab_history_file.specs.Numbers.{digits_on};
 
@@ -71,11 +71,29 @@ pub fn number_reads(text: &str) -> bool
     }
 }
 
+/// The whole number without a sign that a token of JSON spells, if it has 64 bits at most.
+pub fn whole_number_of(text: &str) -> Option<u64>
+    ensures { result ≡ option_and_then as_u64 (number_of text.now) }
+{
+    let bytes = text.as_bytes();
+    if has_minus(bytes) {
+        None
+    } else {
+        unsigned_in(&Numeral::scan(bytes))
+    }
+}
+
 fn has_minus(bytes: &[u8]) -> bool
     ensures value { result ≡ (slice_index bytes.now 0 == 45) }
     ensures some { IsTrue result → 0 < length bytes.now }
 {
     !bytes.is_empty() && bytes[0] == b'-'
+}
+
+fn unsigned_in(numeral: &Numeral<'_>) -> Option<u64>
+    ensures { result ≡ option_and_then as_u64 (number_from false numeral.now) }
+{
+    numeral.to_u64()
 }
 
 fn unsigned_reads(numeral: &Numeral<'_>) -> bool

@@ -1,20 +1,14 @@
 //! JSON values that are skipped, without a value in memory.
 
-ghost use Rattle.std.specs.Prelude.{◌≡◌, ◌<◌, length, Some, None, IfOk, OnOk, is_some, MatchResult};
-ghost use Rattle.serde_json.specs.Read.{read};
+ghost use Rattle.std.specs.Prelude.{◌≡◌, ◌<◌, length, Some, None, OnOk, MatchResult};
 ghost use Rattle.lab_history_file.specs.Rest.{rest_of_value, rest_of_items, rest_of_members};
 
 use super::number::number_reads;
-use json::{Reader, Scratch, Token};
-use lab_table::NoMemory;
-use std::alloc::Global;
+use json::{Reader, Token};
 
 /// The tokens aren't a value that `serde_json` reads.
 #[derive(Clone, Copy, Drop)]
 pub struct NotJson;
-
-/// How many levels of lists and objects `serde_json` reads.
-const MAX_LEVELS: usize = 127;
 
 /// Skips a value with at most this many levels of lists and objects.
 #[cycle(skip)]
@@ -52,7 +46,7 @@ fn skip_value(reader: &mut Reader<'_>, depth: usize) -> Result<(), NotJson>
 
 /// Skips the items of a list and its bracket.
 #[cycle(skip)]
-fn skip_items(reader: &mut Reader<'_>, depth: usize) -> Result<(), NotJson>
+pub fn skip_items(reader: &mut Reader<'_>, depth: usize) -> Result<(), NotJson>
     ensures value { MatchResult result (λ _. rest_of_items depth reader.old ≡ Some reader.new) (λ _. rest_of_items depth reader.old ≡ None) }
     ensures shorter { OnOk result (length reader.new < length reader.old) }
 {
@@ -67,7 +61,7 @@ fn skip_items(reader: &mut Reader<'_>, depth: usize) -> Result<(), NotJson>
 
 /// Skips the members of an object and its brace.
 #[cycle(skip)]
-fn skip_members(reader: &mut Reader<'_>, depth: usize) -> Result<(), NotJson>
+pub fn skip_members(reader: &mut Reader<'_>, depth: usize) -> Result<(), NotJson>
     ensures value { MatchResult result (λ _. rest_of_members depth reader.old ≡ Some reader.new) (λ _. rest_of_members depth reader.old ≡ None) }
     ensures shorter { OnOk result (length reader.new < length reader.old) }
 {
@@ -81,16 +75,4 @@ fn skip_members(reader: &mut Reader<'_>, depth: usize) -> Result<(), NotJson>
             Err(_) => return Err(NotJson),
         }
     }
-}
-
-/// Whether `serde_json` reads a value from a text. A value isn't made: this takes as much memory as the text.
-pub fn is_json(alloc: Global, text: &str) -> Result<bool, NoMemory>
-    ensures { IfOk result (λ reads. reads ≡ is_some (read text.now)) }
-{
-    let mut scratch = Scratch::new(alloc);
-    let mut reader = Reader::new(text, &mut scratch)?;
-    if skip_value(&mut reader, MAX_LEVELS).is_err() {
-        return Ok(false);
-    }
-    Ok(reader.next().is_none())
 }
