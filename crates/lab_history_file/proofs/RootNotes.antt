@@ -4,7 +4,7 @@ use Rattle.serde_json.specs.{Data.{Data, null, Members, no_members, object, put}
 use Rattle.lab_history.specs.{Faults.{◌>>=◌, required}}
 use Rattle.lab_history.specs.declared.fault.FileFault.TheVariants as fault
 use Rattle.lab_history.specs.declared.path.Path.TheVariants as path
-use Rattle.lab_history_file.specs.{Format.{are_keys, numbered_version, version_in, parts_of_version, parts_in}, Keys.{root_keys}, Root.{is_format, number_in, at_member, has_member, IsNone, IsSaid, Notes, HasOther}, declared.{file_version.FileVersion.{FileVersion, TheVariants.{One, Two}}, reading.root.{Root.{Root}, Said.{Said}}}}
+use Rattle.lab_history_file.specs.{Format.{are_keys, numbered_version, version_in, parts_of_version, parts_in}, Keys.{root_keys}, Root.{format_name, is_format, number_in, at_member, has_member, IsNone, IsSaid, Notes, HasOther}, declared.{file_version.FileVersion.{FileVersion, TheVariants.{One, Two}}, reading.root.{Root.{Root}, Said.{Said}}}}
 use Rattle.lab_history_file.proofs.MembersPut.{placed, get_put, key_missing, key_other, other_stays}
 
 -- ---- members that are put
@@ -110,14 +110,11 @@ found_by None e = absurd cc
 found_by (Some u) e = refl
 
 module _ (root : Root) (ms : Members) (h : Notes ms root) where
-  abbrev format_said : Option ⊤
-  format_said = option_and_then (λ text. if bytes_eq text (codes "hermitage-history") then Some tt else None) (as_str (at_member (codes "format") ms))
-
   pub format_wrong : root.is_format ≡ false → parts_in (object ms) ≡ Err (fault.WrongFormat path.Format)
-  format_wrong e = ap (λ o. required path.Format o >>= λ _. version_in (object ms) >>= λ version. parts_of_version version (object ms)) (missing_by format_said (sym h.format ∙ e))
+  format_wrong e = ap (λ o. required path.Format o >>= λ _. version_in (object ms) >>= λ version. parts_of_version version (object ms)) (missing_by (format_name (at_member (codes "format") ms)) (sym h.format ∙ e))
 
   format_right : root.is_format ≡ true → parts_in (object ms) ≡ (required path.Version (number_in (at_member (codes "version") ms)) >>= numbered_version >>= λ version. parts_of_version version (object ms))
-  format_right e = ap (λ o. required path.Format o >>= λ _. version_in (object ms) >>= λ version. parts_of_version version (object ms)) (found_by format_said (sym h.format ∙ e))
+  format_right e = ap (λ o. required path.Format o >>= λ _. version_in (object ms) >>= λ version. parts_of_version version (object ms)) (found_by (format_name (at_member (codes "format") ms)) (sym h.format ∙ e))
 
   pub version_wrong : root.is_format ≡ true → root.version ≡ None → parts_in (object ms) ≡ Err (fault.WrongFormat path.Version)
   version_wrong format e = format_right format ∙ ap (λ o. required path.Version o >>= numbered_version >>= λ version. parts_of_version version (object ms)) (sym h.version ∙ e)

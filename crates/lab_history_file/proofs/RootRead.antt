@@ -16,7 +16,10 @@ use Rattle.lab_history_file.proofs.SkippedValues.{rest_none, rest_some}
 -- ---- a member
 
 -- a text is the format's name where its bytes are
-named : (b : Bool) → b ≡ is_some {T = ⊤} (if b then Some tt else None)
+abbrev marked : Bool → Option ⊤
+marked b = if b then Some tt else None
+
+named : (b : Bool) → b ≡ is_some (marked b)
 named true = refl
 named false = refl
 

@@ -12,9 +12,12 @@ use Rattle.lab_history_file.specs.Keys.{root_keys}
 use Rattle.lab_history_file.specs.declared.reading.root.Root.{Root}
 use Rattle.lab_history_file.specs.declared.reading.root.Said.{Said}
 
--- whether a value is the name of the format
+-- the name of the format, where a value is it
+abbrev pub format_name : Data → Option ⊤
+format_name d = option_and_then (λ text. if bytes_eq text (codes "hermitage-history") then Some tt else None) (as_str d)
+
 abbrev pub is_format : Data → Bool
-is_format d = is_some (option_and_then (λ text. if bytes_eq text (codes "hermitage-history") then Some tt else None) (as_str d))
+is_format d = is_some (format_name d)
 
 -- the whole number that a value is
 abbrev pub number_in : Data → Option ℕ
