@@ -18,7 +18,7 @@ HEAD, MEMBER, TOLD = (
     re.compile(pattern, re.M) for pattern in (rb"^== (\d+)$", rb'"(file|first)":"(\d+)"', rb"^(\d+): (.*)$")
 )
 
-# What a requirement lacks, and the characters that a terminal obeys.
+# The beginning of a line about an unmet requirement, and the characters that a terminal interprets.
 SHORTFALL = re.compile(rb"(?:PL-[0-9.]+|SI) asked,")
 CONTROLS = re.compile("[\\x00-\\x1f\\x7f-\\x9f\\u200b-\\u200f\\u2028-\\u202e\\u2060-\\u206f\\ufeff]")
 
@@ -35,7 +35,7 @@ def shown(name: bytes) -> bytes:
 
 
 def shown_in_requirement(name: bytes) -> bytes:
-    """A name as the program prints it before what a requirement lacks: `?` for each character that a terminal would obey."""
+    """A name as the program prints it in a line about an unmet requirement: `?` for each character that a terminal interprets."""
     return CONTROLS.sub("?", name.decode(errors="replace")).encode()
 
 
